@@ -1,0 +1,260 @@
+-- Further cases, computed as the sheet's are: the order of the endings and of the checks, each refusal of each kind of image, and the lent
+-- areas.
+use mathlib.Core.List.{List, [], _∷_, _++_}
+use mathlib.Core.Path.{refl}
+use Prim.Native.Nat.{ℕ}
+use lib.ListN.{replicate}
+use Rattle.model.specs.Word.{Word, forward, back}
+use Rattle.model.specs.Presentation.{Presentation, undefined, complement, complete}
+use Rattle.model.specs.Equivalence.{Entry, applied}
+use Rattle.model.specs.Reversing.{next, run, reversing}
+use Rattle.model.specs.Checks.{residue, under, side, against, cubeAt, cleared}
+use Rattle.model.specs.Outcome.{answered, refused}
+use Rattle.model.specs.Bits.{field, finish}
+use Rattle.model.specs.Images.{readTable, readProgram, readChain, tableImage, programImage, chainImage}
+use Rattle.model.specs.Plain.{plainTable, readPlainTable, readPlainProgram}
+use Rattle.model.specs.Services.{Fraction, reverse, clear, readForward, compare, comparison, chain, check, followed, packTable, unpackTable, packProgram, unpackProgram, same-after, different-after, joins, breaks, ends-elsewhere}
+use Rattle.model.specs.Areas.{fractionBytes, outputAfter, workspaceAfter}
+use Rattle.model.specs.Case.{Case, _gives_, All}
+use Rattle.model.specs.Samples.{braid3, braid1, open2, three, broken3, unequal2, endless3, image, log, pattern, braidBytes, first, firstBytes}
+
+-- the first program's answer
+abbrev firstAnswer : Fraction
+firstAnswer = record { numerator = 1 ∷ 1 ∷ 2 ∷ 3 ∷ []; denominator = 1 ∷ 3 ∷ 2 ∷ []; steps = 5 }
+
+abbrev entry : ℕ → ℕ → ℕ → Entry
+entry offset a b = record { offset = offset; a = a; b = b }
+
+-- The order of the four endings, and the answer area of reverse.
+abbrev pub endings : List {1} Case
+endings =
+    -- allowance 5 finishes the first program
+    (reverse braidBytes firstBytes 5 32768 32768 gives answered firstAnswer) ∷
+    -- its longest word has 9 letters
+    (reverse braidBytes firstBytes 65535 9 32768 gives answered firstAnswer) ∷
+    (reverse braidBytes firstBytes 65535 8 32768 gives refused 12 []) ∷
+    -- (iv) on the starting word, before all else
+    (reverse braidBytes firstBytes 0 4 32768 gives refused 12 []) ∷
+    (reverse braidBytes (pattern 3 (1 ∷ 2 ∷ [])) 65535 1 32768 gives refused 12 []) ∷
+    -- (i) before (iii): a word that is finished takes no step
+    (reverse braidBytes (pattern 3 (1 ∷ 2 ∷ [])) 0 2 2 gives answered (record { numerator = 1 ∷ 2 ∷ []; denominator = []; steps = 0 })) ∷
+    -- (ii) before (iii)
+    (reverse (image open2) (log 2 (back 1 ∷ forward 2 ∷ [])) 0 32768 32768 gives refused 10 (1 ∷ 2 ∷ [])) ∷
+    -- 10 names the back letter first
+    (reverse (image open2) (log 2 (back 2 ∷ forward 1 ∷ [])) 65535 32768 32768 gives refused 10 (2 ∷ 1 ∷ [])) ∷
+    -- (iii) before (iv): the next word has 4 letters
+    (reverse braidBytes (log 3 (back 1 ∷ forward 2 ∷ [])) 0 3 32768 gives refused 11 []) ∷
+    (reverse braidBytes (log 3 (back 1 ∷ forward 2 ∷ [])) 1 3 32768 gives refused 12 []) ∷
+    -- a pair that vanishes is a step
+    (reverse braidBytes (log 3 (back 1 ∷ forward 1 ∷ [])) 65535 2 0 gives answered (record { numerator = []; denominator = []; steps = 1 })) ∷
+    (reverse braidBytes (log 3 (back 1 ∷ forward 1 ∷ [])) 0 2 0 gives refused 11 []) ∷
+    -- 13 where the area is shorter than N and D together
+    (reverse braidBytes firstBytes 65535 32768 7 gives answered firstAnswer) ∷
+    (reverse braidBytes firstBytes 65535 32768 6 gives refused 13 []) ∷
+    -- an empty program with empty areas
+    (reverse (image braid1) (log 1 []) 0 0 0 gives answered (record { numerator = []; denominator = []; steps = 0 })) ∷ []
+
+-- The cube check: undefined sides, stops with their triple, and the bytes that L keeps.
+abbrev pub triples : List {1} Case
+triples =
+    -- braid tables pass
+    (clear braidBytes 65535 32768 gives answered tt) ∷
+    -- with n below 3 there are no triples
+    (clear (image open2) 0 0 gives answered tt) ∷
+    -- "L is 1, R is empty"
+    (side broken3 65535 32768 1 2 3 gives residue (1 ∷ [])) ∷
+    (side broken3 65535 32768 2 1 3 gives residue []) ∷
+    -- R alone is defined
+    (clear (image (three (complement [] []) undefined (complement (3 ∷ []) (2 ∷ [])))) 65535 32768 gives refused 9 (1 ∷ 2 ∷ 3 ∷ [])) ∷
+    -- L alone is defined
+    (clear (image (three (complement [] []) (complement (3 ∷ []) (1 ∷ [])) undefined)) 65535 32768 gives refused 9 (1 ∷ 2 ∷ 3 ∷ [])) ∷
+    -- both are undefined
+    (clear (image (three (complement (2 ∷ []) (1 ∷ [])) undefined undefined)) 65535 32768 gives answered tt) ∷
+    -- later triples count too
+    (clear (image (three (complement (2 ∷ []) (3 ∷ [])) (complement [] []) (complement [] []))) 65535 32768 gives refused 9 (1 ∷ 3 ∷ 2 ∷ [])) ∷
+    (clear (image (three (complement (2 ∷ []) (1 ∷ [])) (complement (2 ∷ []) (2 ∷ [])) (complement [] []))) 65535 32768 gives refused 9 (2 ∷ 3 ∷ 1 ∷ [])) ∷
+    -- 11 in a triple: five steps suffice for each reversing of the braid table
+    (clear braidBytes 5 32768 gives answered tt) ∷
+    (clear braidBytes 4 32768 gives refused 11 (1 ∷ 2 ∷ 3 ∷ [])) ∷
+    (clear (image (three (complement (3 ∷ 2 ∷ []) (1 ∷ 3 ∷ [])) (complement [] []) (complement (1 ∷ []) (2 ∷ [])))) 1 40 gives refused 11 (1 ∷ 3 ∷ 2 ∷ [])) ∷
+    -- 12 in a triple
+    (clear braidBytes 65535 1 gives refused 12 (1 ∷ 2 ∷ 3 ∷ [])) ∷
+    (clear (image (three (complement (2 ∷ []) (3 ∷ [])) (complement (2 ∷ 2 ∷ []) (2 ∷ 3 ∷ [])) (complement (2 ∷ []) (2 ∷ [])))) 2 4 gives refused 12 (2 ∷ 3 ∷ 1 ∷ [])) ∷
+    -- L keeps its bytes while R is worked out: without them a room of 8 would do
+    (clear braidBytes 65535 11 gives answered tt) ∷
+    (clear braidBytes 65535 10 gives refused 12 (1 ∷ 2 ∷ 3 ∷ [])) ∷
+    -- a table whose reversings never end
+    (clear (image endless3) 60 32768 gives refused 11 (1 ∷ 2 ∷ 3 ∷ [])) ∷
+    (clear (image endless3) 60 20 gives refused 12 (1 ∷ 2 ∷ 3 ∷ [])) ∷
+    -- the length check precedes the cube check
+    (clear (image (three (complement (2 ∷ []) (3 ∷ [])) (complement [] []) (complement (1 ∷ 1 ∷ []) []))) 0 0 gives refused 8 (2 ∷ 3 ∷ [])) ∷ []
+
+-- Table images and plain tables: refusals 1, 2 and 3, in both orders of 1 and 2.
+abbrev pub tables : List {1} Case
+tables =
+    -- 1: an empty image, and one that is cut
+    (unpackTable [] 99 gives refused 1 []) ∷
+    (unpackTable (0x29 ∷ 0x21 ∷ 0x0c ∷ 0x61 ∷ 0x25 ∷ 0x24 ∷ []) 99 gives refused 1 []) ∷
+    -- 2: with n = 3 a field of 3 names no letter
+    (unpackTable (0x29 ∷ 0x61 ∷ 0x0c ∷ 0x61 ∷ 0x25 ∷ 0x24 ∷ 0xc0 ∷ []) 99 gives refused 2 []) ∷
+    -- 2 is met before the end
+    (unpackTable (0x29 ∷ 0x60 ∷ []) 99 gives refused 2 []) ∷
+    -- the end is met before 2: half a field, all ones
+    (unpackTable (0x28 ∷ 0x11 ∷ []) 99 gives refused 1 []) ∷
+    -- 3: a filling bit, and a byte that follows
+    (unpackTable (0x29 ∷ 0x21 ∷ 0x0c ∷ 0x61 ∷ 0x25 ∷ 0x24 ∷ 0xc1 ∷ []) 99 gives refused 3 []) ∷
+    (unpackTable (0x29 ∷ 0x21 ∷ 0x0c ∷ 0x61 ∷ 0x25 ∷ 0x24 ∷ 0xc0 ∷ 0x00 ∷ []) 99 gives refused 3 []) ∷
+    -- 2 comes before 3
+    (unpackTable (0x29 ∷ 0x61 ∷ 0x0c ∷ 0x61 ∷ 0x25 ∷ 0x24 ∷ 0xc1 ∷ []) 99 gives refused 2 []) ∷
+    -- n = 1 has no fields but its count
+    (unpackTable (0x00 ∷ []) 99 gives answered (1 ∷ [])) ∷
+    (unpackTable (0x01 ∷ []) 99 gives refused 3 []) ∷
+    -- plain, 1: empty, or cut
+    (packTable [] 99 gives refused 1 []) ∷
+    (packTable (2 ∷ 1 ∷ 2 ∷ 1 ∷ []) 99 gives refused 1 []) ∷
+    -- plain, 2: n, a length, a letter
+    (packTable (0 ∷ []) 99 gives refused 2 []) ∷
+    (packTable (17 ∷ []) 99 gives refused 2 []) ∷
+    (packTable (2 ∷ 16 ∷ []) 99 gives refused 2 []) ∷
+    (packTable (2 ∷ 1 ∷ 0 ∷ []) 99 gives refused 2 []) ∷
+    (packTable (2 ∷ 1 ∷ 3 ∷ []) 99 gives refused 2 []) ∷
+    -- only the first length byte of a pair may be 255
+    (packTable (2 ∷ 0 ∷ 255 ∷ []) 99 gives refused 2 []) ∷
+    -- the end is met before 2, and 2 before the end
+    (packTable (3 ∷ 2 ∷ 1 ∷ []) 99 gives refused 1 []) ∷
+    (packTable (3 ∷ 2 ∷ 4 ∷ []) 99 gives refused 2 []) ∷
+    -- plain, 3: a byte follows
+    (packTable (2 ∷ 255 ∷ 0 ∷ []) 99 gives refused 3 []) ∷
+    (packTable (1 ∷ 0 ∷ []) 99 gives refused 3 []) ∷
+    -- packed and unpacked
+    (packTable (3 ∷ 2 ∷ 2 ∷ 1 ∷ 2 ∷ 1 ∷ 2 ∷ 1 ∷ 3 ∷ 1 ∷ 1 ∷ 2 ∷ 3 ∷ 2 ∷ 2 ∷ 2 ∷ 3 ∷ []) 7 gives answered braidBytes) ∷
+    (unpackTable braidBytes 17 gives answered (3 ∷ 2 ∷ 2 ∷ 1 ∷ 2 ∷ 1 ∷ 2 ∷ 1 ∷ 3 ∷ 1 ∷ 1 ∷ 2 ∷ 3 ∷ 2 ∷ 2 ∷ 2 ∷ 3 ∷ [])) ∷
+    -- 13: an area one byte short, and an empty one
+    (unpackTable braidBytes 16 gives refused 13 []) ∷
+    (packTable (1 ∷ []) 0 gives refused 13 []) ∷ []
+
+-- Program images and plain programs: refusals 4, 5 and 6, in both orders of 4 and 5, and 7.
+abbrev pub programs : List {1} Case
+programs =
+    -- a table is read before its program
+    (unpackProgram [] [] 99 gives refused 1 []) ∷
+    -- 4: an empty image, and one that is cut
+    (unpackProgram braidBytes [] 99 gives refused 4 []) ∷
+    (unpackProgram braidBytes (0x00 ∷ 0x5c ∷ 0x28 ∷ []) 99 gives refused 4 []) ∷
+    -- 5: with n = 3 a field of 3 names no letter
+    (unpackProgram braidBytes (0x00 ∷ 0x16 ∷ []) 99 gives refused 5 []) ∷
+    -- 5 is met before the end
+    (unpackProgram braidBytes (0x00 ∷ 0x36 ∷ []) 99 gives refused 5 []) ∷
+    -- the end is met before 5: half a field, all ones
+    (unpackProgram braidBytes (0x00 ∷ 0x70 ∷ 0x00 ∷ 0x03 ∷ []) 99 gives refused 4 []) ∷
+    -- 6: a filling bit, and a byte that follows
+    (unpackProgram braidBytes (0x00 ∷ 0x5c ∷ 0x28 ∷ 0x21 ∷ []) 99 gives refused 6 []) ∷
+    (unpackProgram braidBytes (0x00 ∷ 0x5c ∷ 0x28 ∷ 0x20 ∷ 0x00 ∷ []) 99 gives refused 6 []) ∷
+    -- 5 comes before 6
+    (unpackProgram braidBytes (0x00 ∷ 0x17 ∷ []) 99 gives refused 5 []) ∷
+    -- with n = 1 a field has no bits
+    (unpackProgram (0x00 ∷ []) (0x00 ∷ 0x24 ∷ []) 99 gives answered (1 ∷ 129 ∷ [])) ∷
+    -- plain, 5: 0, 128, and numbers above n
+    (packProgram braidBytes (0 ∷ []) 99 gives refused 5 []) ∷
+    (packProgram braidBytes (128 ∷ []) 99 gives refused 5 []) ∷
+    (packProgram braidBytes (1 ∷ 4 ∷ []) 99 gives refused 5 []) ∷
+    (packProgram braidBytes (132 ∷ []) 99 gives refused 5 []) ∷
+    -- plain, 4: the count is tested before the letters
+    (packProgram (0x00 ∷ []) (replicate 4096 0) 9999 gives refused 4 []) ∷
+    (packProgram (0x00 ∷ []) (replicate 4095 0) 9999 gives refused 5 []) ∷
+    -- packed and unpacked
+    (packProgram braidBytes (131 ∷ 1 ∷ 130 ∷ 1 ∷ 2 ∷ []) 4 gives answered firstBytes) ∷
+    (unpackProgram braidBytes firstBytes 5 gives answered (131 ∷ 1 ∷ 130 ∷ 1 ∷ 2 ∷ [])) ∷
+    -- 13: an area one byte short, and an empty one
+    (packProgram braidBytes (131 ∷ 1 ∷ 130 ∷ 1 ∷ 2 ∷ []) 3 gives refused 13 []) ∷
+    (unpackProgram braidBytes firstBytes 4 gives refused 13 []) ∷
+    (unpackProgram braidBytes (0x00 ∷ 0x00 ∷ []) 0 gives answered []) ∷
+    -- 7, and the first program before the second
+    (compare braidBytes firstBytes [] 65535 32768 gives refused 7 []) ∷
+    (compare braidBytes [] firstBytes 65535 32768 gives refused 4 []) ∷
+    (compare braidBytes (pattern 3 []) firstBytes 65535 32768 gives refused 7 []) ∷ []
+
+-- Compare and chain: unequal lengths, stops, and the area of a chain.
+abbrev pub comparisons : List {1} Case
+comparisons =
+    -- unequal lengths are different with 0 steps, after the table clears
+    (compare braidBytes (pattern 3 (1 ∷ [])) (pattern 3 []) 65535 32768 gives answered (different-after 0)) ∷
+    (compare (image broken3) (pattern 3 (1 ∷ [])) (pattern 3 []) 65535 32768 gives refused 9 (1 ∷ 2 ∷ 3 ∷ [])) ∷
+    -- 11 and 12 of the programs come with no numbers
+    (compare (image braid1) (pattern 1 (1 ∷ [])) (pattern 1 (1 ∷ [])) 0 2 gives refused 11 []) ∷
+    (compare (image braid1) (pattern 1 (1 ∷ [])) (pattern 1 (1 ∷ [])) 1 1 gives refused 12 []) ∷
+    (compare (image braid1) (pattern 1 (1 ∷ [])) (pattern 1 (1 ∷ [])) 1 2 gives answered (same-after 1)) ∷
+    -- 13: room for an entry for each step is asked for, 5 entries of 16 bits and the count
+    (chain braidBytes (pattern 3 (1 ∷ 2 ∷ 1 ∷ [])) (pattern 3 (2 ∷ 1 ∷ 2 ∷ [])) 65535 32768 12 gives answered (same-after 5)) ∷
+    (chain braidBytes (pattern 3 (1 ∷ 2 ∷ 1 ∷ [])) (pattern 3 (2 ∷ 1 ∷ 2 ∷ [])) 65535 32768 11 gives refused 13 []) ∷
+    -- 13 comes only after same
+    (chain braidBytes (pattern 3 (1 ∷ [])) (pattern 3 (2 ∷ [])) 65535 32768 0 gives answered (different-after 1)) ∷ []
+
+-- Check a chain: refusals 4, 5, 6 and 12, and each way in which a chain ends.
+abbrev pub chains : List {1} Case
+chains =
+    -- the programs are read before the chain
+    (check braidBytes firstBytes firstBytes [] 32768 gives refused 7 []) ∷
+    -- 4: an empty image, and one that is cut
+    (check braidBytes (pattern 3 (1 ∷ [])) (pattern 3 (1 ∷ [])) [] 9 gives refused 4 []) ∷
+    (check braidBytes (pattern 3 (1 ∷ [])) (pattern 3 (1 ∷ [])) (0x00 ∷ 0x01 ∷ 0x00 ∷ []) 9 gives refused 4 []) ∷
+    -- 5, and 5 met before the end
+    (check braidBytes (pattern 3 (1 ∷ [])) (pattern 3 (1 ∷ [])) (0x00 ∷ 0x01 ∷ 0x00 ∷ 0x0c ∷ []) 9 gives refused 5 []) ∷
+    (check braidBytes (pattern 3 (1 ∷ [])) (pattern 3 (1 ∷ [])) (0x00 ∷ 0x02 ∷ 0x00 ∷ 0x0c ∷ []) 9 gives refused 5 []) ∷
+    -- 6: a filling bit, and a byte that follows
+    (check braidBytes (pattern 3 (1 ∷ [])) (pattern 3 (1 ∷ [])) (0x00 ∷ 0x00 ∷ 0x00 ∷ []) 9 gives refused 6 []) ∷
+    (check (image open2) (pattern 2 []) (pattern 2 []) (0x00 ∷ 0x01 ∷ 0x00 ∷ 0x00 ∷ 0x01 ∷ []) 9 gives refused 6 []) ∷
+    -- an empty chain joins a program to itself
+    (check braidBytes (pattern 3 (1 ∷ 2 ∷ [])) (pattern 3 (1 ∷ 2 ∷ [])) (chainImage 3 []) 2 gives answered joins) ∷
+    (check braidBytes (pattern 3 (1 ∷ 2 ∷ [])) (pattern 3 (2 ∷ 1 ∷ [])) (chainImage 3 []) 2 gives answered ends-elsewhere) ∷
+    -- an entry with a = b, an open pair, no fit, an offset past the end
+    (check braidBytes (pattern 3 (1 ∷ [])) (pattern 3 (1 ∷ [])) (chainImage 3 (entry 0 1 1 ∷ [])) 9 gives answered (breaks 0)) ∷
+    (check (image open2) (pattern 2 (1 ∷ [])) (pattern 2 (1 ∷ [])) (chainImage 2 (entry 0 1 2 ∷ [])) 9 gives answered (breaks 0)) ∷
+    (check braidBytes (pattern 3 (1 ∷ 2 ∷ 1 ∷ [])) (pattern 3 (2 ∷ 1 ∷ 2 ∷ [])) (chainImage 3 (entry 0 1 2 ∷ entry 0 1 2 ∷ [])) 9 gives answered (breaks 1)) ∷
+    (check braidBytes (pattern 3 (1 ∷ 2 ∷ 1 ∷ [])) (pattern 3 (2 ∷ 1 ∷ 2 ∷ [])) (chainImage 3 (entry 1 1 2 ∷ [])) 9 gives answered (breaks 0)) ∷
+    (check braidBytes (pattern 3 (1 ∷ 2 ∷ 1 ∷ [])) (pattern 3 (2 ∷ 1 ∷ 2 ∷ [])) (chainImage 3 (entry 4095 1 2 ∷ [])) 9 gives answered (breaks 0)) ∷
+    -- inside a word, and back again
+    (check braidBytes (pattern 3 (3 ∷ 1 ∷ 3 ∷ [])) (pattern 3 (3 ∷ 3 ∷ 1 ∷ [])) (chainImage 3 (entry 1 1 3 ∷ [])) 3 gives answered joins) ∷
+    (check braidBytes (pattern 3 (1 ∷ 2 ∷ 1 ∷ [])) (pattern 3 (1 ∷ 2 ∷ 1 ∷ [])) (chainImage 3 (entry 0 1 2 ∷ entry 0 2 1 ∷ [])) 3 gives answered joins) ∷
+    -- 12: the first program, or the result of an entry that fits; the table need not clear
+    (check braidBytes (pattern 3 (1 ∷ 2 ∷ 1 ∷ [])) (pattern 3 (2 ∷ 1 ∷ 2 ∷ [])) (chainImage 3 []) 2 gives refused 12 []) ∷
+    (check (image unequal2) (pattern 2 (2 ∷ 2 ∷ [])) (pattern 2 (1 ∷ 2 ∷ 1 ∷ [])) (chainImage 2 (entry 0 2 1 ∷ [])) 2 gives refused 12 []) ∷
+    (check (image unequal2) (pattern 2 (2 ∷ 2 ∷ [])) (pattern 2 (1 ∷ 2 ∷ 1 ∷ [])) (chainImage 2 (entry 0 2 1 ∷ [])) 3 gives answered joins) ∷ []
+
+-- The lent areas after a call.
+abbrev pub areas : List {1} Case
+areas =
+    -- the workspace is as found after 8 and zero after 9
+    (workspaceAfter (compare (image unequal2) (pattern 2 []) (pattern 2 []) 65535 3) (7 ∷ 8 ∷ 9 ∷ []) gives 7 ∷ 8 ∷ 9 ∷ []) ∷
+    (workspaceAfter (clear (image broken3) 65535 32768) (7 ∷ 8 ∷ 9 ∷ []) gives 0 ∷ 0 ∷ 0 ∷ []) ∷
+    -- as found after 1, and zero after 12, 13 and an answer
+    (workspaceAfter (clear [] 65535 3) (7 ∷ 8 ∷ 9 ∷ []) gives 7 ∷ 8 ∷ 9 ∷ []) ∷
+    (workspaceAfter (reverse braidBytes firstBytes 65535 3 9) (7 ∷ 8 ∷ 9 ∷ []) gives 0 ∷ 0 ∷ 0 ∷ []) ∷
+    (workspaceAfter (reverse braidBytes firstBytes 65535 32768 6) (7 ∷ 8 ∷ 9 ∷ []) gives 0 ∷ 0 ∷ 0 ∷ []) ∷
+    (workspaceAfter (clear (image open2) 0 3) (7 ∷ 8 ∷ 9 ∷ []) gives 0 ∷ 0 ∷ 0 ∷ []) ∷
+    -- the answer area begins with the answer, N then D, and keeps its other bytes
+    (outputAfter fractionBytes (reverse braidBytes firstBytes 65535 32768 9) (replicate 9 255) gives 1 ∷ 1 ∷ 2 ∷ 3 ∷ 1 ∷ 3 ∷ 2 ∷ 255 ∷ 255 ∷ []) ∷
+    (outputAfter fractionBytes (reverse braidBytes firstBytes 4 32768 9) (replicate 9 255) gives replicate 9 255) ∷ []
+
+-- every further case holds
+pub record Further : Type 0 where
+  pub endings-hold : All endings
+  pub triples-hold : All triples
+  pub tables-hold : All tables
+  pub programs-hold : All programs
+  pub comparisons-hold : All comparisons
+  pub chains-hold : All chains
+  pub areas-hold : All areas
+
+pub further-holds : Further
+unfolding tableImage programImage chainImage plainTable field finish readTable readProgram readChain readForward readPlainTable readPlainProgram reverse compare comparison chain check followed applied clear cleared packTable unpackTable packProgram unpackProgram under side against cubeAt reversing run next complete
+further-holds =
+    record {
+      endings-hold = (refl, (refl, (refl, (refl, (refl, (refl, (refl, (refl, (refl, (refl, (refl, (refl, (refl, (refl, (refl, tt)))))))))))))));
+      triples-hold = (refl, (refl, (refl, (refl, (refl, (refl, (refl, (refl, (refl, (refl, (refl, (refl, (refl, (refl, (refl, (refl, (refl, (refl, (refl, tt)))))))))))))))))));
+      tables-hold = (refl, (refl, (refl, (refl, (refl, (refl, (refl, (refl, (refl, (refl, (refl, (refl, (refl, (refl, (refl, (refl, (refl, (refl, (refl, (refl, (refl, (refl, (refl, (refl, (refl, (refl, tt))))))))))))))))))))))))));
+      programs-hold = (refl, (refl, (refl, (refl, (refl, (refl, (refl, (refl, (refl, (refl, (refl, (refl, (refl, (refl, (refl, (refl, (refl, (refl, (refl, (refl, (refl, (refl, (refl, (refl, tt))))))))))))))))))))))));
+      comparisons-hold = (refl, (refl, (refl, (refl, (refl, (refl, (refl, (refl, tt))))))));
+      chains-hold = (refl, (refl, (refl, (refl, (refl, (refl, (refl, (refl, (refl, (refl, (refl, (refl, (refl, (refl, (refl, (refl, (refl, (refl, (refl, tt)))))))))))))))))));
+      areas-hold = (refl, (refl, (refl, (refl, (refl, (refl, (refl, (refl, tt))))))));
+    }

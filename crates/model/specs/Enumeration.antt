@@ -1,0 +1,36 @@
+-- The pairs and triples of letters in document 01's order.
+use mathlib.Core.List.{List, [], _∷_, _++_, map}
+use mathlib.Core.Bool.{Bool, true, false, _||_, cond}
+use Prim.Native.Nat.{ℕ, zero, suc, _-_}
+use lib.Dec.{eqb}
+
+-- from, from + 1, .. : as many numbers as said
+abbrev pub range : ℕ → ℕ → List ℕ
+range from zero = []
+range from (suc k) = from ∷ range (suc from) k
+
+abbrev pub concatMap : {A B : Type 0} → (A → List B) → List A → List B
+concatMap f [] = []
+concatMap f (x ∷ xs) = f x ++ concatMap f xs
+
+pub record Two : Type 0 where
+  pub a : ℕ
+  pub b : ℕ
+
+pub record Three : Type 0 where
+  pub a : ℕ
+  pub b : ℕ
+  pub c : ℕ
+
+-- "Pairs are taken in order of a, then b": those with a < b
+abbrev pub pairs : ℕ → List Two
+pairs n = concatMap (λ a. map (λ b. record { a = a; b = b }) (range (suc a) (n - a))) (range 1 n)
+
+-- the numbers of a list but for a and b
+abbrev pub others : ℕ → ℕ → List ℕ → List ℕ
+others a b [] = []
+others a b (c ∷ cs) = cond (eqb c a || eqb c b) (others a b cs) (c ∷ others a b cs)
+
+-- "Triples go in order of a, then b, then c": different letters with a < b
+abbrev pub triples : ℕ → List Three
+triples n = concatMap (λ p. map (λ c. record { a = p .a; b = p .b; c = c }) (others (p .a) (p .b) (range 1 n))) (pairs n)

@@ -1,0 +1,123 @@
+-- Document 01, "Images": table, program and chain images, written and read. Reading refuses by document 01's numbers.
+use mathlib.Core.List.{List, [], _∷_, _++_}
+use mathlib.Core.Bool.{Bool, true, false, cond}
+use Prim.Native.Nat.{ℕ, zero, suc, _+_, _-_}
+use lib.Dec.{leb, eqb}
+use lib.ListN.{length}
+use Rattle.model.specs.Word.{Letter, forward, back, Word, Positive}
+use Rattle.model.specs.Presentation.{Presentation, Complement, undefined, complement}
+use Rattle.model.specs.Equivalence.{Entry}
+use Rattle.model.specs.Enumeration.{concatMap}
+use Rattle.model.specs.Outcome.{Outcome, answered, refused, _>>=_, unless}
+use Rattle.model.specs.Bits.{Read, field, digits, bitsOf, pack, letterWidth, finish}
+
+-- WRITING
+
+-- "a move field holds the number less 1"
+abbrev pub letterBits : ℕ → ℕ → List ℕ
+letterBits n a = digits (letterWidth n) (a - 1)
+
+-- "the length of C(a,b) in 4 bits, its moves"
+abbrev pub wordBits : ℕ → Positive → List ℕ
+wordBits n x = digits 4 (length x) ++ concatMap (letterBits n) x
+
+-- "for each pair a < b in order one bit, 0 for open; after a 1, the length of C(a,b) in 4 bits, its moves, then the same for C(b,a)"
+abbrev pub pairBits : ℕ → Complement → List ℕ
+pairBits n undefined = 0 ∷ []
+pairBits n (complement x y) = 1 ∷ (wordBits n x ++ wordBits n y)
+
+-- "Table: n − 1 in 4 bits; for each pair .."
+unfoldable pub tableImage : Presentation → List ℕ
+tableImage T = pack (digits 4 (T .size - 1) ++ concatMap (concatMap (pairBits (T .size))) (T .rows))
+
+-- "for each move a bit, 1 for back, and a move field"
+abbrev pub signedBits : ℕ → Letter → List ℕ
+signedBits n (forward a) = 0 ∷ letterBits n a
+signedBits n (back a) = 1 ∷ letterBits n a
+
+-- "Program: the count in 12 bits; for each move .."
+unfoldable pub programImage : ℕ → Word → List ℕ
+programImage n w = pack (digits 12 (length w) ++ concatMap (signedBits n) w)
+
+-- "each entry an offset in 12 bits and fields a, b"
+abbrev pub entryBits : ℕ → Entry → List ℕ
+entryBits n e = digits 12 (e .offset) ++ (letterBits n (e .a) ++ letterBits n (e .b))
+
+-- "Chain: the count in 16 bits; each entry .."
+unfoldable pub chainImage : ℕ → List Entry → List ℕ
+chainImage n es = pack (digits 16 (length es) ++ concatMap (entryBits n) es)
+
+-- READING
+
+-- a move field; `wrong` is the refusal where it names no letter
+abbrev pub letterField : ℕ → ℕ → ℕ → List ℕ → Outcome (Read ℕ)
+letterField early wrong n bits =
+    field early (letterWidth n) bits >>= λ r.
+    unless (leb n (r .value)) wrong (record { value = r .value + 1; rest = r .rest })
+
+-- a reader as often as said
+abbrev pub several : {A : Type 0} → (List ℕ → Outcome (Read A)) → ℕ → List ℕ → Outcome (Read (List A))
+several reader zero input = answered (record { value = []; rest = input })
+several reader (suc k) input =
+    reader input >>= λ r.
+    several reader k (r .rest) >>= λ rs.
+    answered (record { value = r .value ∷ rs .value; rest = rs .rest })
+
+abbrev pub wordField : ℕ → List ℕ → Outcome (Read Positive)
+wordField n bits = field 1 4 bits >>= λ k. several (letterField 1 2 n) (k .value) (k .rest)
+
+abbrev pub definedField : ℕ → List ℕ → Outcome (Read Complement)
+definedField n bits =
+    wordField n bits >>= λ x.
+    wordField n (x .rest) >>= λ y.
+    answered (record { value = complement (x .value) (y .value); rest = y .rest })
+
+abbrev pub pairField : ℕ → List ℕ → Outcome (Read Complement)
+pairField n bits =
+    field 1 1 bits >>= λ bit.
+    cond (eqb (bit .value) 0) (answered (record { value = undefined; rest = bit .rest })) (definedField n (bit .rest))
+
+-- the rows of the pairs in order: the first of k - 1 pairs, the next of k - 2, .. down to none
+abbrev pub rowsOf : {A : Type 0} → (List ℕ → Outcome (Read A)) → ℕ → List ℕ → Outcome (Read (List (List A)))
+rowsOf reader zero input = answered (record { value = []; rest = input })
+rowsOf reader (suc k) input =
+    several reader k input >>= λ row.
+    rowsOf reader k (row .rest) >>= λ rs.
+    answered (record { value = row .value ∷ rs .value; rest = rs .rest })
+
+-- refusals 1 and 2, "the first met in reading counts", then 3
+unfoldable pub readTable : List ℕ → Outcome Presentation
+readTable bytes =
+    field 1 4 (bitsOf bytes) >>= λ head.
+    rowsOf (pairField (head .value + 1)) (head .value + 1) (head .rest) >>= λ rs.
+    finish 3 (record { value = record { size = head .value + 1; rows = rs .value }; rest = rs .rest })
+
+abbrev pub signed : ℕ → ℕ → Letter
+signed sign a = cond (eqb sign 0) (forward a) (back a)
+
+abbrev pub signedField : ℕ → List ℕ → Outcome (Read Letter)
+signedField n bits =
+    field 4 1 bits >>= λ sign.
+    letterField 4 5 n (sign .rest) >>= λ a.
+    answered (record { value = signed (sign .value) (a .value); rest = a .rest })
+
+-- refusals 4 and 5, the first met, then 6, of a program image under a table of n letters
+unfoldable pub readProgram : ℕ → List ℕ → Outcome Word
+readProgram n bytes =
+    field 4 12 (bitsOf bytes) >>= λ k.
+    several (signedField n) (k .value) (k .rest) >>= λ w.
+    finish 6 w
+
+abbrev pub entryField : ℕ → List ℕ → Outcome (Read Entry)
+entryField n bits =
+    field 4 12 bits >>= λ at.
+    letterField 4 5 n (at .rest) >>= λ a.
+    letterField 4 5 n (a .rest) >>= λ b.
+    answered (record { value = record { offset = at .value; a = a .value; b = b .value }; rest = b .rest })
+
+-- refusals 4 and 5, the first met, then 6, of a chain image
+unfoldable pub readChain : ℕ → List ℕ → Outcome (List Entry)
+readChain n bytes =
+    field 4 16 (bitsOf bytes) >>= λ k.
+    several (entryField n) (k .value) (k .rest) >>= λ es.
+    finish 6 es

@@ -1,0 +1,17 @@
+pub mod Word
+pub mod Presentation
+pub mod Equivalence
+pub mod Reversing
+pub mod Enumeration
+pub mod Outcome
+pub mod Checks
+pub mod Bits
+pub mod Images
+pub mod Plain
+pub mod Services
+pub mod Areas
+pub mod Stated
+pub mod Case
+pub mod Samples
+pub mod Sheet
+pub mod Cases

@@ -1,0 +1,156 @@
+-- Document 01, "Services" and "Refusals, in checking order": what each service answers, for every table, program, budget of steps and area
+-- length.
+use mathlib.Core.List.{List, [], _∷_, _++_}
+use mathlib.Core.Bool.{Bool, true, false, not, cond}
+use mathlib.Core.Option.{Option, none, some}
+use Prim.Native.Nat.{ℕ, zero, suc, _+_, _*_}
+use lib.Dec.{ltb, eqb}
+use lib.ListN.{length}
+use Rattle.model.specs.Word.{Letter, forward, back, Word, Positive, positive, negative, forwards}
+use Rattle.model.specs.Presentation.{Presentation}
+use Rattle.model.specs.Reversing.{Ending, finished, open-pair, stopped, reversing}
+use Rattle.model.specs.Equivalence.{Entry, applied, equal}
+use Rattle.model.specs.Checks.{stopNumber, cleared}
+use Rattle.model.specs.Outcome.{Outcome, answered, refused, _>>=_, unless}
+use Rattle.model.specs.Bits.{bytesFor, letterWidth}
+use Rattle.model.specs.Images.{readTable, readProgram, readChain, tableImage, programImage}
+use Rattle.model.specs.Plain.{plainTable, plainProgram, readPlainTable, readPlainProgram}
+
+-- REVERSE
+
+pub record Fraction : Type 0 where
+  pub numerator : Positive
+  pub denominator : Positive
+  pub steps : ℕ
+
+-- what reverse makes of an ending: 13 where the answer area is shorter than N and D together; 10 "names .. the pair, the back move's number
+-- first"; 11 and 12 with no place numbers
+abbrev pub fractionOf : ℕ → Ending → Outcome Fraction
+fractionOf area (finished n d k r) = unless (ltb area (length n + length d)) 13 (record { numerator = n; denominator = d; steps = k })
+fractionOf area (open-pair a b k) = refused 10 (a ∷ b ∷ [])
+fractionOf area (stopped s) = refused (stopNumber s) []
+
+unfoldable pub reverse : List ℕ → List ℕ → ℕ → ℕ → ℕ → Outcome Fraction
+reverse table program steps width area =
+    readTable table >>= λ T.
+    readProgram (T .size) program >>= λ w.
+    fractionOf area (reversing T steps width w)
+
+-- CLEAR
+
+unfoldable pub clear : List ℕ → ℕ → ℕ → Outcome (Unit {0})
+clear table steps width = readTable table >>= λ T. cleared T steps width
+
+-- COMPARE
+
+abbrev pub isForward : Word → Bool
+isForward [] = true
+isForward (forward a ∷ w) = isForward w
+isForward (back a ∷ w) = false
+
+-- refusal 7: "A program that must be forward has a back move."
+unfoldable pub readForward : ℕ → List ℕ → Outcome Positive
+readForward n bytes = readProgram n bytes >>= λ w. unless (not (isForward w)) 7 (forwards w)
+
+-- "The result has the steps."
+pub data Verdict : Type 0 where
+  same-after : ℕ → Verdict
+  different-after : ℕ → Verdict
+
+-- "Empty: same. A finished word that isn't empty ..: different."
+abbrev pub judged : Positive → Positive → ℕ → Verdict
+judged [] [] k = same-after k
+judged [] (x ∷ d) k = different-after k
+judged (x ∷ n) d k = different-after k
+
+-- ".. or an open pair: different." Refusal 14: "A comparison's reversing finished with N and D of unequal length."
+abbrev pub verdictOf : Ending → Outcome Verdict
+verdictOf (finished n d k r) = unless (not (eqb (length n) (length d))) 14 (judged n d k)
+verdictOf (open-pair a b k) = answered (different-after k)
+verdictOf (stopped s) = refused (stopNumber s) []
+
+-- two positive words under a table that was read: "clears the table; programs of unequal length are different with 0 steps; else the first's
+-- undoing, then the second, is reversed."
+unfoldable pub comparison : Presentation → Positive → Positive → ℕ → ℕ → Outcome Verdict
+comparison T u v steps width =
+    cleared T steps width >>= λ ok.
+    cond (eqb (length u) (length v)) (verdictOf (reversing T steps width (negative u ++ positive v))) (answered (different-after 0))
+
+-- "A first program passes 4 to 7 before the second"
+unfoldable pub compare : List ℕ → List ℕ → List ℕ → ℕ → ℕ → Outcome Verdict
+compare table first second steps width =
+    readTable table >>= λ T.
+    readForward (T .size) first >>= λ u.
+    readForward (T .size) second >>= λ v.
+    comparison T u v steps width
+
+-- CHAIN
+
+-- the bytes of a chain image with so many entries
+abbrev pub chainBytes : ℕ → ℕ → ℕ
+chainBytes n entries = bytesFor (16 + entries * (12 + 2 * letterWidth n))
+
+-- refusal 13: "for a chain, only after 'same', shorter than an image with as many entries as there were steps"
+abbrev pub listable : ℕ → ℕ → Verdict → Outcome Verdict
+listable n area (same-after k) = unless (ltb area (chainBytes n k)) 13 (same-after k)
+listable n area (different-after k) = answered (different-after k)
+
+-- "Chain: as compare"; the chain itself stands in the answer area (Areas.antt)
+unfoldable pub chain : List ℕ → List ℕ → List ℕ → ℕ → ℕ → ℕ → Outcome Verdict
+chain table first second steps width area =
+    readTable table >>= λ T.
+    readForward (T .size) first >>= λ u.
+    readForward (T .size) second >>= λ v.
+    comparison T u v steps width >>= listable (T .size) area
+
+-- CHECK A CHAIN
+
+-- "joins; breaks at entry k (from 0); or ends at another program"
+pub data Passage : Type 0 where
+  joins : Passage
+  breaks : ℕ → Passage
+  ends-elsewhere : Passage
+
+-- what the entry numbered k comes to; refusal 12: "the result of an entry that fits is longer than it"
+abbrev pub followedBy : ℕ → ℕ → (Positive → Outcome Passage) → Option Positive → Outcome Passage
+followedBy width k go none = answered (breaks k)
+followedBy width k go (some w) = cond (ltb width (length w)) (refused 12 []) (go w)
+
+-- from the word u, with the entries from number k on still to come
+unfoldable pub followed : Presentation → ℕ → ℕ → Positive → List Entry → Positive → Outcome Passage
+followed T width k u [] v = answered (cond (equal u v) joins ends-elsewhere)
+followed T width k u (e ∷ es) v = followedBy width k (λ w. followed T width (suc k) w es v) (applied T u e)
+
+-- the programs before the chain image; refusal 12: "the first program .. is longer than it". "It needs no cleared table."
+unfoldable pub check : List ℕ → List ℕ → List ℕ → List ℕ → ℕ → Outcome Passage
+check table first second entries width =
+    readTable table >>= λ T.
+    readForward (T .size) first >>= λ u.
+    readForward (T .size) second >>= λ v.
+    readChain (T .size) entries >>= λ es.
+    cond (ltb width (length u)) (refused 12 []) (followed T width 0 u es v)
+
+-- PACK AND UNPACK
+
+-- refusal 13 where the answer area is shorter than the bytes
+abbrev pub fitted : ℕ → List ℕ → Outcome (List ℕ)
+fitted area bytes = unless (ltb area (length bytes)) 13 bytes
+
+unfoldable pub packTable : List ℕ → ℕ → Outcome (List ℕ)
+packTable plain area = readPlainTable plain >>= λ T. fitted area (tableImage T)
+
+unfoldable pub unpackTable : List ℕ → ℕ → Outcome (List ℕ)
+unpackTable table area = readTable table >>= λ T. fitted area (plainTable T)
+
+-- "a program always comes with its table's image"
+unfoldable pub packProgram : List ℕ → List ℕ → ℕ → Outcome (List ℕ)
+packProgram table plain area =
+    readTable table >>= λ T.
+    readPlainProgram (T .size) plain >>= λ w.
+    fitted area (programImage (T .size) w)
+
+unfoldable pub unpackProgram : List ℕ → List ℕ → ℕ → Outcome (List ℕ)
+unpackProgram table program area =
+    readTable table >>= λ T.
+    readProgram (T .size) program >>= λ w.
+    fitted area (plainProgram w)

@@ -1,0 +1,93 @@
+-- Document 01's numbers and values for each case of the answers in src/answers.rt. A promise says that what is stated of the answer is the
+-- service's outcome.
+use mathlib.Core.List.{List, [], _∷_}
+use Prim.Native.Nat.{ℕ}
+use lib.ListN.{length}
+use Rattle.model.specs.declared.answers.Place.{Place}
+use Rattle.model.specs.declared.answers.Place.the-variants.{Triple, Programs}
+use Rattle.model.specs.declared.answers.Stop.{Stop as StopAnswer}
+use Rattle.model.specs.declared.answers.Stop.the-variants.{Budget, Room}
+use Rattle.model.specs.declared.answers.Ending.{Ending as EndingAnswer}
+use Rattle.model.specs.declared.answers.Ending.the-variants.{Finished, Undefined, Stopped}
+use Rattle.model.specs.declared.answers.Refusal.{Refusal}
+use Rattle.model.specs.declared.answers.Refusal.the-variants.{TableEnds, TableField, TableTail, ImageEnds, ImageField, ImageTail, BackMove, UnequalLengths, CubeFails, OpenPair, AllowanceUsed, WorkspaceShort, AnswerShort, UnequalEnds}
+use Rattle.model.specs.declared.answers.Reversed.{Reversed}
+use Rattle.model.specs.declared.answers.Reversed.the-variants.{Answer, Refused as ReverseRefused}
+use Rattle.model.specs.declared.answers.Cleared.{Cleared}
+use Rattle.model.specs.declared.answers.Cleared.the-variants.{Passed, Refused as ClearRefused}
+use Rattle.model.specs.declared.answers.Compared.{Compared}
+use Rattle.model.specs.declared.answers.Compared.the-variants.{Same, Different, Refused as CompareRefused}
+use Rattle.model.specs.declared.answers.Checked.{Checked}
+use Rattle.model.specs.declared.answers.Checked.the-variants.{Joins, Breaks, EndsElsewhere, Refused as CheckRefused}
+use Rattle.model.specs.declared.answers.Packed.{Packed}
+use Rattle.model.specs.declared.answers.Packed.the-variants.{Written, Refused as PackRefused}
+use Rattle.model.specs.Reversing.{Stop, budget, room, Ending, finished, open-pair, stopped}
+use Rattle.model.specs.Outcome.{Outcome, answered, refused}
+use Rattle.model.specs.Services.{Fraction, Verdict, same-after, different-after, Passage, joins, breaks, ends-elsewhere}
+
+-- "a triple comes with its three numbers, the programs .. with none"
+abbrev pub placeNumbers : Place → List ℕ
+placeNumbers (Triple t) = t .a ∷ t .b ∷ t .c ∷ []
+placeNumbers Programs = []
+
+-- "8 names the pair, 9 the triple, 10 the pair, the back move's number first; 11 and 12 also say whether a triple of the table or the two
+-- programs were under way"
+abbrev pub refusal : {A : Type 0} → Refusal → Outcome A
+refusal TableEnds = refused 1 []
+refusal TableField = refused 2 []
+refusal TableTail = refused 3 []
+refusal ImageEnds = refused 4 []
+refusal ImageField = refused 5 []
+refusal ImageTail = refused 6 []
+refusal BackMove = refused 7 []
+refusal (UnequalLengths p) = refused 8 (p .a ∷ p .b ∷ [])
+refusal (CubeFails t) = refused 9 (t .a ∷ t .b ∷ t .c ∷ [])
+refusal (OpenPair p) = refused 10 (p .a ∷ p .b ∷ [])
+refusal (AllowanceUsed p) = refused 11 (placeNumbers p)
+refusal (WorkspaceShort p) = refused 12 (placeNumbers p)
+refusal AnswerShort = refused 13 []
+refusal UnequalEnds = refused 14 []
+
+-- Reverse: "their lengths and the steps in the result"
+pub record Sizes : Type 0 where
+  pub numerator : ℕ
+  pub denominator : ℕ
+  pub steps : ℕ
+
+abbrev pub sizes : Fraction → Sizes
+sizes f = record { numerator = length (f .numerator); denominator = length (f .denominator); steps = f .steps }
+
+abbrev pub reversed : Reversed → Outcome Sizes
+reversed (Answer n d k) = answered (record { numerator = n; denominator = d; steps = k })
+reversed (ReverseRefused r) = refusal r
+
+abbrev pub clearedAs : Cleared → Outcome (Unit {0})
+clearedAs Passed = answered tt
+clearedAs (ClearRefused r) = refusal r
+
+-- Compare and chain
+abbrev pub compared : Compared → Outcome Verdict
+compared (Same k) = answered (same-after k)
+compared (Different k) = answered (different-after k)
+compared (CompareRefused r) = refusal r
+
+abbrev pub checked : Checked → Outcome Passage
+checked Joins = answered joins
+checked (Breaks k) = answered (breaks k)
+checked EndsElsewhere = answered ends-elsewhere
+checked (CheckRefused r) = refusal r
+
+-- packing and unpacking: the number of bytes written
+abbrev pub packedAs : Packed → Outcome ℕ
+packedAs (Written k) = answered k
+packedAs (PackRefused r) = refusal r
+
+-- how a reversing ends, by lengths: the answer that each ending of the model has
+abbrev pub stopAnswer : Stop → StopAnswer
+stopAnswer budget = Budget
+stopAnswer room = Room
+
+abbrev pub endingAnswer : Ending → EndingAnswer
+endingAnswer (finished n d k r) = Finished (length n) (length d) k r
+endingAnswer (open-pair a b k) = Undefined (record { a = a; b = b }) k
+endingAnswer (stopped s) = Stopped (stopAnswer s)
