@@ -1,0 +1,160 @@
+-- What a comparison's outcome means once the table clears: joined words reverse to the empty word and no others do, so each verdict is right
+-- and every other outcome is a stop (document 001, Prop. 4.4, and document 004, Prop. 6.1, for the tables that the two checks pass).
+use mathlib.Core.Path.{_≡_, refl, sym, ap, subst, _∙_}
+use mathlib.Core.Logic.{_≢_}
+use mathlib.Core.List.{List, [], _∷_, _++_}
+use mathlib.Core.Bool.{not, cond}
+use Prim.Native.Nat.{ℕ}
+use native.Mathlib.Omega.{arith}
+use native.Mathlib.Decide.{ℕ-discrete}
+use lib.Dec.{eqb}
+use lib.ListN.{length, length-append}
+use borrow.Author.Tests.{eq-eqb, ne-eqb}
+use Rattle.model.specs.Word.{Positive, positive, negative}
+use Rattle.model.specs.Presentation.{Presentation}
+use Rattle.model.specs.Reversing.{Stop, budget, room, Ending, finished, open-pair, stopped, reversing, Finishes, EndsEmpty, CoversSteps, CoversRoom}
+use Rattle.model.specs.Equivalence.{Joined}
+use Rattle.model.specs.Outcome.{Outcome, answered, refused, _>>=_, unless}
+use Rattle.model.specs.Checks.{stopNumber, cleared}
+use Rattle.model.specs.Services.{Verdict, same-after, different-after, judged, verdictOf, comparison}
+use Rattle.theory.proofs.Impossible.{impossible}
+use Rattle.theory.proofs.Complete.{complete-same, complete-turn}
+use Rattle.theory.proofs.Leftmost.{differing, open-unfinished}
+use Rattle.theory.proofs.Endings.{Ends, reversing-ends, ends-reversing}
+use Rattle.theory.proofs.Equiv.{weight-kept, total-one}
+use Rattle.theory.proofs.Joining.{equiv-joined, joined-equiv, joined-length}
+use Rattle.theory.proofs.Grid.{sound, derives-empty, same-grid}
+use Rattle.theory.proofs.Diagram.{finishes, draw}
+use Rattle.theory.proofs.Completeness.{complete-for}
+use Rattle.theory.proofs.Clearing.{clear-homogeneous, clear-cube}
+
+-- an outcome of a comparison of u and v, and what it says of them
+pub data Meaning (T : Presentation) (u v : Positive) : Outcome Verdict → Type 0 where
+  same : (k : ℕ) → Joined T u v → Meaning T u v (answered (same-after k))
+  different : (k : ℕ) → (Joined T u v → ⊥) → Meaning T u v (answered (different-after k))
+  out-of-budget : Meaning T u v (refused 11 [])
+  out-of-room : Meaning T u v (refused 12 [])
+
+-- THE CASES OF A COMPARISON
+
+module _ (T : Presentation) (u v : Positive) (steps width : ℕ) where
+  -- only a table that clears leads to an answer
+  answered-clear : {verdict : Verdict} → comparison T u v steps width ≡ answered verdict → cleared T steps width ≡ answered tt
+  unfolding comparison
+  answered-clear {verdict} h = go (cleared T steps width) h
+    where
+      compared : Outcome Verdict
+      compared =
+          cond (eqb (length u) (length v)) (verdictOf (reversing T steps width (negative u ++ positive v))) (answered (different-after 0))
+
+      go : (o : Outcome (Unit {0})) → (o >>= λ ok. compared) ≡ answered verdict → o ≡ answered tt
+      go (answered x) e = refl
+      go (refused n ps) e = impossible (cc)
+
+  module _ (clear : cleared T steps width ≡ answered tt) where
+    compared-equal : length u ≡ length v → comparison T u v steps width ≡ verdictOf (reversing T steps width (negative u ++ positive v))
+    unfolding comparison
+    compared-equal h =
+        let after = verdictOf (reversing T steps width (negative u ++ positive v)) in
+        ap (λ o. o >>= λ ok. cond (eqb (length u) (length v)) after (answered (different-after 0))) clear
+        ∙ ap (λ t. cond t after (answered (different-after 0))) (eq-eqb (length u) (length v) h)
+
+    compared-unequal : length u ≢ length v → comparison T u v steps width ≡ answered (different-after 0)
+    unfolding comparison
+    compared-unequal h =
+        let after = verdictOf (reversing T steps width (negative u ++ positive v)) in
+        ap (λ o. o >>= λ ok. cond (eqb (length u) (length v)) after (answered (different-after 0))) clear
+        ∙ ap (λ t. cond t after (answered (different-after 0))) (ne-eqb (length u) (length v) h)
+
+    -- JOINED WORDS AND THE EMPTY WORD
+
+    pub joined-empties : Joined T u v → EndsEmpty T (negative u ++ positive v)
+    joined-empties j =
+        let g =
+        complete-for (λ a. 1) (λ a. omega arith) (complete-same T) (complete-turn T) (clear-homogeneous T steps width clear)
+        (clear-cube T steps width clear) (joined-equiv T u v j) in
+        (g .0, finishes (g .1))
+
+    pub joined-same-after : Joined T u v → (k : ℕ) (run : Finishes T (negative u ++ positive v) [] [] k) → CoversSteps steps run → CoversRoom width run
+        → comparison T u v steps width ≡ answered (same-after k)
+    joined-same-after j k run within fits =
+        compared-equal (joined-length T (clear-homogeneous T steps width clear) u v j)
+        ∙ ap verdictOf
+        (ends-reversing T steps width (negative u ++ positive v) (finished [] [] k (differing run))
+        (record { run = run; within = within; fits = fits; differ = refl }))
+
+    empties-joined : {k : ℕ} → Finishes T (negative u ++ positive v) [] [] k → Joined T u v
+    empties-joined f = equiv-joined T (derives-empty (draw u v [] [] f) .path)
+
+    -- N and D are equally long
+    ends-even : (n d : Positive) {k : ℕ} → length u ≡ length v → Finishes T (negative u ++ positive v) n d k → length n ≡ length d
+    ends-even n d h f =
+        let kept = weight-kept (λ a. 1) (clear-homogeneous T steps width clear) (sound (draw u v n d f)) in
+        omega (arith, kept, total-one (u ++ n), total-one (v ++ d), length-append u n, length-append v d)
+
+    not-empty : (n d : Positive) {k : ℕ} → Finishes T (negative u ++ positive v) n d k → Joined T u v → (n ≡ []) × (d ≡ [])
+    not-empty n d f j =
+        let e = joined-empties j in
+        let same = same-grid (draw u v n d f) (draw u v [] [] (e .1)) in
+        (same .0, same .1)
+
+    -- WHAT EACH ENDING MEANS
+
+    judged-means : (n d : Positive) {k : ℕ} → Finishes T (negative u ++ positive v) n d k → Meaning T u v (answered (judged n d k))
+    judged-means [] [] {k} f = same k (empties-joined f)
+    judged-means [] (x ∷ d) {k} f =
+        different k (λ j. let e = not-empty [] (x ∷ d) f j .1 in impossible (cc))
+    judged-means (x ∷ n) d {k} f =
+        different k (λ j. let e = not-empty (x ∷ n) d f j .0 in impossible (cc))
+
+    stop-means : (s : Stop) → Meaning T u v (refused (stopNumber s) [])
+    stop-means budget = out-of-budget
+    stop-means room = out-of-room
+
+    ending-means : length u ≡ length v → (end : Ending) → Ends T steps width (negative u ++ positive v) end → Meaning T u v (verdictOf end)
+    ending-means h (finished n d k r) t =
+        subst (λ b. Meaning T u v (unless (not b) 14 (judged n d k))) (sym (eq-eqb (length n) (length d) (ends-even n d h (t .run))))
+        (judged-means n d (t .run))
+    ending-means h (open-pair a b k) t =
+        different k (λ j. open-unfinished T (t .reached .run) (t .here) (t .undefined-there) [] [] (joined-empties j .1))
+    ending-means h (stopped s) t = stop-means s
+
+    pub comparison-means : Meaning T u v (comparison T u v steps width)
+    comparison-means = go (ℕ-discrete (length u) (length v))
+      where
+        go : Dec (length u ≡ length v) → Meaning T u v (comparison T u v steps width)
+        go (yes h) =
+            subst (Meaning T u v) (sym (compared-equal h))
+            (ending-means h (reversing T steps width (negative u ++ positive v)) (reversing-ends T steps width (negative u ++ positive v)))
+        go (no h) =
+            subst (Meaning T u v) (sym (compared-unequal h))
+            (different 0 (λ j. h (joined-length T (clear-homogeneous T steps width clear) u v j)))
+
+  -- AND WHAT THE OUTCOME TELLS
+
+  means-joined : {o : Outcome Verdict} (k : ℕ) → Meaning T u v o → o ≡ answered (same-after k) → Joined T u v
+  means-joined k (same k′ j) e = j
+  means-joined k (different k′ a) e = impossible (cc)
+  means-joined k out-of-budget e = impossible (cc)
+  means-joined k out-of-room e = impossible (cc)
+
+  means-apart : {o : Outcome Verdict} (k : ℕ) → Meaning T u v o → o ≡ answered (different-after k) → Joined T u v → ⊥
+  means-apart k (same k′ j) e i = impossible (cc)
+  means-apart k (different k′ a) e i = a i
+  means-apart k out-of-budget e i = impossible (cc)
+  means-apart k out-of-room e i = impossible (cc)
+
+  means-even : {o : Outcome Verdict} (ps : List ℕ) → Meaning T u v o → o ≢ refused 14 ps
+  means-even ps (same k j) e = impossible (cc)
+  means-even ps (different k a) e = impossible (cc)
+  means-even ps out-of-budget e = let z : _≡_ {A = ℕ} 11 14 = cc in omega arith
+  means-even ps out-of-room e = let z : _≡_ {A = ℕ} 12 14 = cc in omega arith
+
+  pub same-joined : (k : ℕ) → comparison T u v steps width ≡ answered (same-after k) → Joined T u v
+  same-joined k e = means-joined k (comparison-means (answered-clear e)) e
+
+  pub different-apart : (k : ℕ) → comparison T u v steps width ≡ answered (different-after k) → Joined T u v → ⊥
+  different-apart k e = means-apart k (comparison-means (answered-clear e)) e
+
+  pub never-unequal : cleared T steps width ≡ answered tt → (ps : List ℕ) → comparison T u v steps width ≢ refused 14 ps
+  never-unequal clear ps = means-even ps (comparison-means clear)
