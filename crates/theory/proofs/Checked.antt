@@ -25,7 +25,7 @@ module _ (T : Presentation) (steps : ℕ) where
   ended : (width : ℕ) (u v : Positive) → Ends T steps width (negative u ++ positive v) (reversing T steps width (negative u ++ positive v))
   ended width u v = reversing-ends T steps width (negative u ++ positive v)
 
-  under-residue : (width : ℕ) (u v : Positive) {n : Positive} → under T steps width u v ≡ residue n → (d : Positive) × Residual T u v n d
+  pub under-residue : (width : ℕ) (u v : Positive) {n : Positive} → under T steps width u v ≡ residue n → (d : Positive) × Residual T u v n d
   unfolding under
   under-residue width u v {n} h = go (reversing T steps width (negative u ++ positive v)) h (ended width u v)
     where

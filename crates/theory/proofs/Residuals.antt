@@ -31,7 +31,7 @@ module _ (T : Presentation) where
       let y≡ : y ≡ d = sym (append-nil y) ∙ (ap (λ l. y ++ l) (sym (top g₁ .1)) ∙ sym (bottom g₂ .1)) in
       e ∙ cc
 
-  residual-letters : (a b : ℕ) {x y : Positive} → Residual T (a ∷ []) (b ∷ []) x y → complete T a b ≡ complement x y
+  pub residual-letters : (a b : ℕ) {x y : Positive} → Residual T (a ∷ []) (b ∷ []) x y → complete T a b ≡ complement x y
   residual-letters a b {x} {y} r = grid-letters (draw (a ∷ []) (b ∷ []) x y (r .1))
 
 -- a side by its diagram

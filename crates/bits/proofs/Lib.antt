@@ -1,0 +1,5 @@
+pub mod Digits
+pub mod Bytes
+pub mod Width
+pub mod Fields
+pub mod Packing

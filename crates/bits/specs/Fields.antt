@@ -1,0 +1,17 @@
+-- Fields of 0 to 16 bits in bytes, most significant bit first. A position counts bits from the first byte's highest.
+use mathlib.Core.List.{List, [], _∷_, _++_}
+use mathlib.Core.Path.{_≡_}
+use Prim.Native.Nat.{ℕ, _+_, _*_, _^_, _≤_, _<_}
+use lib.ListN.{length, take, drop}
+use Rattle.model.specs.Bits.{bitsOf, digits}
+
+-- the field lies inside the bytes, and the position after it is a `usize`
+pub record Inside (bytes : List ℕ) (at width : ℕ) : Type 0 where
+  pub narrow : width ≤ 16
+  pub inside : at + width ≤ 8 * length bytes
+  pub small : at + width < 2 ^ 64
+
+-- the bytes after a field was written: its bits are the value's last `width` digits, and every other bit is as it was
+pub record Written (before : List ℕ) (at width value : ℕ) (after : List ℕ) : Type 0 where
+  pub same-length : length after ≡ length before
+  pub bits : bitsOf after ≡ take at (bitsOf before) ++ (digits width value ++ drop (at + width) (bitsOf before))

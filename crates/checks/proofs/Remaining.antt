@@ -1,0 +1,116 @@
+-- The pairs and triples that are left from a place on, in document 01's order.
+use mathlib.Core.Path.{_≡_, refl, sym, ap, ap₂, _∙_}
+use mathlib.Core.List.{List, [], _∷_, _++_, map, append-assoc}
+use mathlib.Core.Bool.{Bool, true, false, _||_, cond}
+use Prim.Native.Nat.{ℕ, zero, suc, _+_, _-_, _≤_, _<_}
+use native.Mathlib.Omega.{arith}
+use native.Mathlib.Numerals.{add-one}
+use borrow.Author.Tests.{eq-eqb, ne-eqb}
+use lib.Dec.{eqb}
+use Rattle.model.specs.Enumeration.{range, concatMap, Two, Three, pairs, others, triples}
+use Rattle.checks.specs.Table.{row}
+
+-- the numbers from one on up to n
+abbrev pub upTo : ℕ → ℕ → List ℕ
+upTo n from = range from (n + 1 - from)
+
+up-some : (n from : ℕ) → from ≤ n → upTo n from ≡ from ∷ upTo n (from + 1)
+up-some n from h =
+    let e : n + 1 - from ≡ suc (n + 1 - (from + 1)) = omega arith in
+    ap (range from) e ∙ ap (λ i. from ∷ range i (n + 1 - (from + 1))) (sym (add-one from))
+
+up-none : (n from : ℕ) → n < from → upTo n from ≡ []
+up-none n from h = let e : n + 1 - from ≡ 0 = omega arith in ap (range from) e
+
+pub concat-append : {A B : Type 0} (f : A → List B) (xs ys : List A) → concatMap f (xs ++ ys) ≡ concatMap f xs ++ concatMap f ys
+concat-append f [] ys = refl
+concat-append f (x ∷ xs) ys = ap (λ l. f x ++ l) (concat-append f xs ys) ∙ sym (append-assoc (f x) (concatMap f xs) (concatMap f ys))
+
+-- PAIRS
+
+abbrev pub pair : ℕ → ℕ → Two
+pair a b = record { a = a; b = b }
+
+-- of a with b and the letters after it
+abbrev pub rowFrom : ℕ → ℕ → ℕ → List Two
+rowFrom n a b = map (pair a) (upTo n b)
+
+abbrev pub pairsFrom : ℕ → ℕ → List Two
+pairsFrom n a = concatMap (row n) (upTo n a)
+
+pub row-begins : (n a : ℕ) → row n a ≡ rowFrom n a (a + 1)
+row-begins n a =
+    let e : n - a ≡ n + 1 - (a + 1) = omega arith in
+    ap₂ (λ i k. map (pair a) (range i k)) (sym (add-one a)) e
+
+pub row-some : (n a b : ℕ) → b ≤ n → rowFrom n a b ≡ pair a b ∷ rowFrom n a (b + 1)
+row-some n a b h = ap (map (pair a)) (up-some n b h)
+
+pub row-none : (n a b : ℕ) → n < b → rowFrom n a b ≡ []
+row-none n a b h = ap (map (pair a)) (up-none n b h)
+
+pub pairs-begin : (n : ℕ) → pairs n ≡ pairsFrom n 1
+pairs-begin n = let e : n ≡ n + 1 - 1 = omega arith in ap (λ k. concatMap (row n) (range 1 k)) e
+
+pub pairs-some : (n a : ℕ) → a ≤ n → pairsFrom n a ≡ row n a ++ pairsFrom n (a + 1)
+pairs-some n a h = ap (concatMap (row n)) (up-some n a h)
+
+pub pairs-none : (n a : ℕ) → n < a → pairsFrom n a ≡ []
+pairs-none n a h = ap (concatMap (row n)) (up-none n a h)
+
+-- TRIPLES
+
+abbrev pub triple : ℕ → ℕ → ℕ → Three
+triple a b c = record { a = a; b = b; c = c }
+
+-- of a pair with the letters from c on
+abbrev pub thirds : ℕ → ℕ → ℕ → ℕ → List Three
+thirds n a b c = map (triple a b) (others a b (upTo n c))
+
+abbrev ofPair : ℕ → Two → List Three
+ofPair n p = map (λ c. record { a = p .a; b = p .b; c = c }) (others (p .a) (p .b) (range 1 n))
+
+-- of a with the letters from b on, and of the letters from a on
+abbrev pub seconds : ℕ → ℕ → ℕ → List Three
+seconds n a b = concatMap (ofPair n) (rowFrom n a b)
+
+abbrev pub firsts : ℕ → ℕ → List Three
+firsts n a = concatMap (ofPair n) (pairsFrom n a)
+
+pub triples-begin : (n : ℕ) → triples n ≡ firsts n 1
+triples-begin n = ap (concatMap (ofPair n)) (pairs-begin n)
+
+pub firsts-some : (n a : ℕ) → a ≤ n → firsts n a ≡ seconds n a (a + 1) ++ firsts n (a + 1)
+firsts-some n a h =
+    ap (concatMap (ofPair n)) (pairs-some n a h ∙ ap (λ l. l ++ pairsFrom n (a + 1)) (row-begins n a))
+    ∙ concat-append (ofPair n) (rowFrom n a (a + 1)) (pairsFrom n (a + 1))
+
+pub firsts-none : (n a : ℕ) → n < a → firsts n a ≡ []
+firsts-none n a h = ap (concatMap (ofPair n)) (pairs-none n a h)
+
+pub seconds-some : (n a b : ℕ) → b ≤ n → seconds n a b ≡ thirds n a b 1 ++ seconds n a (b + 1)
+seconds-some n a b h =
+    let e : n ≡ n + 1 - 1 = omega arith in
+    ap (concatMap (ofPair n)) (row-some n a b h) ∙ ap (λ k. map (triple a b) (others a b (range 1 k)) ++ seconds n a (b + 1)) e
+
+pub seconds-none : (n a b : ℕ) → n < b → seconds n a b ≡ []
+seconds-none n a b h = ap (concatMap (ofPair n)) (row-none n a b h)
+
+pub thirds-none : (n a b c : ℕ) → n < c → thirds n a b c ≡ []
+thirds-none n a b c h = ap (λ l. map (triple a b) (others a b l)) (up-none n c h)
+
+module _ (n a b c : ℕ) (h : c ≤ n) where
+  next-third : thirds n a b c ≡ map (triple a b) (cond (eqb c a || eqb c b) (others a b (upTo n (c + 1))) (c ∷ others a b (upTo n (c + 1))))
+  next-third = ap (λ l. map (triple a b) (others a b l)) (up-some n c h)
+
+  by-test : (t : Bool) → (eqb c a || eqb c b) ≡ t → thirds n a b c ≡ map (triple a b) (cond t (others a b (upTo n (c + 1))) (c ∷ others a b (upTo n (c + 1))))
+  by-test t e = next-third ∙ ap (λ t. map (triple a b) (cond t (others a b (upTo n (c + 1))) (c ∷ others a b (upTo n (c + 1))))) e
+
+  pub third-is-first : c ≡ a → thirds n a b c ≡ thirds n a b (c + 1)
+  third-is-first e = by-test true (ap (λ t. t || eqb c b) (eq-eqb c a e))
+
+  pub third-is-second : (c ≡ a → ⊥) → c ≡ b → thirds n a b c ≡ thirds n a b (c + 1)
+  third-is-second f e = by-test true (ap₂ (λ s t. s || t) (ne-eqb c a f) (eq-eqb c b e))
+
+  pub third-counts : (c ≡ a → ⊥) → (c ≡ b → ⊥) → thirds n a b c ≡ triple a b c ∷ thirds n a b (c + 1)
+  third-counts f g = by-test false (ap₂ (λ s t. s || t) (ne-eqb c a f) (ne-eqb c b g))

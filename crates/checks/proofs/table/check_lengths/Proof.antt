@@ -1,0 +1,94 @@
+-- `checks::table::check_lengths` meets its contract.
+use mathlib.Core.Path.{_≡_, refl, sym, ap, subst, _∙_}
+use mathlib.Core.List.{[], _∷_}
+use Prim.Native.Nat.{ℕ, _+_, _-_, _≤_, _<_}
+use native.Mathlib.Omega.{arith}
+use borrow.Author.Needs.{needs}
+use Rattle.model.specs.Presentation.{Presentation}
+use Rattle.model.specs.Enumeration.{pairs}
+use Rattle.model.specs.Outcome.{_>>=_}
+use Rattle.model.specs.Checks.{lengthCheck}
+use Rattle.checks.specs.Table.{Of, row, RowMeans}
+use Rattle.checks.proofs.Remaining.{pairsFrom, pairs-begin, pairs-some, pairs-none}
+use Rattle.checks.proofs.Passing.{lengths-append, of-few}
+use Rattle.checks.proofs.table.check_lengths.Statement.{statement}
+use Rattle.checks.proofs.table.check_lengths.Tie as tie
+use Rattle.checks.proofs.table.check_lengths.Reads as reads
+use Rattle.checks.proofs.table.check_lengths.Lts as lts
+use Rattle.checks.proofs.table.row_lengths.Reads as row-lengths-reads
+
+abbrev Inv-loop : tie.InvT-loop
+Inv-loop cells size a₀ a =
+    (1 ≤ a) × (a ≤ size + 1) × (size ≤ 16) × ((T : Presentation) → Of cells size T → lengthCheck T (pairs size) ≡ lengthCheck T (pairsFrom size a))
+
+abbrev μ-loop : tie.MeasureT-loop
+μ-loop cells size a₀ a = size + 1 - a
+
+loop-holds : tie.Need-loop-holds Inv-loop μ-loop
+loop-holds c =
+    let s = c .before in
+    (omega arith, omega arith, of-few (s .pre .1), λ T o. ap (lengthCheck T) (pairs-begin (s .args .size)))
+
+row-lengths-requires : tie.Need-row-lengths-requires Inv-loop μ-loop
+row-lengths-requires c κs = let s = c .before .before .before in (s .pre, omega arith, omega arith)
+
+enum-known-row : tie.Need-enum-known-row Inv-loop μ-loop
+enum-known-row c = search needs
+
+returns : tie.Need-returns Inv-loop μ-loop
+returns c =
+    let s = c .before .before .before .before .before .before .before in
+    let l = c .before .before .before .before .before .loop in
+    let v = c .before .before .before .row-lengths in
+    let m = subst (RowMeans (s .args .cells .now) (s .args .size) (l .a)) (c .before .row .given .1) (v .ensures) in
+    λ T o. sym
+    (l .inv .3 T o
+    ∙ (ap (lengthCheck T) (pairs-some (s .args .size) (l .a) (omega arith))
+    ∙ (lengths-append T (row (s .args .size) (l .a)) (pairsFrom (s .args .size) (l .a + 1))
+    ∙ ap (λ x. x >>= λ ok. lengthCheck T (pairsFrom (s .args .size) (l .a + 1))) (sym (m T o)))))
+
+enum-told : tie.Need-enum-told Inv-loop μ-loop
+enum-told c = search needs
+
+add-a : tie.Need-add-a Inv-loop μ-loop
+add-a c = omega arith
+
+loop-less : tie.Need-loop-less Inv-loop μ-loop
+loop-less c = omega arith
+
+loop-again : tie.Need-loop-again Inv-loop μ-loop
+loop-again c =
+    let s = c .before .before .before .before .before .before in
+    let l = c .before .before .before .before .loop in
+    let v = c .before .before .row-lengths in
+    let m = subst (RowMeans (s .args .cells .now) (s .args .size) (l .a)) (c .enum-told .given .1) (v .ensures) in (
+      omega arith,
+      omega arith,
+      l .inv .2,
+      λ T o. l .inv .3 T o
+          ∙ (ap (lengthCheck T) (pairs-some (s .args .size) (l .a) (omega arith))
+          ∙ (lengths-append T (row (s .args .size) (l .a)) (pairsFrom (s .args .size) (l .a + 1))
+          ∙ ap (λ x. x >>= λ ok. lengthCheck T (pairsFrom (s .args .size) (l .a + 1))) (sym (m T o)))),
+    )
+
+returns-2 : tie.Need-returns-2 Inv-loop μ-loop
+returns-2 c =
+    let s = c .before .before .before in
+    let l = c .before .loop in
+    λ T o. sym (l .inv .3 T o ∙ ap (lengthCheck T) (pairs-none (s .args .size) (l .a) (omega arith)))
+
+pub check-lengths-spec : {M : Type 1} → statement M
+check-lengths-spec =
+    tie.close
+    (tie.spec
+    Inv-loop
+    μ-loop
+    loop-holds
+    row-lengths-requires
+    enum-known-row
+    returns
+    enum-told
+    add-a
+    loop-less
+    loop-again
+    returns-2)

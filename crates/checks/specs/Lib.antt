@@ -1,0 +1,4 @@
+pub mod Words
+pub mod Residues
+pub mod Cube
+pub mod Table

@@ -1,0 +1,109 @@
+ghost use mathlib.Core.Path.{_≡_};
+ghost use mathlib.Core.List.{[], _∷_};
+ghost use lib.ListN.{length, getD};
+ghost use Rattle.model.specs.Word.{positive};
+ghost use Rattle.engine.specs.Cells.{Ready, cellAt};
+ghost use Rattle.checks.specs.Residues.{fromEnding, LettersWork, WordsWork, SideWorks};
+use engine::cells::cell_at;
+use engine::gap::Gap;
+use engine::run::reversing;
+use engine::step::push_inverse;
+use engine::step::push_word;
+use model::answers::Ending;
+use model::answers::Stop;
+
+// u\v: a word, which stands at the workspace's start; an undefined pair was met; or the reversing was stopped.
+pub enum Residue {
+    Word(usize),
+    Missing,
+    Halted(Stop),
+}
+
+pub fn residue_of(ending: Ending) -> Residue
+    ensures { λ r. ⌜ r ≡ fromEnding ending ⌝ }
+{
+    match ending {
+        Ending::Finished {
+            numerator,
+            denominator: _,
+            steps: _,
+            relations: _,
+        } => Residue::Word(numerator),
+        Ending::Undefined { pair: _, steps: _ } => Residue::Missing,
+        Ending::Stopped(stop) => Residue::Halted(stop),
+    }
+}
+
+// a\b.
+pub fn letter_residue(cells: &[u8], bytes: &mut [u8], a: u8, b: u8, budget: u16) -> Residue
+    requires { ⌜ Ready (now cells) (positive (a ∷ b ∷ [])) ⌝ }
+    ensures length { λ r. ⌜ length (now (bytes .exit)) ≡ length (now (bytes .entry)) ⌝ }
+    ensures works { λ r. ⌜ LettersWork (now (cells .entry)) a b budget (now (bytes .exit)) r ⌝ }
+{
+    let end = bytes.len();
+    if end < 2 {
+        return Residue::Halted(Stop::Room);
+    }
+    bytes[0] = 128 + a;
+    bytes[end - 1] = b;
+    let ending = reversing(
+        cells,
+        bytes,
+        Gap {
+            left: 1,
+            right: end - 1,
+        },
+        budget,
+    );
+    residue_of(ending)
+}
+
+// C(a,b)\C(a,c), for pairs that are not undefined.
+pub fn word_residue(cells: &[u8], bytes: &mut [u8], a: u8, b: u8, c: u8, budget: u16) -> Residue
+    requires ready { ⌜ Ready (now cells) (positive (a ∷ b ∷ c ∷ [])) ⌝ }
+    requires defined { ⌜ (getD (now cells) (cellAt a b) 0 ≡ 255 → ⊥) × (getD (now cells) (cellAt a c) 0 ≡ 255 → ⊥) ⌝ }
+    ensures length { λ r. ⌜ length (now (bytes .exit)) ≡ length (now (bytes .entry)) ⌝ }
+    ensures works { λ r. ⌜ WordsWork (now (cells .entry)) a b c budget (now (bytes .exit)) r ⌝ }
+{
+    let to_b = cell_at(a, b);
+    let to_c = cell_at(a, c);
+    let x = cells[to_b] as usize;
+    let y = cells[to_c] as usize;
+    let end = bytes.len();
+    if end < x + y {
+        return Residue::Halted(Stop::Room);
+    }
+    push_inverse(bytes, x, cells, to_b + 1, x);
+    push_word(bytes, end, cells, to_c + 1, y);
+    let ending = reversing(
+        cells,
+        bytes,
+        Gap {
+            left: x,
+            right: end - y,
+        },
+        budget,
+    );
+    residue_of(ending)
+}
+
+// (a\b)\(a\c), the inner complements first.
+pub fn side(cells: &[u8], bytes: &mut [u8], a: u8, b: u8, c: u8, budget: u16) -> Residue
+    requires { ⌜ Ready (now cells) (positive (a ∷ b ∷ c ∷ [])) ⌝ }
+    ensures length { λ r. ⌜ length (now (bytes .exit)) ≡ length (now (bytes .entry)) ⌝ }
+    ensures works { λ r. ⌜ SideWorks (now (cells .entry)) a b c budget (now (bytes .exit)) r ⌝ }
+{
+    let to_b = letter_residue(cells, bytes, a, b, budget);
+    match to_b {
+        Residue::Missing => Residue::Missing,
+        Residue::Halted(stop) => Residue::Halted(stop),
+        Residue::Word(_) => {
+            let to_c = letter_residue(cells, bytes, a, c, budget);
+            match to_c {
+                Residue::Missing => Residue::Missing,
+                Residue::Halted(stop) => Residue::Halted(stop),
+                Residue::Word(_) => word_residue(cells, bytes, a, b, c, budget),
+            }
+        }
+    }
+}

@@ -1,0 +1,12 @@
+pub mod Letters
+pub mod Sites
+pub mod Moves
+pub mod Pushes
+pub mod Lettering
+pub mod Rules
+pub mod AtGap
+pub mod Stepping
+pub mod Runs
+pub mod Counting
+pub mod Progress
+pub mod Loads

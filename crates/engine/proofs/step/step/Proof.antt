@@ -1,0 +1,195 @@
+-- `engine::step::step` meets its contract: each way out is a law of `Stepping`.
+use mathlib.Core.Path.{_≡_, refl, sym, ap, _∙_}
+use Prim.Native.Nat.{ℕ, _+_, _-_, _≤_, _<_}
+use native.Mathlib.Omega.{arith}
+use lib.ListN.{length, take, drop, getD}
+use Rattle.engine.proofs.Stepping.{named, to-inside, from-inside, undefined-step, to-short, from-short, goes-on, no-room, stepped}
+use borrow.Author.Needs.{needs}
+use Rattle.engine.proofs.step.step.Statement.{statement}
+use Rattle.engine.proofs.step.step.Tie as tie
+use Rattle.engine.proofs.step.step.Reads as reads
+use Rattle.engine.proofs.step.step.Lts as lts
+use Rattle.engine.proofs.cells.cell_at.Reads as cell-at-reads
+use Rattle.engine.proofs.step.push_inverse.Reads as push-inverse-reads
+use Rattle.engine.proofs.step.push_word.Reads as push-word-reads
+
+sub-at : tie.Need-sub-at
+sub-at c = search needs
+
+slice-read-a : tie.Need-slice-read-a
+slice-read-a c = search needs
+
+sub-a : tie.Need-sub-a
+sub-a c = search needs
+
+slice-read-b : tie.Need-slice-read-b
+slice-read-b c = search needs
+
+cell-at-requires : tie.Need-cell-at-requires
+cell-at-requires c κs =
+    let s = c .before .before .before .before .before in
+    let l = s .args .site .left in
+    let r = s .args .site .right in
+    named (s .args .cells .now) (s .args .bytes .now) l r (s .pre .0) (s .pre .1 .0) (s .pre .1 .1)
+
+cell-at-requires-2 : tie.Need-cell-at-requires-2
+cell-at-requires-2 c κs =
+    let s = c .before .before .before .before .before .before in
+    let l = s .args .site .left in
+    let r = s .args .site .right in
+    let n = named (s .args .cells .now) (s .args .bytes .now) l r (s .pre .0) (s .pre .1 .0) (s .pre .1 .1) in (n .1, n .0)
+
+shared-slice-read-x : tie.Need-shared-slice-read-x
+shared-slice-read-x c =
+    let s = c .before .before .before .before .before .before .before .before in
+    let l = s .args .site .left in
+    let r = s .args .site .right in
+    omega (arith, to-inside (s .args .cells .now) (s .args .bytes .now) l r (s .pre .0) (s .pre .1 .0) (s .pre .1 .1), c .before .before .cell-at .ensures)
+
+cast-x : tie.Need-cast-x
+cast-x c =
+    omega (arith, c .shared-slice-known2 .given (c .before .before .cell-at .result))
+
+shared-slice-read-y : tie.Need-shared-slice-read-y
+shared-slice-read-y c =
+    let s = c .before .before .before .before .before .before .before .before .before in
+    let l = s .args .site .left in
+    let r = s .args .site .right in
+    omega (arith, from-inside (s .args .cells .now) (s .args .bytes .now) l r (s .pre .0) (s .pre .1 .0) (s .pre .1 .1), c .before .before .cell-at2 .ensures)
+
+cast-y : tie.Need-cast-y
+cast-y c =
+    omega (arith, c .shared-slice-known3 .given (c .before .before .cell-at2 .result))
+
+returns : tie.Need-returns
+returns c =
+    let s = c .before .before .before .before .before .before .before .before .before .before in
+    let l = s .args .site .left in
+    let r = s .args .site .right in
+    let to = c .before .before .before .before .cell-at in
+    let from = c .before .before .before .cell-at2 in
+    (refl, λ T t. undefined-step (s .args .cells .now) (s .args .bytes .now) l r (s .pre .0) T t (to .result) (to .ensures) (c .if1 .taken))
+
+returns-2 : tie.Need-returns-2
+returns-2 c =
+    let s = c .before .before .before .before .before .before .before .before .before .before .before in
+    let l = s .args .site .left in
+    let r = s .args .site .right in
+    let to = c .before .before .before .before .before .cell-at in
+    let from = c .before .before .before .before .cell-at2 in
+    (refl, λ T t. (c .if2 .taken, goes-on (s .args .cells .now) (s .args .bytes .now) l r (s .pre .0) T t (to .result) (to .ensures) (from .result) (from .ensures) (c .before .if1 .left)))
+
+add-if3 : tie.Need-add-if3
+add-if3 c = search needs
+
+sub-if3 : tie.Need-sub-if3
+sub-if3 c = search needs
+
+add-if3-2 : tie.Need-add-if3-2
+add-if3-2 c =
+    let s = c .before .before .before .before .before .before .before .before .before .before .before in
+    let l = s .args .site .left in
+    let r = s .args .site .right in
+    let to = c .before .before .before .before .before .cell-at in
+    let from = c .before .before .before .before .cell-at2 in
+    omega (arith, to-short (s .args .cells .now) (s .args .bytes .now) l r (s .pre .0) (s .pre .1 .0) (s .pre .1 .1) (to .result) (to .ensures) (from .result) (from .ensures) (c .before .if1 .left), from-short (s .args .cells .now) (s .args .bytes .now) l r (s .pre .0) (s .pre .1 .0) (s .pre .1 .1) (to .result) (to .ensures) (from .result) (from .ensures) (c .before .if1 .left))
+
+returns-3 : tie.Need-returns-3
+returns-3 c =
+    let s = c .before .before .before .before .before .before .before .before .before .before .before .before in
+    let l = s .args .site .left in
+    let r = s .args .site .right in
+    let to = c .before .before .before .before .before .before .cell-at in
+    let from = c .before .before .before .before .before .cell-at2 in
+    (refl, λ T t. (omega (arith, c .before .if2 .left), no-room (s .args .cells .now) (s .args .bytes .now) l r (s .pre .0) T t (to .result) (to .ensures) (from .result) (from .ensures) (c .before .before .if1 .left) (c .if3 .taken)))
+
+add-push-inverse : tie.Need-add-push-inverse
+add-push-inverse c = search needs
+
+add-push-inverse-2 : tie.Need-add-push-inverse-2
+add-push-inverse-2 c = search needs
+
+push-inverse-requires : tie.Need-push-inverse-requires
+push-inverse-requires c κs =
+    let s = c .before .before .before .before .before .before .before .before .before .before .before .before .before in
+    let l = s .args .site .left in
+    let r = s .args .site .right in
+    let to = c .before .before .before .before .before .before .before .cell-at in
+    let from = c .before .before .before .before .before .before .cell-at2 in
+    omega (arith, from-short (s .args .cells .now) (s .args .bytes .now) l r (s .pre .0) (s .pre .1 .0) (s .pre .1 .1) (to .result) (to .ensures) (from .result) (from .ensures) (c .before .before .before .if1 .left), from-inside (s .args .cells .now) (s .args .bytes .now) l r (s .pre .0) (s .pre .1 .0) (s .pre .1 .1), from .ensures, s .pre .0 .some-after, c .before .if3 .left)
+
+add-push-word : tie.Need-add-push-word
+add-push-word c = search needs
+
+sub-push-word : tie.Need-sub-push-word
+sub-push-word c = search needs
+
+add-push-word-2 : tie.Need-add-push-word-2
+add-push-word-2 c = search needs
+
+push-word-requires : tie.Need-push-word-requires
+push-word-requires c κs =
+    let s = c .before .before .before .before .before .before .before .before .before .before .before .before .before .before .before .before .before in
+    let l = s .args .site .left in
+    let r = s .args .site .right in
+    let to = c .before .before .before .before .before .before .before .before .before .before .before .cell-at in
+    let from = c .before .before .before .before .before .before .before .before .before .before .cell-at2 in
+    omega (arith, to-short (s .args .cells .now) (s .args .bytes .now) l r (s .pre .0) (s .pre .1 .0) (s .pre .1 .1) (to .result) (to .ensures) (from .result) (from .ensures) (c .before .before .before .before .before .before .before .if1 .left), to-inside (s .args .cells .now) (s .args .bytes .now) l r (s .pre .0) (s .pre .1 .0) (s .pre .1 .1), to .ensures, s .pre .0 .some-after, c .before .before .before .push-inverse .ensures .same-length, c .before .before .before .before .before .if3 .left)
+
+add-t23 : tie.Need-add-t23
+add-t23 c = search needs
+
+sub-t22 : tie.Need-sub-t22
+sub-t22 c = search needs
+
+sub-t21 : tie.Need-sub-t21
+sub-t21 c = search needs
+
+same-length : tie.Need-same-length
+same-length c = search needs
+
+returns-4 : tie.Need-returns-4
+returns-4 c =
+    let s = c .before .before .before .before .before .before .before .before .before .before .before .before .before .before .before .before .before .before .before .before in
+    let l = s .args .site .left in
+    let r = s .args .site .right in
+    let to = c .before .before .before .before .before .before .before .before .before .before .before .before .before .before .cell-at in
+    let from = c .before .before .before .before .before .before .before .before .before .before .before .before .before .cell-at2 in
+    let inverted = c .before .before .before .before .before .before .push-inverse in
+    let pushed = c .before .before .push-word in (
+      pushed .ensures .same-length ∙ inverted .ensures .same-length,
+      λ T t. (omega (arith, c .before .before .before .before .before .before .before .before .before .if2 .left), stepped (s .args .cells .now) (s .args .bytes .now) l r (s .pre .0) T t (to .result) (to .ensures) (from .result) (from .ensures) (c .before .before .before .before .before .before .before .before .before .before .if1 .left) (inverted .last .0) (pushed .last .0) (inverted .ensures) (pushed .ensures) (c .before .before .before .before .before .before .before .before .if3 .left)),
+    )
+
+pub step-spec : {M : Type 1} → statement M
+step-spec =
+    tie.close
+    (tie.spec
+    sub-at
+    slice-read-a
+    sub-a
+    slice-read-b
+    cell-at-requires
+    cell-at-requires-2
+    shared-slice-read-x
+    cast-x
+    shared-slice-read-y
+    cast-y
+    returns
+    returns-2
+    add-if3
+    sub-if3
+    add-if3-2
+    returns-3
+    add-push-inverse
+    add-push-inverse-2
+    push-inverse-requires
+    add-push-word
+    sub-push-word
+    add-push-word-2
+    push-word-requires
+    add-t23
+    sub-t22
+    sub-t21
+    same-length
+    returns-4)

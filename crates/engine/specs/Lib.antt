@@ -1,0 +1,4 @@
+pub mod Gap
+pub mod Cells
+pub mod Turn
+pub mod Run

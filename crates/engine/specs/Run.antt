@@ -1,0 +1,33 @@
+-- What a whole reversing in the workspace comes to.
+use mathlib.Core.List.{List, [], _∷_, _++_}
+use mathlib.Core.Path.{_≡_}
+use Prim.Native.Nat.{ℕ, _+_}
+use lib.ListN.{length, take}
+use Rattle.model.specs.Word.{Word, positive, negative}
+use Rattle.model.specs.Presentation.{Presentation}
+use Rattle.model.specs.Reversing.{Ending, finished, open-pair, stopped, reversing}
+use Rattle.model.specs.Stated.{endingAnswer}
+use Rattle.model.specs.declared.answers.Ending.{Ending as EndingAnswer}
+use Rattle.engine.specs.Gap.{letters}
+use Rattle.engine.specs.Cells.{Lettered, Serves}
+
+-- what the workspace begins with where a reversing finished: the numerator, then the inverse of the denominator
+abbrev pub Holds : Ending → List ℕ → Type 0
+Holds (finished n d k r) bytes = letters (take (length n + length d) bytes) ≡ positive n ++ negative d
+Holds (open-pair a b k) bytes = Unit {0}
+Holds (stopped s) bytes = Unit {0}
+
+-- and its letters are those of the presentation
+abbrev pub Named : ℕ → Ending → Type 0
+Named size (finished n d k r) = Lettered size (positive n ++ negative d)
+Named size (open-pair a b k) = Unit {0}
+Named size (stopped s) = Unit {0}
+
+pub record Reverses (T : Presentation) (word : Word) (budget : ℕ) (bytes : List ℕ) (r : EndingAnswer) : Type 0 where
+  pub answer : r ≡ endingAnswer (reversing T budget (length bytes) word)
+  pub holds : Holds (reversing T budget (length bytes) word) bytes
+  pub named : Named (T .size) (reversing T budget (length bytes) word)
+
+-- under every presentation that the cells serve
+abbrev pub RunMeans : List ℕ → Word → ℕ → List ℕ → EndingAnswer → Type 0
+RunMeans cells word budget bytes r = (T : Presentation) → Serves cells word T → Reverses T word budget bytes r

@@ -1,0 +1,52 @@
+-- What one turn of a reversing does to the word in the workspace.
+use mathlib.Core.List.{List, [], _∷_, _++_}
+use mathlib.Core.Path.{_≡_}
+use Prim.Native.Nat.{ℕ, _+_, _-_, _≤_, _<_}
+use lib.ListN.{length, take, drop}
+use Rattle.model.specs.Word.{Word}
+use Rattle.model.specs.Presentation.{Presentation}
+use Rattle.model.specs.Reversing.{next, no-site, blocked, step}
+use Rattle.engine.specs.Gap.{letters, wordAt, Searched, AtEnd}
+use Rattle.engine.specs.Cells.{Lettered, Serves}
+use Rattle.engine.specs.declared.step.Turn.{Turn}
+use Rattle.engine.specs.declared.step.Turn.the-variants.{Final, Undefined, Stopped, Stepped}
+use Rattle.model.specs.declared.answers.Stop.the-variants.{Budget, Room}
+
+-- `word`, of `count` letters, was written just before `right`, and no byte before it or from `right` on has changed
+pub record Pushed (word : Word) (bytes : List ℕ) (right count : ℕ) (after : List ℕ) : Type 0 where
+  pub same-length : length after ≡ length bytes
+  pub before : take (right - count) after ≡ take (right - count) bytes
+  pub pushed : letters (drop (right - count) after) ≡ word ++ letters (drop right bytes)
+
+-- the next word is in the workspace, no site begins before its gap, and its letters are the presentation's
+pub record Steps (T : Presentation) (word : Word) (bytes : List ℕ) (left right a b : ℕ) : Type 0 where
+  pub searched : Searched bytes left right
+  pub taken : next T word ≡ step a b (wordAt bytes left right)
+  pub lettered : Lettered (T .size) (wordAt bytes left right)
+
+-- the next word is longer than the workspace
+pub record Outgrows (T : Presentation) (word : Word) (width : ℕ) : Type 0 where
+  pub a : ℕ
+  pub b : ℕ
+  pub longer : Word
+  pub taken : next T word ≡ step a b longer
+  pub long : width < length longer
+
+-- a step could be taken
+pub record Goes (T : Presentation) (word : Word) : Type 0 where
+  pub a : ℕ
+  pub b : ℕ
+  pub word′ : Word
+  pub taken : next T word ≡ step a b word′
+
+-- what a turn says of the word, where `left` steps of the budget are left
+abbrev pub TurnDone : Presentation → Word → ℕ → List ℕ → Turn → Type 0
+TurnDone T word left bytes (Final g) = (next T word ≡ no-site) × AtEnd word bytes (g .left) (g .right)
+TurnDone T word left bytes (Undefined p) = next T word ≡ blocked (p .a) (p .b)
+TurnDone T word left bytes (Stopped Budget) = (left ≡ 0) × Goes T word
+TurnDone T word left bytes (Stopped Room) = (1 ≤ left) × Outgrows T word (length bytes)
+TurnDone T word left bytes (Stepped g p) = (1 ≤ left) × Steps T word bytes (g .left) (g .right) (p .a) (p .b)
+
+-- and that under every presentation that the cells serve
+abbrev pub TurnMeans : List ℕ → Word → ℕ → List ℕ → Turn → Type 0
+TurnMeans cells word left bytes r = (T : Presentation) → Serves cells word T → TurnDone T word left bytes r

@@ -1,0 +1,184 @@
+-- Bits appended after bits; and what an area holds when all bits of an image are written.
+use mathlib.Core.Path.{_≡_, refl, sym, ap, subst, _∙_}
+use mathlib.Core.List.{List, [], _∷_, _++_, append-assoc, append-nil, map}
+use mathlib.Core.Bool.{Bool, true, false, cond, _&&_}
+use Prim.Native.Nat.{ℕ, zero, suc, _+_, _-_, _*_, _/_, _%_, _^_, _≤_, _<_}
+use native.Mathlib.Omega.{arith}
+use native.Mathlib.Numerals.{add-one}
+use native.Mathlib.Nat.{suc-mul, mul-le-mul-right}
+use borrow.Author.Tests.{lt-ltb, le-ltb, leb-true, ltb-true}
+use lib.Dec.{leb, ltb}
+use lib.ListN.{length, take, drop, set, getD, replicate, length-append, length-take, length-drop, length-map, List·getD-map, take-append-drop, length-set, length-replicate}
+use lib.Seq.{take-at, drop-at, drop-drop, length-take-le, take-append-add, drop-append-add, take-suc, take-all, drop-append-le, set-split, drop-set-lt}
+use Rattle.model.specs.Word.{Letter, forward, back, letter}
+use Rattle.model.specs.Enumeration.{concatMap}
+use Rattle.model.specs.Bits.{bitsOf, digits, bytesFor, pack, letterWidth}
+use Rattle.model.specs.Images.{letterBits, signedBits, programImage}
+use Rattle.model.specs.Plain.{namesLetter}
+use Rattle.model.specs.Areas.{begins}
+use Rattle.bits.specs.Fields.{Written}
+use Rattle.bits.proofs.Digits.{AreBits, length-digits, digits-are-bits, bits-append}
+use Rattle.bits.proofs.Bytes.{length-bits, bits-of-append, bits-store}
+use Rattle.bits.proofs.Packing.{AreBytes, pack-bits, packed-bytes, length-packed, bits-injective, and-first, and-second}
+use Rattle.images.specs.Written.{Appended, programBits}
+use Rattle.images.proofs.Placed.{length-signed}
+use Rattle.images.proofs.RoundTrip.{concat-bits, signed-are-bits}
+
+pub appended-field : (before : List ℕ) (at width v : ℕ) (after : List ℕ) → Written before at width v after → Appended before at (digits width v) after
+appended-field before at width v after w =
+    record {
+      same-length = w .same-length;
+      bits = w .bits ∙ ap (λ n. take at (bitsOf before) ++ (digits width v ++ drop (at + n) (bitsOf before))) (sym (length-digits width v));
+    }
+
+pub appended-none : (before : List ℕ) (at : ℕ) → Appended before at [] before
+appended-none before at =
+    record {
+      same-length = refl;
+      bits = sym (ap (λ n. take at (bitsOf before) ++ drop n (bitsOf before)) {x = at + 0} {y = at} (omega arith) ∙ take-append-drop at (bitsOf before));
+    }
+
+pub appended-more : (before : List ℕ) (at : ℕ) (xs mid ys after : List ℕ) → at + length xs ≤ 8 * length before
+    → Appended before at xs mid → Appended mid (at + length xs) ys after → Appended before at (xs ++ ys) after
+appended-more before at xs mid ys after h p q =
+    let old = bitsOf before in
+    let front : length (take at (bitsOf before)) ≡ at = length-take-le at (bitsOf before) (omega (arith, length-bits before)) in
+    let both : length (take at (bitsOf before) ++ xs) ≡ at + length xs = length-append (take at (bitsOf before)) xs ∙ ap (λ n. n + length xs) front in
+    let m : bitsOf mid ≡ (take at (bitsOf before) ++ xs) ++ drop (at + length xs) (bitsOf before) =
+    p .bits ∙ sym (append-assoc (take at (bitsOf before)) xs (drop (at + length xs) (bitsOf before))) in
+    let t : take (at + length xs) (bitsOf mid) ≡ take at (bitsOf before) ++ xs =
+    ap (take (at + length xs)) m ∙ take-at (take at (bitsOf before) ++ xs) (drop (at + length xs) (bitsOf before)) (at + length xs) both in
+    let d : drop (at + length xs + length ys) (bitsOf mid) ≡ drop (at + length (xs ++ ys)) (bitsOf before) =
+    sym (drop-drop (length ys) (at + length xs) (bitsOf mid))
+    ∙ (ap (λ l. drop (length ys) (drop (at + length xs) l)) m
+    ∙ (ap (drop (length ys)) (drop-at (take at (bitsOf before) ++ xs) (drop (at + length xs) (bitsOf before)) (at + length xs) both)
+    ∙ (drop-drop (length ys) (at + length xs) (bitsOf before)
+    ∙ ap (λ n. drop n (bitsOf before)) {x = at + length xs + length ys} {y = at + length (xs ++ ys)} (omega (arith, length-append xs ys))))) in
+    record {
+      same-length = q .same-length ∙ p .same-length;
+      bits =
+        q .bits
+        ∙ (ap (λ l. l ++ (ys ++ drop (at + length xs + length ys) (bitsOf mid))) t
+        ∙ (ap (λ l. (take at (bitsOf before) ++ xs) ++ (ys ++ l)) d
+        ∙ (append-assoc (take at (bitsOf before)) xs (ys ++ drop (at + length (xs ++ ys)) (bitsOf before))
+        ∙ ap (λ l. take at (bitsOf before) ++ l) (sym (append-assoc xs ys (drop (at + length (xs ++ ys)) (bitsOf before)))))));
+    }
+
+-- a sign and a number are a letter's bits
+pub signed-written : (size width x : ℕ) → x < 256 → width ≡ letterWidth size → digits 1 (x / 128) ++ digits width (x % 128 - 1) ≡ signedBits size (letter x)
+signed-written size width x h e = ap (λ w. digits 1 (x / 128) ++ digits w (x % 128 - 1)) e ∙ by-sign (ltb x 128) refl
+  where
+    by-sign : (t : Bool) → ltb x 128 ≡ t → digits 1 (x / 128) ++ letterBits size (x % 128) ≡ signedBits size (cond t (forward x) (back (x - 128)))
+    by-sign true s =
+        let l : x < 128 = ltb-true x 128 s in
+        ap (λ v. digits 1 v ++ letterBits size (x % 128)) {x = x / 128} {y = 0} (omega arith) ∙ ap (λ v. 0 ∷ letterBits size v) {x = x % 128} {y = x} (omega arith)
+    by-sign false s =
+        let l : 128 ≤ x = borrow.Author.Tests.ltb-false x 128 s in
+        ap (λ v. digits 1 v ++ letterBits size (x % 128)) {x = x / 128} {y = 1} (omega arith) ∙ ap (λ v. 1 ∷ letterBits size v) {x = x % 128} {y = x - 128} (omega arith)
+
+pub named-positive : (size x : ℕ) → namesLetter size x ≡ true → 1 ≤ x % 128
+named-positive size x e = leb-true 1 (x % 128) (and-first (leb 1 (x % 128)) (leb (x % 128) size) e)
+
+pub named-small : (size x : ℕ) → namesLetter size x ≡ true → x % 128 ≤ size
+named-small size x e = leb-true (x % 128) size (and-second (leb 1 (x % 128)) (leb (x % 128) size) e)
+
+-- the letters of a program, one more at a time
+concat-append : {A : Type 0} (f : A → List ℕ) (xs ys : List A) → concatMap f (xs ++ ys) ≡ concatMap f xs ++ concatMap f ys
+concat-append f [] ys = refl
+concat-append f (x ∷ xs) ys = ap (λ l. f x ++ l) (concat-append f xs ys) ∙ sym (append-assoc (f x) (concatMap f xs) (concatMap f ys))
+
+length-concat : {A : Type 0} (f : A → List ℕ) (size : ℕ) → ((x : A) → length (f x) ≡ size) → (xs : List A) → length (concatMap f xs) ≡ length xs * size
+length-concat f size h [] = sym (native.Mathlib.Nat.zero-mul size)
+length-concat f size h (x ∷ xs) = length-append (f x) (concatMap f xs) ∙ omega (arith, h x, length-concat f size h xs, suc-mul (length xs) size)
+
+-- the bits of the first i letters
+unfoldable pub firstBits : ℕ → List ℕ → ℕ → List ℕ
+firstBits size plain i = concatMap (signedBits size) (map letter (take i plain))
+
+module _ (size width : ℕ) (width-is : width ≡ letterWidth size) (plain : List ℕ) where
+  pub first-length : (i : ℕ) → i ≤ length plain → length (firstBits size plain i) ≡ i * (1 + width)
+  unfolding firstBits
+  first-length i h =
+      length-concat (signedBits size) (1 + width) (λ x. length-signed size x ∙ ap (λ w. 1 + w) (sym width-is)) (map letter (take i plain))
+      ∙ ap (λ n. n * (1 + width)) (length-map (take i plain) letter ∙ length-take-le i plain h)
+
+  pub first-more : (i : ℕ) → i < length plain → firstBits size plain i ++ signedBits size (letter (getD plain i 0)) ≡ firstBits size plain (i + 1)
+  unfolding firstBits
+  first-more i h =
+      ap (λ l. concatMap (signedBits size) (map letter (take i plain)) ++ l) (sym (append-nil (signedBits size (letter (getD plain i 0)))))
+      ∙ (sym (concat-append (signedBits size) (map letter (take i plain)) (letter (getD plain i 0) ∷ []))
+      ∙ ap (concatMap (signedBits size)) (one-letter (take i plain) (getD plain i 0) ∙ ap (map letter) (sym (take-suc plain i 0 h) ∙ ap (λ k. take k plain) (sym (add-one i)))))
+    where
+      one-letter : (xs : List ℕ) (x : ℕ) → map letter xs ++ (letter x ∷ []) ≡ map letter (xs ++ (x ∷ []))
+      one-letter [] x = refl
+      one-letter (y ∷ xs) x = ap (λ l. letter y ∷ l) (one-letter xs x)
+
+  pub first-none : [] ≡ firstBits size plain 0
+  unfolding firstBits
+  first-none = refl
+
+  pub first-all : (i : ℕ) → length plain ≤ i → digits 12 (length plain) ++ firstBits size plain i ≡ programBits size plain
+  unfolding firstBits programBits
+  first-all i h = ap (λ l. digits 12 (length plain) ++ concatMap (signedBits size) (map letter l)) (take-all i plain h)
+
+  pub program-length : length (programBits size plain) ≡ 12 + length plain * (1 + width)
+  program-length =
+      ap length (sym (first-all (length plain) (omega arith)))
+      ∙ (length-append (digits 12 (length plain)) (firstBits size plain (length plain))
+      ∙ omega (arith, length-digits 12 (length plain), first-length (length plain) (omega arith)))
+
+pub program-bits : (size : ℕ) (plain : List ℕ) → AreBits (programBits size plain)
+unfolding programBits
+program-bits size plain =
+    bits-append (digits 12 (length plain)) (concatMap (signedBits size) (map letter plain)) (digits-are-bits 12 (length plain)) (concat-bits (signedBits size) (signed-are-bits size) (map letter plain))
+
+pub program-image : (size : ℕ) (plain : List ℕ) → programImage size (map letter plain) ≡ pack (programBits size plain)
+unfolding programBits programImage
+program-image size plain = ap (λ n. pack (digits 12 n ++ concatMap (signedBits size) (map letter plain))) (length-map plain letter)
+
+-- THE WHOLE IMAGE
+
+zero-bits : digits 8 0 ≡ replicate 8 0
+zero-bits = refl
+
+drop-zeros : (n k : ℕ) → drop {A = ℕ} n (replicate k 0) ≡ replicate (k - n) 0
+drop-zeros zero k = ap (λ m. replicate m 0) {x = k} {y = k - 0} (omega arith)
+drop-zeros (suc n) zero = ap (λ m. replicate m 0) {x = 0} {y = 0 - suc n} (omega arith)
+drop-zeros (suc n) (suc k) = drop-zeros n k ∙ ap (λ m. replicate m 0) {x = k - n} {y = suc k - suc n} (omega arith)
+
+-- an area whose last byte of the image was cleared before the bits were written holds the image, and is as it was from there on
+pub image-written : (before after bits : List ℕ) → AreBytes before → AreBytes after → AreBits bits → 1 ≤ length bits → bytesFor (length bits) ≤ length before
+    → Appended (set before (bytesFor (length bits) - 1) 0) 0 bits after → after ≡ begins (pack bits) before
+image-written before after bits ob nb r some fits w =
+    let k = bytesFor (length bits) - 1 in
+    let inside : bytesFor (length bits) - 1 < length before = omega arith in
+    let n : length (bitsOf (take (bytesFor (length bits) - 1) before)) ≡ 8 * (bytesFor (length bits) - 1) =
+    length-bits (take (bytesFor (length bits) - 1) before) ∙ ap (λ n. 8 * n) (length-take-le (bytesFor (length bits) - 1) before (omega arith)) in
+    let up : suc (bytesFor (length bits) - 1) ≡ bytesFor (length bits) = omega arith in
+    let packed-length : length (pack bits) ≡ bytesFor (length bits) = length-packed (bytesFor (length bits)) bits in
+    let tail : drop (length bits) (bitsOf (set before (bytesFor (length bits) - 1) 0)) ≡ replicate (8 * bytesFor (length bits) - length bits) 0 ++ bitsOf (drop (bytesFor (length bits)) before) =
+    ap (drop (length bits)) (bits-store before (bytesFor (length bits) - 1) 0 inside)
+    ∙ (ap (λ m. drop m (bitsOf (take (bytesFor (length bits) - 1) before) ++ (replicate 8 0 ++ bitsOf (drop (suc (bytesFor (length bits) - 1)) before)))) {x = length bits} {y = length (bitsOf (take (bytesFor (length bits) - 1) before)) + (length bits - 8 * (bytesFor (length bits) - 1))} (omega arith)
+    ∙ (drop-append-add (bitsOf (take (bytesFor (length bits) - 1) before)) (replicate 8 0 ++ bitsOf (drop (suc (bytesFor (length bits) - 1)) before)) (length bits - 8 * (bytesFor (length bits) - 1))
+    ∙ (drop-append-le (length bits - 8 * (bytesFor (length bits) - 1)) (replicate 8 0) (bitsOf (drop (suc (bytesFor (length bits) - 1)) before)) (omega (arith, length-replicate {A = ℕ} 8 0))
+    ∙ (ap (λ l. l ++ bitsOf (drop (suc (bytesFor (length bits) - 1)) before)) (drop-zeros (length bits - 8 * (bytesFor (length bits) - 1)) 8)
+    ∙ (ap (λ m. replicate m 0 ++ bitsOf (drop (suc (bytesFor (length bits) - 1)) before)) {x = 8 - (length bits - 8 * (bytesFor (length bits) - 1))} {y = 8 * bytesFor (length bits) - length bits} (omega arith)
+    ∙ ap (λ m. replicate (8 * bytesFor (length bits) - length bits) 0 ++ bitsOf (drop m before)) up))))) in
+    let whole : bitsOf after ≡ bitsOf (pack bits ++ drop (bytesFor (length bits)) before) =
+    w .bits
+    ∙ (ap (λ m. bits ++ drop m (bitsOf (set before (bytesFor (length bits) - 1) 0))) {x = 0 + length bits} {y = length bits} (omega arith)
+    ∙ (ap (λ l. bits ++ l) tail
+    ∙ (sym (append-assoc bits (replicate (8 * bytesFor (length bits) - length bits) 0) (bitsOf (drop (bytesFor (length bits)) before)))
+    ∙ (ap (λ l. l ++ bitsOf (drop (bytesFor (length bits)) before)) (sym (pack-bits bits r))
+    ∙ sym (bits-of-append (pack bits) (drop (bytesFor (length bits)) before)))))) in
+    bits-injective after (pack bits ++ drop (bytesFor (length bits)) before) nb (bytes-append (pack bits) (drop (bytesFor (length bits)) before) (packed-bytes (bytesFor (length bits)) bits r) (bytes-drop (bytesFor (length bits)) before ob)) whole
+    ∙ ap (λ m. pack bits ++ drop m before) (sym packed-length)
+  where
+    bytes-append : (xs ys : List ℕ) → AreBytes xs → AreBytes ys → AreBytes (xs ++ ys)
+    bytes-append [] ys hx hy i = hy i
+    bytes-append (x ∷ xs) ys hx hy zero = hx 0
+    bytes-append (x ∷ xs) ys hx hy (suc i) = bytes-append xs ys (λ i. hx (suc i)) hy i
+    bytes-drop : (n : ℕ) (xs : List ℕ) → AreBytes xs → AreBytes (drop n xs)
+    bytes-drop zero xs h i = h i
+    bytes-drop (suc n) [] h i = h i
+    bytes-drop (suc n) (x ∷ xs) h i = bytes-drop n xs (λ i. h (suc i)) i

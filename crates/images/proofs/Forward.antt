@@ -1,0 +1,45 @@
+-- A program without back letters is read as its numbers.
+use mathlib.Core.Path.{_≡_, refl, sym, ap, subst, _∙_}
+use mathlib.Core.List.{List, [], _∷_, _++_, map}
+use mathlib.Core.Bool.{Bool, true, false, not}
+use Prim.Native.Nat.{ℕ, zero, suc, _+_, _≤_, _<_}
+use native.Mathlib.Omega.{arith}
+use lib.ListN.{length, length-map}
+use Rattle.model.specs.declared.answers.Refusal.{Refusal}
+use Rattle.model.specs.Word.{Letter, forward, back, Word, Positive, positive, forwards}
+use Rattle.model.specs.Outcome.{Outcome, answered, refused, _>>=_, unless}
+use Rattle.model.specs.Images.{readProgram}
+use Rattle.model.specs.Services.{isForward, readForward}
+use Rattle.model.specs.Stated.{refusal}
+use Rattle.images.specs.Programs.{ProgramOf, ForwardOf}
+use Rattle.images.proofs.Refusals.{refused-on}
+
+positive-forwards : (w : Word) → isForward w ≡ true → w ≡ positive (forwards w)
+positive-forwards [] e = refl
+positive-forwards (forward a ∷ w) e = ap (λ l. forward a ∷ l) (positive-forwards w e)
+positive-forwards (back a ∷ w) e = absurd (let z : _≡_ {A = ℕ} 0 1 = cc in omega arith)
+
+module _ (image : List ℕ) (size : ℕ) where
+  unfoldable forwardOf : Word → Outcome Positive
+  forwardOf w = unless (not (isForward w)) 7 (forwards w)
+
+  pub forward-refused : (r : Refusal) → readProgram size image ≡ refusal r → readForward size image ≡ refusal r
+  unfolding readForward forwardOf
+  forward-refused r e = refused-on (readProgram size image) forwardOf r e
+
+  module _ (count : ℕ) (p : ProgramOf image size count) where
+    read-is : readForward size image ≡ unless (not (isForward (p .word))) 7 (forwards (p .word))
+    unfolding readForward forwardOf
+    read-is = ap (λ o. o >>= forwardOf) (p .read)
+
+    pub forward-read : isForward (p .word) ≡ true → ForwardOf image size count
+    forward-read f =
+        record {
+          word = forwards (p .word);
+          read = read-is ∙ ap (λ t. unless (not t) 7 (forwards (p .word))) f;
+          read-signed = p .read ∙ ap answered (positive-forwards (p .word) f);
+          count-is = sym (ap length (positive-forwards (p .word) f) ∙ length-map (forwards (p .word)) forward) ∙ p .count-is;
+        }
+
+    pub back-read : isForward (p .word) ≡ false → readForward size image ≡ refused 7 []
+    back-read f = read-is ∙ ap (λ t. unless (not t) 7 (forwards (p .word))) f

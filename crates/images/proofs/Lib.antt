@@ -1,0 +1,17 @@
+pub mod Reading
+pub mod Several
+pub mod Signed
+pub mod Validating
+pub mod Codec
+pub mod Inverse
+pub mod RoundTrip
+pub mod Placed
+pub mod Letters
+pub mod Words
+pub mod Pairs
+pub mod Rows
+pub mod Refusals
+pub mod Entries
+pub mod Forward
+pub mod Appending
+pub mod Naming

@@ -1,0 +1,144 @@
+-- Reading a pair of a table into its two cells.
+use mathlib.Core.Path.{_≡_, refl, sym, ap, subst, _∙_}
+use mathlib.Core.Logic.{_⊎_, inl, inr, ⊎-elim}
+use mathlib.Core.Bool.{Bool, true, false, cond}
+use mathlib.Core.List.{List, [], _∷_, _++_}
+use Prim.Native.Nat.{ℕ, zero, suc, _+_, _-_, _*_, _≤_, _<_}
+use native.Mathlib.Omega.{arith}
+use borrow.Author.Tests.{eq-eqb, ne-eqb}
+use lib.Dec.{eqb}
+use lib.ListN.{length, set, getD, length-set}
+use lib.Seq.{getD-set-same, getD-set-other}
+use Rattle.model.specs.Word.{Positive}
+use Rattle.model.specs.Presentation.{Complement, undefined, complement, swapped}
+use Rattle.model.specs.Outcome.{Outcome, answered, refused, _>>=_}
+use Rattle.model.specs.Bits.{Read, field}
+use Rattle.model.specs.Images.{wordField, definedField, pairField}
+use Rattle.bits.proofs.Packing.{below-or}
+use Rattle.images.specs.declared.tables.TablePart.{TablePart}
+use Rattle.images.specs.declared.tables.TablePart.the-variants.{Next, Ends, Wrong}
+use Rattle.images.specs.Fields.{FieldAt, from}
+use Rattle.images.specs.Cells.{Letters, cellAt, HoldsWord, Holds}
+use Rattle.images.specs.Tables.{After, KeptOutside, WordAt, WordDone, SameCell, HoldsPair, PairAt, PairDone}
+use Rattle.images.proofs.Codec.{then}
+
+-- different cells lie apart
+pub apart : (p q a b k : ℕ) → Letters p q → Letters a b → ((p ≡ a) × (q ≡ b) → ⊥) → k < 16
+    → (cellAt p q + k < cellAt a b) ⊎ (cellAt a b + 16 ≤ cellAt p q + k)
+apart p q a b k lp la d h =
+    ⊎-elim
+    (λ (l : cellAt p q < cellAt a b). inl (omega arith))
+    (λ (l : cellAt a b ≤ cellAt p q).
+      ⊎-elim
+      (λ (m : cellAt a b < cellAt p q). inr (omega arith))
+      (λ (m : cellAt p q ≤ cellAt a b).
+        let first : p ≡ a = omega (arith, lp .a-positive, lp .b-positive, lp .b-small, la .a-positive, la .b-positive, la .b-small) in
+        let second : q ≡ b = omega (arith, lp .a-positive, lp .b-positive, lp .b-small, la .a-positive, la .b-positive, la .b-small) in
+        absurd (d (first, second)))
+      (below-or (cellAt a b) (cellAt p q)))
+    (below-or (cellAt p q) (cellAt a b))
+
+pub kept-cell : (before after : List ℕ) (p q a b : ℕ) → Letters p q → Letters a b → ((p ≡ a) × (q ≡ b) → ⊥) → KeptOutside before (cellAt a b) after → SameCell before after p q
+kept-cell before after p q a b lp la d kept k h = kept (cellAt p q + k) (apart p q a b k lp la d h)
+
+pub same-cell-after : (before mid after : List ℕ) (p q : ℕ) → SameCell before mid p q → SameCell mid after p q → SameCell before after p q
+same-cell-after before mid after p q f g k h = g k h ∙ f k h
+
+-- what a cell holds stays as long as its bytes do
+pub holds-word-kept : (size : ℕ) (before after : List ℕ) (p q : ℕ) (x : Positive) → SameCell before after p q → HoldsWord size before (cellAt p q) x → HoldsWord size after (cellAt p q) x
+holds-word-kept size before after p q x s h =
+    let zero-th : cellAt p q + 0 ≡ cellAt p q = omega arith in
+    record {
+      count = subst (λ i. getD after i 0 ≡ getD before i 0) zero-th (s 0 (omega arith)) ∙ h .count;
+      letters = λ k l.
+        let e : cellAt p q + (1 + k) ≡ cellAt p q + 1 + k = omega arith in
+        subst (λ i. getD after i 0 ≡ getD before i 0) e (s (1 + k) (omega (arith, h .in-range .short))) ∙ h .letters k l;
+      in-range = h .in-range;
+    }
+
+pub holds-kept : (size : ℕ) (before after : List ℕ) (p q : ℕ) (c : Complement) → SameCell before after p q → Holds size before (cellAt p q) c → Holds size after (cellAt p q) c
+holds-kept size before after p q undefined s h =
+    let zero-th : cellAt p q + 0 ≡ cellAt p q = omega arith in
+    subst (λ i. getD after i 0 ≡ getD before i 0) zero-th (s 0 (omega arith)) ∙ h
+holds-kept size before after p q (complement x y) s h = holds-word-kept size before after p q x s h
+
+pub swap-letters : (a b : ℕ) → Letters a b → Letters b a
+swap-letters a b l = record { a-positive = l .b-positive; a-small = l .b-small; b-positive = l .a-positive; b-small = l .a-small }
+
+unfoldable pairOf : ℕ → Read ℕ → Outcome (Read Complement)
+pairOf size bit = cond (eqb (bit .value) 0) (answered (record { value = undefined; rest = bit .rest })) (definedField size (bit .rest))
+
+unfoldable secondWord : ℕ → Read Positive → Outcome (Read Complement)
+secondWord size x = wordField size (x .rest) >>= λ y. answered (record { value = complement (x .value) (y .value); rest = y .rest })
+
+module _ (image : List ℕ) (at size : ℕ) (before : List ℕ) (a b : ℕ) (letters : Letters a b) (less : a < b) (full : length before ≡ 4096) where
+  pub bit-ends : ((early : ℕ) → field early 1 (from image at) ≡ refused early []) → pairField size (from image at) ≡ refused 1 []
+  unfolding pairOf
+  bit-ends e = ap (λ o. o >>= pairOf size) (e 1)
+
+  pub cell-inside : cellAt a b + 16 ≤ 4096
+  cell-inside = omega (arith, letters .a-positive, letters .a-small, letters .b-positive, letters .b-small)
+
+  pub back-inside : cellAt b a + 16 ≤ 4096
+  back-inside = omega (arith, letters .a-positive, letters .a-small, letters .b-positive, letters .b-small)
+
+  differ : (a ≡ b) × (b ≡ a) → ⊥
+  differ e = let f = e .0 in omega arith
+
+  module _ (bit : ℕ) (head : FieldAt image at 1 bit) where
+    undefined-read : bit ≡ 0 → pairField size (from image at) ≡ answered (record { value = undefined; rest = from image (at + 1) })
+    unfolding pairOf
+    undefined-read z =
+        ap (λ o. o >>= pairOf size) (head .read 1)
+        ∙ ap (λ t. cond t (answered (record { value = undefined; rest = from image (at + 1) })) (definedField size (from image (at + 1)))) (eq-eqb bit 0 z)
+
+    pub pair-undefined : bit ≡ 0 → PairAt image at size before a b (set (set before (cellAt a b) 255) (cellAt b a) 255) (at + 1)
+    pair-undefined z =
+        record {
+          pair = undefined;
+          read = undefined-read z;
+          position = record { inside = head .inside; near = omega arith };
+          holds =
+            record {
+              there =
+                getD-set-other (set before (cellAt a b) 255) (cellAt b a) (cellAt a b) 255 0 (λ e. omega (arith, letters .a-positive, letters .a-small, letters .b-positive, letters .b-small))
+                ∙ getD-set-same before (cellAt a b) 255 0 (omega (arith, cell-inside));
+              back = getD-set-same (set before (cellAt a b) 255) (cellAt b a) 255 0 (omega (arith, back-inside, length-set before (cellAt a b) 255));
+            };
+          kept = λ p q l d₁ d₂ k h.
+            getD-set-other (set before (cellAt a b) 255) (cellAt b a) (cellAt p q + k) 255 0 (λ e. ⊎-elim (λ (x : cellAt p q + k < cellAt b a). omega arith) (λ (x : cellAt b a + 16 ≤ cellAt p q + k). omega arith) (apart p q b a k l (swap-letters a b letters) d₂ h))
+            ∙ getD-set-other before (cellAt a b) (cellAt p q + k) 255 0 (λ e. ⊎-elim (λ (x : cellAt p q + k < cellAt a b). omega arith) (λ (x : cellAt a b + 16 ≤ cellAt p q + k). omega arith) (apart p q a b k l letters d₁ h));
+        }
+
+    module _ (one : bit ≡ 0 → ⊥) where
+      defined-is : pairField size (from image at) ≡ (wordField size (from image (at + 1)) >>= secondWord size)
+      unfolding pairOf secondWord
+      defined-is =
+          ap (λ o. o >>= pairOf size) (head .read 1)
+          ∙ ap (λ t. cond t (answered (record { value = undefined; rest = from image (at + 1) })) (definedField size (from image (at + 1)))) (ne-eqb bit 0 one)
+
+      pub first-refused : (n : ℕ) → wordField size (from image (at + 1)) ≡ refused n [] → pairField size (from image at) ≡ refused n []
+      first-refused n e = defined-is ∙ ap (λ o. o >>= secondWord size) e
+
+      module _ (mid : List ℕ) (next : ℕ) (x : WordAt image (at + 1) size before (cellAt a b) mid next) where
+        second-is : pairField size (from image at) ≡ (wordField size (from image next) >>= λ y. answered (record { value = complement (x .word) (y .value); rest = y .rest }))
+        unfolding secondWord
+        second-is = defined-is ∙ ap (λ o. o >>= secondWord size) (x .read)
+
+        -- the second word's answer is the pair's
+        pub second-done : (after : List ℕ) (r : TablePart) → WordDone image next size mid (cellAt b a) after r → PairDone image at size before a b after r
+        second-done after (Next last) y =
+            record {
+              pair = complement (x .word) (y .word);
+              read = second-is ∙ ap (λ o. o >>= λ y. answered (record { value = complement (x .word) (y .value); rest = y .rest })) (y .read);
+              position = record { inside = y .position .inside; near = omega (arith, y .position .near, x .position .near) };
+              holds =
+                record {
+                  there = holds-word-kept size mid after a b (x .word) (kept-cell mid after a b b a letters (swap-letters a b letters) differ (y .kept)) (x .holds);
+                  back = y .holds;
+                };
+              kept = λ p q l d₁ d₂.
+                same-cell-after before mid after p q (kept-cell before mid p q a b l letters d₁ (x .kept)) (kept-cell mid after p q b a l (swap-letters a b letters) d₂ (y .kept));
+            }
+        second-done after Ends y = second-is ∙ ap (λ o. o >>= λ y. answered (record { value = complement (x .word) (y .value); rest = y .rest })) y
+        second-done after Wrong y = second-is ∙ ap (λ o. o >>= λ y. answered (record { value = complement (x .word) (y .value); rest = y .rest })) y

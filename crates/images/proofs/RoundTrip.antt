@@ -1,0 +1,212 @@
+-- Every table, program and chain in range is read back from its image; and every image that is accepted is the image of what was read, so
+-- two different images never mean the same.
+use mathlib.Core.Path.{_≡_, refl, sym, ap, subst, _∙_}
+use mathlib.Core.List.{List, [], _∷_, _++_, append-assoc, append-nil}
+use mathlib.Core.Bool.{Bool, true, false, cond}
+use Prim.Native.Nat.{ℕ, zero, suc, _+_, _-_, _*_, _^_, _≤_, _<_}
+use native.Mathlib.Omega.{arith}
+use lib.ListN.{length, replicate}
+use Rattle.model.specs.Word.{Letter, forward, back, Word, Positive}
+use Rattle.model.specs.Presentation.{Presentation, Complement, undefined, complement}
+use Rattle.model.specs.Equivalence.{Entry}
+use Rattle.model.specs.Enumeration.{concatMap}
+use Rattle.model.specs.Outcome.{Outcome, answered, refused, _>>=_}
+use Rattle.model.specs.Bits.{Read, field, finish, filling, digits, bitsOf, bytesFor, pack, letterWidth}
+use Rattle.model.specs.Images.{several, rowsOf, letterBits, wordBits, pairField, pairBits, signedField, signedBits, entryField, entryBits, readTable, tableImage, readProgram, programImage, readChain, chainImage}
+use Rattle.bits.proofs.Digits.{AreBits, digits-are-bits, bits-append}
+use Rattle.bits.proofs.Bytes.{bits-are-bits}
+use Rattle.bits.proofs.Packing.{AreBytes, pack-bits, pack-filling, packed-of}
+use Rattle.images.specs.Range.{All, Rows, LetterInRange, PairInRange, EntryInRange, ProgramInRange, TableInRange, ChainInRange}
+use Rattle.images.proofs.Several.{answer-of, same-answer, bind-assoc}
+use Rattle.images.proofs.Codec.{Codec, then, field-codec, rows-codec, input-rest, bits-suffix}
+use Rattle.images.proofs.Inverse.{counted, counted-codec, signed-codec, pair-codec, entry-codec}
+
+-- an image: what a codec reads and writes, then the filling
+module _ {A : Type 0} (tail : ℕ) (reader : List ℕ → Outcome (Read A)) (write : A → List ℕ) (Range : A → Type 0) (one : Codec AreBits reader write Range) where
+  image-reads-back : (x : A) → Range x → AreBits (write x) → (reader (bitsOf (pack (write x))) >>= finish tail) ≡ answered x
+  unfolding finish
+  image-reads-back x h b =
+      ap (λ bits. reader bits >>= finish tail) (pack-bits (write x) b)
+      ∙ then (reader (write x ++ replicate (8 * bytesFor (length (write x)) - length (write x)) 0)) (finish tail)
+      (record { value = x; rest = replicate (8 * bytesFor (length (write x)) - length (write x)) 0 }) (answered x)
+      (one .reads-back x h (replicate (8 * bytesFor (length (write x)) - length (write x)) 0))
+      (ap (λ t. cond t (answered x) (refused tail [])) (pack-filling (write x)))
+
+  finished : (t : Bool) (v x : A) → cond t (answered v) (refused tail []) ≡ answered x → (t ≡ true) × (v ≡ x)
+  finished true v x e = (refl, same-answer v x e)
+  finished false v x e = absurd (let z : _≡_ {A = ℕ} 0 1 = cc in omega arith)
+
+  image-stood-there : (bytes : List ℕ) → AreBytes bytes → (x : A) → ((y : A) → Range y → AreBits (write y))
+      → (reader (bitsOf bytes) >>= finish tail) ≡ answered x → (bytes ≡ pack (write x)) × Range x
+  unfolding finish
+  image-stood-there bytes bs x b e =
+      let f = answer-of (reader (bitsOf bytes)) (finish tail) x e in
+      let p = finished (filling (f .0 .rest)) (f .0 .value) x (f .2) in
+      let s = one .stood-there (bitsOf bytes) (bits-are-bits bytes) (f .0) (f .1) in
+      let r = one .in-range (bitsOf bytes) (bits-are-bits bytes) (f .0) (f .1) in
+      subst (λ x. (bytes ≡ pack (write x)) × Range x) (p .1) (packed-of bytes (write (f .0 .value)) (f .0 .rest) bs (b (f .0 .value) r) s (p .0), r)
+
+  image-in-range : (bytes : List ℕ) (x : A) → (reader (bitsOf bytes) >>= finish tail) ≡ answered x → Range x
+  unfolding finish
+  image-in-range bytes x e =
+      let f = answer-of (reader (bitsOf bytes)) (finish tail) x e in
+      subst Range (finished (filling (f .0 .rest)) (f .0 .value) x (f .2) .1) (one .in-range (bitsOf bytes) (bits-are-bits bytes) (f .0) (f .1))
+
+-- what is written are bits
+pub concat-bits : {A : Type 0} (write : A → List ℕ) → ((x : A) → AreBits (write x)) → (xs : List A) → AreBits (concatMap write xs)
+concat-bits write b [] = tt
+concat-bits write b (x ∷ xs) = bits-append (write x) (concatMap write xs) (b x) (concat-bits write b xs)
+
+letter-are-bits : (n a : ℕ) → AreBits (letterBits n a)
+letter-are-bits n a = digits-are-bits (letterWidth n) (a - 1)
+
+pub word-are-bits : (n : ℕ) (x : Positive) → AreBits (wordBits n x)
+word-are-bits n x = bits-append (digits 4 (length x)) (concatMap (letterBits n) x) (digits-are-bits 4 (length x)) (concat-bits (letterBits n) (letter-are-bits n) x)
+
+pub pair-are-bits : (n : ℕ) (c : Complement) → AreBits (pairBits n c)
+pair-are-bits n undefined = (omega arith, tt)
+pair-are-bits n (complement x y) = (omega arith, bits-append (wordBits n x) (wordBits n y) (word-are-bits n x) (word-are-bits n y))
+
+pub signed-are-bits : (n : ℕ) (x : Letter) → AreBits (signedBits n x)
+signed-are-bits n (forward a) = (omega arith, letter-are-bits n a)
+signed-are-bits n (back a) = (omega arith, letter-are-bits n a)
+
+entry-are-bits : (n : ℕ) (e : Entry) → AreBits (entryBits n e)
+entry-are-bits n e = bits-append (digits 12 (e .offset)) (letterBits n (e .a) ++ letterBits n (e .b)) (digits-are-bits 12 (e .offset)) (bits-append (letterBits n (e .a)) (letterBits n (e .b)) (letter-are-bits n (e .a)) (letter-are-bits n (e .b)))
+
+-- PROGRAMS
+module _ (n : ℕ) (few : n ≤ 16) where
+  program-codec : Codec AreBits (counted 4 12 (signedField n) (signedBits n) (LetterInRange n) (signed-codec n few)) (λ w. digits 12 (length w) ++ concatMap (signedBits n) w) (λ w. (length w < 2 ^ 12) × All (LetterInRange n) w)
+  program-codec = counted-codec 4 12 (signedField n) (signedBits n) (LetterInRange n) (signed-codec n few)
+
+  program-bits : (w : Word) → AreBits (digits 12 (length w) ++ concatMap (signedBits n) w)
+  program-bits w = bits-append (digits 12 (length w)) (concatMap (signedBits n) w) (digits-are-bits 12 (length w)) (concat-bits (signedBits n) (signed-are-bits n) w)
+
+  program-is : (bytes : List ℕ) → readProgram n bytes ≡ (counted 4 12 (signedField n) (signedBits n) (LetterInRange n) (signed-codec n few) (bitsOf bytes) >>= finish 6)
+  unfolding readProgram
+  program-is bytes = sym (bind-assoc (field 4 12 (bitsOf bytes)) (λ k. several (signedField n) (k .value) (k .rest)) (finish 6))
+
+  pub program-reads-back : (w : Word) → ProgramInRange n w → readProgram n (programImage n w) ≡ answered w
+  unfolding programImage
+  program-reads-back w h =
+      program-is (programImage n w) ∙ image-reads-back 6 _ _ _ program-codec w (h .short, h .letters) (program-bits w)
+
+  pub program-image-of : (bytes : List ℕ) → AreBytes bytes → (w : Word) → readProgram n bytes ≡ answered w → (bytes ≡ programImage n w) × ProgramInRange n w
+  unfolding programImage
+  program-image-of bytes bs w e =
+      let p = image-stood-there 6 _ _ _ program-codec bytes bs w (λ w h. program-bits w) (sym (program-is bytes) ∙ e) in
+      (p .0, record { short = p .1 .0; letters = p .1 .1 })
+
+  pub program-in-range : (bytes : List ℕ) (w : Word) → readProgram n bytes ≡ answered w → ProgramInRange n w
+  program-in-range bytes w e =
+      let p = image-in-range 6 _ _ _ program-codec bytes w (sym (program-is bytes) ∙ e) in
+      record { short = p .0; letters = p .1 }
+
+-- CHAINS
+  chain-codec : Codec AreBits (counted 4 16 (entryField n) (entryBits n) (EntryInRange n) (entry-codec n few)) (λ es. digits 16 (length es) ++ concatMap (entryBits n) es) (λ es. (length es < 2 ^ 16) × All (EntryInRange n) es)
+  chain-codec = counted-codec 4 16 (entryField n) (entryBits n) (EntryInRange n) (entry-codec n few)
+
+  chain-bits : (es : List Entry) → AreBits (digits 16 (length es) ++ concatMap (entryBits n) es)
+  chain-bits es = bits-append (digits 16 (length es)) (concatMap (entryBits n) es) (digits-are-bits 16 (length es)) (concat-bits (entryBits n) (entry-are-bits n) es)
+
+  chain-is : (bytes : List ℕ) → readChain n bytes ≡ (counted 4 16 (entryField n) (entryBits n) (EntryInRange n) (entry-codec n few) (bitsOf bytes) >>= finish 6)
+  unfolding readChain
+  chain-is bytes = sym (bind-assoc (field 4 16 (bitsOf bytes)) (λ k. several (entryField n) (k .value) (k .rest)) (finish 6))
+
+  pub chain-reads-back : (es : List Entry) → ChainInRange n es → readChain n (chainImage n es) ≡ answered es
+  unfolding chainImage
+  chain-reads-back es h =
+      chain-is (chainImage n es) ∙ image-reads-back 6 _ _ _ chain-codec es (h .short, h .entries) (chain-bits es)
+
+  pub chain-image-of : (bytes : List ℕ) → AreBytes bytes → (es : List Entry) → readChain n bytes ≡ answered es → (bytes ≡ chainImage n es) × ChainInRange n es
+  unfolding chainImage
+  chain-image-of bytes bs es e =
+      let p = image-stood-there 6 _ _ _ chain-codec bytes bs es (λ es h. chain-bits es) (sym (chain-is bytes) ∙ e) in
+      (p .0, record { short = p .1 .0; entries = p .1 .1 })
+
+  pub chain-in-range : (bytes : List ℕ) (es : List Entry) → readChain n bytes ≡ answered es → ChainInRange n es
+  chain-in-range bytes es e =
+      let p = image-in-range 6 _ _ _ chain-codec bytes es (sym (chain-is bytes) ∙ e) in
+      record { short = p .0; entries = p .1 }
+
+-- TABLES
+rows-of : (n : ℕ) → n ≤ 16 → Codec AreBits (rowsOf (pairField n) n) (concatMap (concatMap (pairBits n))) (Rows (PairInRange n) n)
+rows-of n few = rows-codec AreBits bits-suffix (pairField n) (pairBits n) (PairInRange n) (pair-codec n few) n
+
+tableRows : Read ℕ → Outcome (Read Presentation)
+tableRows head =
+    rowsOf (pairField (head .value + 1)) (head .value + 1) (head .rest) >>= λ rs.
+    answered (record { value = record { size = head .value + 1; rows = rs .value }; rest = rs .rest })
+
+tableBody : List ℕ → Outcome (Read Presentation)
+unfolding tableRows
+tableBody input = field 1 4 input >>= tableRows
+
+tableBits : Presentation → List ℕ
+tableBits T = digits 4 (T .size - 1) ++ concatMap (concatMap (pairBits (T .size))) (T .rows)
+
+table-are-bits : (T : Presentation) → AreBits (tableBits T)
+unfolding tableBits
+table-are-bits T =
+    bits-append (digits 4 (T .size - 1)) (concatMap (concatMap (pairBits (T .size))) (T .rows)) (digits-are-bits 4 (T .size - 1)) (concat-bits (concatMap (pairBits (T .size))) (concat-bits (pairBits (T .size)) (pair-are-bits (T .size))) (T .rows))
+
+-- reading the rows under m + 1 letters
+rows-back : (m n : ℕ) → m + 1 ≡ n → n ≤ 16 → (rows : List (List Complement)) → Rows (PairInRange n) n rows → (rest : List ℕ)
+    → tableRows (record { value = m; rest = concatMap (concatMap (pairBits n)) rows ++ rest }) ≡ answered (record { value = record { size = n; rows = rows }; rest = rest })
+unfolding tableRows
+rows-back m n s few rows h rest =
+    ap (λ k. rowsOf (pairField k) k (concatMap (concatMap (pairBits n)) rows ++ rest) >>= λ rs. answered (record { value = record { size = k; rows = rs .value }; rest = rs .rest })) s
+    ∙ then (rowsOf (pairField n) n (concatMap (concatMap (pairBits n)) rows ++ rest)) (λ rs. answered (record { value = record { size = n; rows = rs .value }; rest = rs .rest })) (record { value = rows; rest = rest }) _
+    (rows-of n few .reads-back rows h rest) refl
+
+table-parts : (input : List ℕ) → AreBits input → (r : Read Presentation) → tableBody input ≡ answered r → (input ≡ tableBits (r .value) ++ r .rest) × TableInRange (r .value)
+unfolding tableBody tableRows tableBits
+table-parts input i r e =
+    let h = answer-of (field 1 4 input) tableRows r e in
+    let small : h .0 .value < 2 ^ 4 = field-codec 1 4 .in-range input i (h .0) (h .1) in
+    let j = input-rest AreBits bits-suffix (field-codec 1 4) input i (h .0) (h .1) in
+    let t = answer-of (rowsOf (pairField (h .0 .value + 1)) (h .0 .value + 1) (h .0 .rest)) (λ rs. answered (record { value = record { size = h .0 .value + 1; rows = rs .value }; rest = rs .rest })) r (h .2) in
+    let few : h .0 .value + 1 ≤ 16 = omega arith in
+    let less : h .0 .value + 1 - 1 ≡ h .0 .value = omega arith in
+    subst (λ r. (input ≡ tableBits (r .value) ++ r .rest) × TableInRange (r .value))
+    (same-answer (record { value = record { size = h .0 .value + 1; rows = t .0 .value }; rest = t .0 .rest }) r (t .2))
+    (
+      field-codec 1 4 .stood-there input i (h .0) (h .1)
+      ∙ (ap (λ l. digits 4 (h .0 .value) ++ l) (rows-of (h .0 .value + 1) few .stood-there (h .0 .rest) j (t .0) (t .1))
+      ∙ (ap (λ v. digits 4 v ++ (concatMap (concatMap (pairBits (h .0 .value + 1))) (t .0 .value) ++ t .0 .rest)) (sym less)
+      ∙ sym (append-assoc (digits 4 (h .0 .value + 1 - 1)) (concatMap (concatMap (pairBits (h .0 .value + 1))) (t .0 .value)) (t .0 .rest)))),
+      record { some = omega arith; few = few; pairs = rows-of (h .0 .value + 1) few .in-range (h .0 .rest) j (t .0) (t .1) },
+    )
+
+table-codec : Codec AreBits tableBody tableBits TableInRange
+unfolding tableBody tableBits
+table-codec =
+    record {
+      reads-back = λ T h rest.
+        ap tableBody (append-assoc (digits 4 (T .size - 1)) (concatMap (concatMap (pairBits (T .size))) (T .rows)) rest)
+        ∙ then (field 1 4 (digits 4 (T .size - 1) ++ (concatMap (concatMap (pairBits (T .size))) (T .rows) ++ rest))) tableRows (record { value = T .size - 1; rest = concatMap (concatMap (pairBits (T .size))) (T .rows) ++ rest }) _
+        (field-codec 1 4 .reads-back (T .size - 1) (omega (arith, h .few)) (concatMap (concatMap (pairBits (T .size))) (T .rows) ++ rest))
+        (rows-back (T .size - 1) (T .size) (omega (arith, h .some)) (h .few) (T .rows) (h .pairs) rest);
+      stood-there = λ input i r e. table-parts input i r e .0;
+      in-range = λ input i r e. table-parts input i r e .1;
+    }
+
+table-is : (bytes : List ℕ) → readTable bytes ≡ (tableBody (bitsOf bytes) >>= finish 3)
+unfolding readTable tableBody tableRows
+table-is bytes = sym (bind-assoc (field 1 4 (bitsOf bytes)) tableRows (finish 3) ∙ at-head (field 1 4 (bitsOf bytes)))
+  where
+    at-head : (o : Outcome (Read ℕ)) → (o >>= λ head. tableRows head >>= finish 3)
+        ≡ (o >>= λ head. rowsOf (pairField (head .value + 1)) (head .value + 1) (head .rest) >>= λ rs. finish 3 (record { value = record { size = head .value + 1; rows = rs .value }; rest = rs .rest }))
+    at-head (answered head) = bind-assoc (rowsOf (pairField (head .value + 1)) (head .value + 1) (head .rest)) (λ rs. answered (record { value = record { size = head .value + 1; rows = rs .value }; rest = rs .rest })) (finish 3)
+    at-head (refused n ps) = refl
+
+pub table-reads-back : (T : Presentation) → TableInRange T → readTable (tableImage T) ≡ answered T
+unfolding tableImage tableBits
+table-reads-back T h = table-is (tableImage T) ∙ image-reads-back 3 tableBody tableBits TableInRange table-codec T h (table-are-bits T)
+
+pub table-image-of : (bytes : List ℕ) → AreBytes bytes → (T : Presentation) → readTable bytes ≡ answered T → (bytes ≡ tableImage T) × TableInRange T
+unfolding tableImage tableBits
+table-image-of bytes bs T e = image-stood-there 3 tableBody tableBits TableInRange table-codec bytes bs T (λ T h. table-are-bits T) (sym (table-is bytes) ∙ e)
+
+pub table-in-range : (bytes : List ℕ) (T : Presentation) → readTable bytes ≡ answered T → TableInRange T
+table-in-range bytes T e = image-in-range 3 tableBody tableBits TableInRange table-codec bytes T (sym (table-is bytes) ∙ e)

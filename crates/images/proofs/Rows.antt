@@ -1,0 +1,292 @@
+-- Reading the rows of a table into its cells: the pairs and rows read so far, what is left to read, and what the cells hold.
+use mathlib.Core.Path.{_≡_, refl, sym, ap, subst, _∙_}
+use mathlib.Core.Logic.{_⊎_, inl, inr, ⊎-elim}
+use mathlib.Core.Bool.{Bool, true, false, _&&_, cond}
+use mathlib.Core.List.{List, [], _∷_, _++_}
+use Prim.Native.Nat.{ℕ, zero, suc, _+_, _-_, _*_, _^_, _≤_, _<_}
+use native.Mathlib.Omega.{arith}
+use borrow.Author.Tests.{ne-eqb, lt-ltb, le-ltb, le-leb}
+use lib.Dec.{eqb, ltb, leb}
+use lib.ListN.{length, getD, length-append, List·getD-append}
+use lib.Seq.{getD-at}
+use Rattle.model.specs.Presentation.{Presentation, Complement, undefined, complement, swapped, listed, complete}
+use Rattle.model.specs.Outcome.{Outcome, answered, refused, _>>=_}
+use Rattle.model.specs.Bits.{Read, field, finish, filling}
+use Rattle.model.specs.Images.{pairField, several, rowsOf, readTable}
+use Rattle.bits.proofs.Packing.{below-or}
+use Rattle.images.specs.Fields.{FieldAt, from}
+use Rattle.images.specs.Cells.{Letters, cellAt, Holds, Stands}
+use Rattle.images.specs.Tables.{After, SameCell, HoldsPair, HoldsRow, PairAt, RowAt, TableOf, TableDone, SizeDone}
+use Rattle.images.specs.declared.tables.TableRead.{TableRead}
+use Rattle.images.specs.declared.tables.TableRead.the-variants.{Table, Refused}
+use Rattle.images.proofs.Several.{after, after-none, several-step, several-refused, several-done, several-length, rows-step, rows-refused, rows-done}
+use Rattle.images.proofs.Pairs.{holds-kept, same-cell-after, swap-letters}
+
+-- what holds of each index before the last and of the last holds of each
+pub one-more : {A : Type 0} (P : ℕ → A → Type 0) (xs : List A) (x d : A) → ((j : ℕ) → j < length xs → P j (getD xs j d)) → P (length xs) x
+    → (j : ℕ) → j < length (xs ++ (x ∷ [])) → P j (getD (xs ++ (x ∷ [])) j d)
+one-more P xs x d old new j h =
+    ⊎-elim
+    (λ (b : j < length xs). subst (P j) (sym (List·getD-append xs (x ∷ []) d j b)) (old j b))
+    (λ (b : length xs ≤ j).
+      let e : length xs ≡ j = omega (arith, length-append xs (x ∷ [])) in
+      subst (λ j. P j (getD (xs ++ (x ∷ [])) j d)) e (subst (P (length xs)) (sym (getD-at xs x [] d (length xs) refl)) new))
+    (below-or j (length xs))
+
+pub holds-pair-kept : (size : ℕ) (before after : List ℕ) (a b : ℕ) (c : Complement) → SameCell before after a b → SameCell before after b a → HoldsPair size before a b c → HoldsPair size after a b c
+holds-pair-kept size before after a b c there back h =
+    record { there = holds-kept size before after a b c there (h .there); back = holds-kept size before after b a (swapped c) back (h .back) }
+
+pub record RowFilled (image : List ℕ) (at size : ℕ) (before : List ℕ) (a : ℕ) (cells : List ℕ) (next b : ℕ) : Type 0 where
+  pub above : a < b
+  pub some-left : b ≤ size + 1
+  pub inside : next ≤ 8 * length image
+  pub near : next + 129 * (a + 1) ≤ at + 129 * b
+  pub same-length : length cells ≡ length before
+  pub done : List Complement
+  pub done-length : a + 1 + length done ≡ b
+  pub resumed : several (pairField size) (size - a) (from image at) ≡ after done (several (pairField size) (size + 1 - b) (from image next))
+  pub holds : HoldsRow size cells a done
+  pub kept : (p q : ℕ) → Letters p q → (p < a) ⊎ (q < a) → SameCell before cells p q
+
+module _ (image : List ℕ) (at size : ℕ) (before : List ℕ) (a : ℕ) (inside : at ≤ 8 * length image) (positive : 1 ≤ a) (small : a ≤ size) (few : size ≤ 16) where
+  pub row-none : RowFilled image at size before a before at (a + 1)
+  row-none =
+      record {
+        above = omega arith;
+        some-left = omega arith;
+        inside = inside;
+        near = omega arith;
+        same-length = refl;
+        done = [];
+        done-length = omega arith;
+        resumed = sym (after-none (several (pairField size) (size + 1 - (a + 1)) (from image at)) ∙ ap (λ k. several (pairField size) k (from image at)) {x = size + 1 - (a + 1)} {y = size - a} (omega arith));
+        holds = λ j h. absurd (omega arith);
+        kept = λ p q l o k h. refl;
+      }
+
+  module _ (cells : List ℕ) (next b : ℕ) (f : RowFilled image at size before a cells next b) where
+    left : b ≤ size → size + 1 - b ≡ suc (size + 1 - (b + 1))
+    left h = omega arith
+
+    pub pair-letters : b ≤ size → Letters a b
+    pair-letters h = record { a-positive = positive; a-small = omega arith; b-positive = omega (arith, f .above); b-small = omega arith }
+
+    pub row-more : b ≤ size → (cells' : List ℕ) (next' : ℕ) → length cells' ≡ length cells → PairAt image next size cells a b cells' next' → RowFilled image at size before a cells' next' (b + 1)
+    row-more h cells' next' same p =
+        let n : a + 1 + length (f .done) ≡ b = f .done-length in
+        record {
+          above = omega (arith, f .above);
+          some-left = omega arith;
+          inside = p .position .inside;
+          near = omega (arith, f .near, p .position .near);
+          same-length = same ∙ f .same-length;
+          done = f .done ++ (p .pair ∷ []);
+          done-length = omega (arith, length-append (f .done) (p .pair ∷ []));
+          resumed =
+            f .resumed
+            ∙ (ap (λ k. after (f .done) (several (pairField size) k (from image next))) (left h)
+            ∙ several-step (pairField size) (f .done) (size + 1 - (b + 1)) (from image next) (record { value = p .pair; rest = from image next' }) (p .read));
+          holds =
+            one-more (λ j c. HoldsPair size cells' a (a + 1 + j) c) (f .done) (p .pair) undefined
+            (λ j l.
+              let letters : Letters a (a + 1 + j) = record { a-positive = positive; a-small = omega arith; b-positive = omega arith; b-small = omega arith } in
+              holds-pair-kept size cells cells' a (a + 1 + j) (getD (f .done) j undefined)
+              (p .kept a (a + 1 + j) letters (λ e. let x = e .1 in omega arith) (λ e. let x = e .0 in omega (arith, f .above)))
+              (p .kept (a + 1 + j) a (swap-letters a (a + 1 + j) letters) (λ e. let x = e .0 in omega arith) (λ e. let x = e .0 in omega arith))
+              (f .holds j l))
+            (subst (λ b. HoldsPair size cells' a b (p .pair)) (sym n) (p .holds));
+          kept = λ u v l o.
+            same-cell-after before cells cells' u v (f .kept u v l o)
+            (p .kept u v l
+              (λ e. ⊎-elim (λ (x : u < a). let y = e .0 in omega arith) (λ (x : v < a). let y = e .1 in omega (arith, f .above)) o)
+              (λ e. ⊎-elim (λ (x : u < a). let y = e .0 in omega (arith, f .above)) (λ (x : v < a). let y = e .1 in omega arith) o));
+        }
+
+    pub pair-refused : (n : ℕ) → b ≤ size → pairField size (from image next) ≡ refused n [] → several (pairField size) (size - a) (from image at) ≡ refused n []
+    pair-refused n h e =
+        f .resumed
+        ∙ (ap (λ k. after (f .done) (several (pairField size) k (from image next))) (left h)
+        ∙ several-refused (pairField size) (f .done) (size + 1 - (b + 1)) (from image next) n [] e)
+
+    pub row-answered : size < b → RowAt image at size before a cells next
+    row-answered h =
+        record {
+          row = f .done;
+          read =
+            f .resumed
+            ∙ (ap (λ k. after (f .done) (several (pairField size) k (from image next))) {x = size + 1 - b} {y = 0} (omega arith)
+            ∙ several-done (pairField size) (f .done) (from image next));
+          position = record { inside = f .inside; near = omega (arith, f .near, f .some-left) };
+          holds = f .holds;
+          kept = f .kept;
+        }
+
+-- ROWS
+
+pub record RowsFilled (image : List ℕ) (size : ℕ) (cells : List ℕ) (at a : ℕ) : Type 0 where
+  pub positive : 1 ≤ a
+  pub some-left : a ≤ size + 1
+  pub inside : at ≤ 8 * length image
+  pub near : at + 2064 ≤ 4 + 2064 * a
+  pub full : length cells ≡ 4096
+  pub done : List (List Complement)
+  pub done-length : 1 + length done ≡ a
+  pub resumed : rowsOf (pairField size) size (from image 4) ≡ after done (rowsOf (pairField size) (size + 1 - a) (from image at))
+  pub widths : (i : ℕ) → i < length done → length (getD done i []) ≡ size - (1 + i)
+  pub holds : (i : ℕ) → i < length done → HoldsRow size cells (1 + i) (getD done i [])
+
+unfoldable afterHead : Read ℕ → Outcome Presentation
+afterHead head =
+    rowsOf (pairField (head .value + 1)) (head .value + 1) (head .rest) >>= λ rs.
+    finish 3 (record { value = record { size = head .value + 1; rows = rs .value }; rest = rs .rest })
+
+unfoldable afterRows : ℕ → Outcome (Read (List (List Complement))) → Outcome Presentation
+afterRows size o = o >>= λ rs. finish 3 (record { value = record { size = size; rows = rs .value }; rest = rs .rest })
+
+pub head-ends : (image : List ℕ) → ((early : ℕ) → field early 4 (from image 0) ≡ refused early []) → readTable image ≡ refused 1 []
+unfolding readTable afterHead
+head-ends image e = ap (λ o. o >>= afterHead) (e 1)
+
+-- the pair a, b, whichever way round, from its row
+module _ (cells : List ℕ) (size : ℕ) (rows : List (List Complement)) (few : size ≤ 16)
+    (holds : (i : ℕ) → i < length rows → HoldsRow size cells (1 + i) (getD rows i []))
+    (many : length rows ≡ size) (widths : (i : ℕ) → i < length rows → length (getD rows i []) ≡ size - (1 + i)) where
+  abbrev T : Presentation
+  T = record { size = size; rows = rows }
+
+  listed-is : (a b : ℕ) → 1 ≤ a → b ≤ size → listed T a b ≡ getD (getD rows (a - 1) []) (b - a - 1) undefined
+  listed-is a b ha hb =
+      ap (λ t. cond (t && leb b size) (getD (getD rows (a - 1) []) (b - a - 1) undefined) undefined) (le-leb 1 a ha)
+      ∙ ap (λ t. cond t (getD (getD rows (a - 1) []) (b - a - 1) undefined) undefined) (le-leb b size hb)
+
+  listed-holds : (a b : ℕ) → 1 ≤ a → a < b → b ≤ size → HoldsPair size cells a b (listed T a b)
+  listed-holds a b ha h hb =
+      let i : a - 1 < length rows = omega arith in
+      let j : b - a - 1 < length (getD rows (a - 1) []) = omega (arith, widths (a - 1) i) in
+      let ea : 1 + (a - 1) ≡ a = omega arith in
+      let eb : a + 1 + (b - a - 1) ≡ b = omega arith in
+      let raw : HoldsPair size cells (1 + (a - 1)) (1 + (a - 1) + 1 + (b - a - 1)) (getD (getD rows (a - 1) []) (b - a - 1) undefined) = holds (a - 1) i (b - a - 1) j in
+      subst (HoldsPair size cells a b) (sym (listed-is a b ha hb))
+      (subst (λ q. HoldsPair size cells a q (getD (getD rows (a - 1) []) (b - a - 1) undefined)) eb
+      (subst (λ p. HoldsPair size cells p (p + 1 + (b - a - 1)) (getD (getD rows (a - 1) []) (b - a - 1) undefined)) ea raw))
+
+  pub complete-holds : (a b : ℕ) → 1 ≤ a → a ≤ size → 1 ≤ b → b ≤ size → (a ≡ b → ⊥) → Holds size cells (cellAt a b) (complete T a b)
+  unfolding complete
+  complete-holds a b ha la hb lb d =
+      subst (λ t. Holds size cells (cellAt a b) (cond t (complement [] []) (cond (ltb a b) (listed T a b) (swapped (listed T b a))))) (sym (ne-eqb a b d))
+      (⊎-elim
+      (λ (h : a < b). subst (λ t. Holds size cells (cellAt a b) (cond t (listed T a b) (swapped (listed T b a)))) (sym (lt-ltb a b h)) (listed-holds a b ha h lb .there))
+      (λ (h : b ≤ a). subst (λ t. Holds size cells (cellAt a b) (cond t (listed T a b) (swapped (listed T b a)))) (sym (le-ltb a b h)) (listed-holds b a hb (differ h) la .back))
+      (below-or a b))
+    where
+      differ : b ≤ a → b < a
+      differ h = ⊎-elim (λ (x : b < a). x) (λ (x : a ≤ b). let e : a ≡ b = omega arith in absurd (d e)) (below-or b a)
+
+module _ (image : List ℕ) (m size : ℕ) (head : FieldAt image 0 4 m) (size-is : m + 1 ≡ size) where
+  table-is : readTable image ≡ afterRows size (rowsOf (pairField size) size (from image 4))
+  unfolding readTable afterHead afterRows
+  table-is = ap (λ o. o >>= afterHead) (head .read 1) ∙ ap (λ k. afterRows k (rowsOf (pairField k) k (from image 4))) size-is
+
+  pub size-few : size ≤ 16
+  size-few = omega (arith, head .small)
+
+  pub rows-none : (cells : List ℕ) → length cells ≡ 4096 → RowsFilled image size cells 4 1
+  rows-none cells full =
+      record {
+        positive = omega arith;
+        some-left = omega arith;
+        inside = head .inside;
+        near = omega arith;
+        full = full;
+        done = [];
+        done-length = refl;
+        resumed = sym (after-none (rowsOf (pairField size) (size + 1 - 1) (from image 4)) ∙ ap (λ k. rowsOf (pairField size) k (from image 4)) {x = size + 1 - 1} {y = size} (omega arith));
+        widths = λ i h. absurd (omega arith);
+        holds = λ i h. absurd (omega arith);
+      }
+
+  module _ (cells : List ℕ) (at a : ℕ) (f : RowsFilled image size cells at a) where
+    rows-left : a ≤ size → size + 1 - a ≡ suc (size - a)
+    rows-left h = omega arith
+
+    pub rows-more : a ≤ size → (cells' : List ℕ) (next : ℕ) → length cells' ≡ length cells → RowAt image at size cells a cells' next → RowsFilled image size cells' next (a + 1)
+    rows-more h cells' next same r =
+        let n : 1 + length (f .done) ≡ a = f .done-length in
+        let few : size ≤ 16 = size-few in
+        let wide : length (r .row) ≡ size - a = several-length (pairField size) (size - a) (from image at) (record { value = r .row; rest = from image next }) (r .read) in
+        record {
+          positive = omega arith;
+          some-left = omega arith;
+          inside = r .position .inside;
+          near = omega (arith, f .near, r .position .near);
+          full = same ∙ f .full;
+          done = f .done ++ (r .row ∷ []);
+          done-length = omega (arith, length-append (f .done) (r .row ∷ []));
+          resumed =
+            f .resumed
+            ∙ (ap (λ k. after (f .done) (rowsOf (pairField size) k (from image at))) (rows-left h)
+            ∙ (rows-step (pairField size) (f .done) (size - a) (from image at) (record { value = r .row; rest = from image next }) (r .read)
+            ∙ ap (λ k. after (f .done ++ (r .row ∷ [])) (rowsOf (pairField size) k (from image next))) {x = size - a} {y = size + 1 - (a + 1)} (omega arith)));
+          widths = one-more (λ i row. length row ≡ size - (1 + i)) (f .done) (r .row) [] (f .widths) (wide ∙ omega arith);
+          holds =
+            one-more (λ i row. HoldsRow size cells' (1 + i) row) (f .done) (r .row) []
+            (λ i l j k.
+              let w : length (getD (f .done) i []) ≡ size - (1 + i) = f .widths i l in
+              let letters : Letters (1 + i) (1 + i + 1 + j) = record { a-positive = omega arith; a-small = omega arith; b-positive = omega arith; b-small = omega arith } in
+              holds-pair-kept size cells cells' (1 + i) (1 + i + 1 + j) (getD (getD (f .done) i []) j undefined)
+              (r .kept (1 + i) (1 + i + 1 + j) letters (inl (omega arith)))
+              (r .kept (1 + i + 1 + j) (1 + i) (swap-letters (1 + i) (1 + i + 1 + j) letters) (inr (omega arith)))
+              (f .holds i l j k))
+            (subst (λ a. HoldsRow size cells' a (r .row)) (sym n) (r .holds));
+        }
+
+    pub row-refused : (n : ℕ) → a ≤ size → several (pairField size) (size - a) (from image at) ≡ refused n [] → readTable image ≡ refused n []
+    unfolding afterRows
+    row-refused n h e =
+        table-is
+        ∙ ap (afterRows size)
+        (f .resumed
+        ∙ (ap (λ k. after (f .done) (rowsOf (pairField size) k (from image at))) (rows-left h)
+        ∙ rows-refused (pairField size) (f .done) (size - a) (from image at) n [] e))
+
+    ended : size < a → readTable image ≡ finish 3 (record { value = record { size = size; rows = f .done }; rest = from image at })
+    unfolding afterRows
+    ended h =
+        table-is
+        ∙ ap (afterRows size)
+        (f .resumed
+        ∙ (ap (λ k. after (f .done) (rowsOf (pairField size) k (from image at))) {x = size + 1 - a} {y = 0} (omega arith)
+        ∙ rows-done (pairField size) (f .done) (from image at)))
+
+    pub table-answered : size < a → filling (from image at) ≡ true → TableOf image cells size
+    unfolding finish
+    table-answered h t =
+        record {
+          table = record { size = size; rows = f .done };
+          read = ended h ∙ ap (λ t. cond t (answered (record { size = size; rows = f .done })) (refused 3 [])) t;
+          size-is = refl;
+          stands =
+            record {
+              full = f .full;
+              some = omega arith;
+              few = size-few;
+              holds = complete-holds cells size (f .done) size-few (f .holds) (omega (arith, f .done-length, f .some-left)) (f .widths);
+            };
+        }
+
+    pub table-tail : size < a → filling (from image at) ≡ false → readTable image ≡ refused 3 []
+    unfolding finish
+    table-tail h t = ended h ∙ ap (λ t. cond t (answered (record { size = size; rows = f .done })) (refused 3 [])) t
+
+-- what the cells stand for has the number of letters
+pub size-done : (image cells : List ℕ) (r : TableRead) → TableDone image cells r → SizeDone image r
+size-done image cells (Table size) t =
+    record {
+      table = t .table;
+      read = t .read;
+      size-is = t .size-is;
+      some = subst (λ n. 1 ≤ n) (t .size-is) (t .stands .some);
+      few = subst (λ n. n ≤ 16) (t .size-is) (t .stands .few);
+    }
+size-done image cells (Refused r) e = e

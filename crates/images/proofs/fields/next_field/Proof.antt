@@ -1,0 +1,34 @@
+-- `images::next_field` meets its contract.
+use native.Mathlib.Omega.{arith}
+use Rattle.images.proofs.Reading.{field-answered, field-ends}
+use borrow.Author.Needs.{needs}
+use Rattle.images.proofs.fields.next_field.Statement.{statement}
+use Rattle.images.proofs.fields.next_field.Tie as tie
+use Rattle.images.proofs.fields.next_field.Reads as reads
+use Rattle.images.proofs.fields.next_field.Lts as lts
+use Rattle.bits.proofs.read_field.Reads as read-field-reads
+
+-- src/fields.rt:26:23
+add-if1 : tie.Need-add-if1
+add-if1 c = search needs
+
+-- src/fields.rt:26:23
+add-if1-2 : tie.Need-add-if1-2
+add-if1-2 c = search needs
+
+-- src/fields.rt:27:9
+returns : tie.Need-returns
+returns c = field-ends (c .before .before .args .image .now) (c .before .before .args .at) (c .before .before .args .width) (c .before .before .pre .inside) (omega arith)
+
+-- src/fields.rt:29:18
+read-field-requires : tie.Need-read-field-requires
+read-field-requires c κs = search needs
+
+-- src/fields.rt:22:1
+returns-2 : tie.Need-returns-2
+returns-2 c = 
+    let s = c .before .before .before in
+    field-answered (s .args .image .now) (s .args .at) (s .args .width) (search needs) (c .read-field .result) (c .read-field .ensures)
+
+pub next-field-spec : {M : Type 1} → statement M
+next-field-spec = tie.close (tie.spec add-if1 add-if1-2 returns read-field-requires returns-2)

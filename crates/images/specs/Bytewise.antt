@@ -1,0 +1,21 @@
+-- What reading a plain program gives.
+use mathlib.Core.List.{List, [], _∷_, map}
+use mathlib.Core.Path.{_≡_}
+use Prim.Native.Nat.{ℕ, _≤_, _<_}
+use lib.ListN.{length}
+use Rattle.model.specs.Word.{letter}
+use Rattle.model.specs.Outcome.{Outcome, answered, refused}
+use Rattle.model.specs.Plain.{readPlainProgram}
+use Rattle.model.specs.Stated.{refusal}
+use Rattle.images.specs.Written.{Named}
+use Rattle.images.specs.declared.plain.PlainRead.{PlainRead}
+use Rattle.images.specs.declared.plain.PlainRead.the-variants.{Accepted, Refused}
+
+-- every byte names a letter, and the program is theirs
+pub record PlainProgram (plain : List ℕ) (size : ℕ) : Type 0 where
+  pub named : Named size plain
+  pub read : readPlainProgram size plain ≡ answered (map letter plain)
+
+abbrev pub PlainDone : List ℕ → ℕ → PlainRead → Type 0
+PlainDone plain size Accepted = PlainProgram plain size
+PlainDone plain size (Refused r) = readPlainProgram size plain ≡ refusal r

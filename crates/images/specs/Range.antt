@@ -1,0 +1,58 @@
+-- What can be packed: the words, programs, tables and chains that an image can hold. Document 01, "Moves, tables, programs".
+use mathlib.Core.List.{List, [], _∷_}
+use mathlib.Core.Path.{_≡_}
+use Prim.Native.Nat.{ℕ, zero, suc, _≤_, _<_}
+use lib.ListN.{length}
+use Rattle.model.specs.Word.{Letter, forward, back, Word, Positive}
+use Rattle.model.specs.Presentation.{Presentation, Complement, undefined, complement}
+use Rattle.model.specs.Equivalence.{Entry}
+
+-- every element
+abbrev pub All : {A : Type 0} → (A → Type 0) → List A → Type 0
+All P [] = Unit {0}
+All P (x ∷ xs) = P x × All P xs
+
+-- "moves, numbered 1 to n"
+pub record GeneratorInRange (n a : ℕ) : Type 0 where
+  pub positive : 1 ≤ a
+  pub small : a ≤ n
+
+abbrev pub LetterInRange : ℕ → Letter → Type 0
+LetterInRange n (forward a) = GeneratorInRange n a
+LetterInRange n (back a) = GeneratorInRange n a
+
+-- "A program is 0 to 4,095 moves"
+pub record ProgramInRange (n : ℕ) (w : Word) : Type 0 where
+  pub short : length w < 4096
+  pub letters : All (LetterInRange n) w
+
+-- "words of forward moves, each 0 to 15 long"
+pub record WordInRange (n : ℕ) (x : Positive) : Type 0 where
+  pub short : length x < 16
+  pub letters : All (GeneratorInRange n) x
+
+abbrev pub PairInRange : ℕ → Complement → Type 0
+PairInRange n undefined = Unit {0}
+PairInRange n (complement x y) = WordInRange n x × WordInRange n y
+
+-- k rows, the first of k - 1 pairs, the next of k - 2, .. down to none
+abbrev pub Rows : {A : Type 0} → (A → Type 0) → ℕ → List (List A) → Type 0
+Rows P zero [] = Unit {0}
+Rows P zero (row ∷ rows) = ⊥
+Rows P (suc k) [] = ⊥
+Rows P (suc k) (row ∷ rows) = (length row ≡ k) × All P row × Rows P k rows
+
+-- "A table has n moves, numbered 1 to n, n from 1 to 16"
+pub record TableInRange (T : Presentation) : Type 0 where
+  pub some : 1 ≤ T .size
+  pub few : T .size ≤ 16
+  pub pairs : Rows (PairInRange (T .size)) (T .size) (T .rows)
+
+pub record EntryInRange (n : ℕ) (e : Entry) : Type 0 where
+  pub offset-small : e .offset < 4096
+  pub a-names : GeneratorInRange n (e .a)
+  pub b-names : GeneratorInRange n (e .b)
+
+pub record ChainInRange (n : ℕ) (es : List Entry) : Type 0 where
+  pub short : length es < 65536
+  pub entries : All (EntryInRange n) es

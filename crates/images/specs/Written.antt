@@ -1,0 +1,34 @@
+-- What writing into an area gives: bits appended at a position, every other bit as it was.
+use mathlib.Core.List.{List, [], _∷_, _++_, map}
+use mathlib.Core.Path.{_≡_}
+use mathlib.Core.Bool.{true}
+use Prim.Native.Nat.{ℕ, _+_, _*_, _≤_, _<_}
+use lib.ListN.{length, take, drop, getD}
+use Rattle.model.specs.Word.{letter}
+use Rattle.model.specs.Enumeration.{concatMap}
+use Rattle.model.specs.Bits.{bitsOf, digits, letterWidth}
+use Rattle.model.specs.Images.{signedBits}
+use Rattle.model.specs.Plain.{namesLetter}
+
+pub record Appended (before : List ℕ) (at : ℕ) (new : List ℕ) (after : List ℕ) : Type 0 where
+  pub same-length : length after ≡ length before
+  pub bits : bitsOf after ≡ take at (bitsOf before) ++ (new ++ drop (at + length new) (bitsOf before))
+
+-- the width of a letter's field under `size` letters
+pub record WidthOf (size width : ℕ) : Type 0 where
+  pub few : size ≤ 16
+  pub narrow : width ≤ 4
+  pub width-is : width ≡ letterWidth size
+
+-- every byte names a letter, and an image can count them
+pub record Named (size : ℕ) (plain : List ℕ) : Type 0 where
+  pub short : length plain ≤ 4095
+  pub named : (i : ℕ) → i < length plain → namesLetter size (getD plain i 0) ≡ true
+
+-- an area has room for an image of so many letters
+pub record PackRoom (count width bytes : ℕ) : Type 0 where
+  pub room : 12 + count * (1 + width) ≤ 8 * bytes
+
+-- the bits of the program that bytes say
+unfoldable pub programBits : ℕ → List ℕ → List ℕ
+programBits size plain = digits 12 (length plain) ++ concatMap (signedBits size) (map letter plain)

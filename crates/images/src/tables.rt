@@ -1,0 +1,142 @@
+// Table images: read once into cells, from which the engine takes complements.
+
+use crate::fields;
+use crate::fields::Field;
+use crate::fields::LetterField;
+use model::answers::Refusal;
+
+ghost use mathlib.Core.Path.{_≡_};
+ghost use Prim.Native.Nat.{ℕ, _+_, _*_, _^_, _≤_, _<_};
+ghost use lib.ListN.{length, getD};
+ghost use Rattle.images.specs.Fields.{Before};
+ghost use Rattle.images.specs.Cells.{cellAt, Letters};
+ghost use Rattle.images.specs.Tables.{WordDone, PairDone, RowDone, TableDone, SizeDone};
+
+// The position after a part of a table, or why there is none.
+pub enum TablePart {
+    Next(usize),
+    Ends,
+    Wrong,
+}
+
+pub enum TableRead {
+    Table { size: u8 },
+    Refused(Refusal),
+}
+
+// Where the cell of two letters begins.
+pub fn cell_of(a: u8, b: u8) -> usize
+    requires { ⌜ Letters a b ⌝ }
+    ensures { λ r. ⌜ r ≡ cellAt a b ⌝ }
+{
+    (((a - 1) as usize) * 16 + ((b - 1) as usize)) * 16
+}
+
+// A word of a table image, into a cell.
+pub fn read_word(image: &[u8], at: usize, size: u8, width: usize, cells: &mut [u8], cell: usize) -> TablePart
+    requires { ⌜ Before (now image) at size width × (cell + 16 ≤ length (now cells)) ⌝ }
+    ensures length { λ r. ⌜ length (now (cells .exit)) ≡ length (now (cells .entry)) ⌝ }
+    ensures word { λ r. ⌜ WordDone (now (image .entry)) at size (now (cells .entry)) cell (now (cells .exit)) r ⌝ }
+{
+    let Field::Value(value) = fields::next_field(image, at, 4) else {
+        return TablePart::Ends;
+    };
+    cells[cell] = value as u8;
+    let count = value as usize;
+    let mut next = at + 4;
+    let mut k: usize = 0;
+    while k < count {
+        match fields::next_letter(image, next, size, width) {
+            LetterField::Ends => return TablePart::Ends,
+            LetterField::Wrong => return TablePart::Wrong,
+            LetterField::Letter(a) => {
+                cells[cell + 1 + k] = a;
+                next = next + width;
+                k += 1;
+            }
+        }
+    }
+    TablePart::Next(next)
+}
+
+// A pair of a table image, into the cells of a, b and of b, a.
+pub fn read_pair(image: &[u8], at: usize, size: u8, width: usize, cells: &mut [u8], a: u8, b: u8) -> TablePart
+    requires { ⌜ Before (now image) at size width × Letters a b × (a < b) × (length (now cells) ≡ 4096) × (at + 129 ≤ 2 ^ 40) ⌝ }
+    ensures length { λ r. ⌜ length (now (cells .exit)) ≡ length (now (cells .entry)) ⌝ }
+    ensures pair { λ r. ⌜ PairDone (now (image .entry)) at size (now (cells .entry)) a b (now (cells .exit)) r ⌝ }
+{
+    let Field::Value(bit) = fields::next_field(image, at, 1) else {
+        return TablePart::Ends;
+    };
+    let there = cell_of(a, b);
+    let back = cell_of(b, a);
+    if bit == 0 {
+        cells[there] = 255;
+        cells[back] = 255;
+        return TablePart::Next(at + 1);
+    }
+    match read_word(image, at + 1, size, width, cells, there) {
+        TablePart::Ends => TablePart::Ends,
+        TablePart::Wrong => TablePart::Wrong,
+        TablePart::Next(next) => read_word(image, next, size, width, cells, back),
+    }
+}
+
+// The pairs of a letter with those after it, into their cells.
+pub fn read_row(image: &[u8], at: usize, size: u8, width: usize, cells: &mut [u8], a: u8) -> TablePart
+    requires { ⌜ Before (now image) at size width × (1 ≤ a) × (a ≤ size) × (length (now cells) ≡ 4096) × (at + 2064 ≤ 2 ^ 40) ⌝ }
+    ensures length { λ r. ⌜ length (now (cells .exit)) ≡ length (now (cells .entry)) ⌝ }
+    ensures row { λ r. ⌜ RowDone (now (image .entry)) at size (now (cells .entry)) a (now (cells .exit)) r ⌝ }
+{
+    let mut next = at;
+    let mut b = a + 1;
+    while b <= size {
+        match read_pair(image, next, size, width, cells, a, b) {
+            TablePart::Ends => return TablePart::Ends,
+            TablePart::Wrong => return TablePart::Wrong,
+            TablePart::Next(after) => {
+                next = after;
+                b += 1;
+            }
+        }
+    }
+    TablePart::Next(next)
+}
+
+// Refusals 1 and 2, the first met, then 3. After an answer the cells stand for the table.
+pub fn read_table(image: &[u8], cells: &mut [u8]) -> TableRead
+    requires { ⌜ length (now cells) ≡ 4096 ⌝ }
+    ensures length { λ r. ⌜ length (now (cells .exit)) ≡ length (now (cells .entry)) ⌝ }
+    ensures table { λ r. ⌜ TableDone (now (image .entry)) (now (cells .exit)) r ⌝ }
+{
+    let Field::Value(head) = fields::next_field(image, 0, 4) else {
+        return TableRead::Refused(Refusal::TableEnds);
+    };
+    let size = (head + 1) as u8;
+    let width = bits::letter_width(size) as usize;
+    let mut at: usize = 4;
+    let mut a: u8 = 1;
+    while a <= size {
+        match read_row(image, at, size, width, cells, a) {
+            TablePart::Ends => return TableRead::Refused(Refusal::TableEnds),
+            TablePart::Wrong => return TableRead::Refused(Refusal::TableField),
+            TablePart::Next(next) => {
+                at = next;
+                a += 1;
+            }
+        }
+    }
+    if fields::is_filling(image, at) {
+        TableRead::Table { size }
+    } else {
+        TableRead::Refused(Refusal::TableTail)
+    }
+}
+
+// The number of letters of a table image, or its refusal.
+pub fn table_size(image: &[u8]) -> TableRead
+    ensures { λ r. ⌜ SizeDone (now (image .entry)) r ⌝ }
+{
+    let mut cells = [0u8; 4096];
+    read_table(image, &mut cells)
+}
