@@ -1,0 +1,13 @@
+pub mod Parts
+pub mod Ends
+pub mod Marks
+pub mod Courses
+pub mod Placing
+pub mod Layouts
+pub mod Framing
+pub mod Rests
+pub mod Restated
+pub mod Meeting
+pub mod Emitting
+pub mod Turning
+pub mod Walking

@@ -1,0 +1,184 @@
+-- Bits put at a position, one field after another, and fields read back.
+use mathlib.Core.Path.{_≡_, sym, ap, ap₂, _∙_}
+use mathlib.Core.List.{List, _++_, append-assoc}
+use Prim.Native.Nat.{ℕ, _+_, _-_, _*_, _^_, _≤_, _<_}
+use native.Mathlib.Nat.{mul-le-mul}
+use native.Mathlib.Omega.{arith}
+use lib.ListN.{length, take, drop, length-append, length-drop}
+use lib.Seq.{take-at, drop-at, drop-drop, length-take-le}
+use lib.Pow.{pow-mono}
+use Rattle.model.specs.Bits.{bitsOf, digits, number, letterWidth}
+use Rattle.model.specs.Equivalence.{Entry}
+use Rattle.model.specs.Images.{entryBits, letterBits}
+use Rattle.bits.specs.Fields.{Inside, Written}
+use Rattle.bits.proofs.Digits.{length-digits, number-of-digits}
+use Rattle.bits.proofs.Bytes.{length-bits}
+use Rattle.bits.proofs.Fields.{field-fits}
+use Rattle.bits.proofs.Width.{width-small, letter-fits}
+use Rattle.chains.specs.declared.slots.Slot.{Slot}
+use Rattle.chains.specs.Slots.{slotWidth, slotAt, SlotInside, Placed, EntryFits, Same}
+
+-- POSITIONS
+
+product-small : (index width : ℕ) → index < 65536 → width ≤ 4 → index * (12 + 2 * width) ≤ 65536 * 20
+product-small index width h w = mul-le-mul {n₁ = index} {m₁ = 12 + 2 * width} {n₂ = 65536} {m₂ = 20} (omega arith) (omega arith)
+
+pub position-small : (n index width : ℕ) → index < 65536 → width ≡ letterWidth n → index * (12 + 2 * width) ≤ 2000000
+position-small n index width h e = omega (arith, product-small index width h (omega (arith, width-small n)))
+
+pub slot-small : (n index : ℕ) → index < 65536 → slotAt n index + slotWidth n ≤ 2000000
+slot-small n index h = omega (arith, product-small index (letterWidth n) h (width-small n), width-small n)
+
+-- FIELDS WRITTEN
+
+pub written-placed : {before after : List ℕ} {at width value : ℕ} → Written before at width value after → Placed before at (digits width value) after
+written-placed {before} {after} {at} {width} {value} w =
+    record {
+      same-length = w .same-length;
+      placed = w .bits ∙ ap (λ k. take at (bitsOf before) ++ (digits width value ++ drop (at + k) (bitsOf before))) (sym (length-digits width value));
+    }
+
+pub placed-as : {before after : List ℕ} {at at′ : ℕ} {bits bits′ : List ℕ} → at ≡ at′ → bits ≡ bits′ → Placed before at bits after → Placed before at′ bits′ after
+placed-as e f p = rw (← e, ← f) p
+
+-- the bits of a place are told
+pub placed-at : {before after : List ℕ} {at : ℕ} {bits : List ℕ} → Placed before at bits after → (p old s : List ℕ) → bitsOf before ≡ p ++ (old ++ s)
+    → length p ≡ at → length old ≡ length bits → bitsOf after ≡ p ++ (bits ++ s)
+placed-at {before} {after} {at} {bits} h p old s e f g =
+    let front : take at (bitsOf before) ≡ p = ap (take at) e ∙ take-at p (old ++ s) at f in
+    let both : length (p ++ old) ≡ at + length bits = length-append p old ∙ ap₂ (λ i j. i + j) f g in
+    let end : drop (at + length bits) (bitsOf before) ≡ s =
+    ap (drop (at + length bits)) (e ∙ sym (append-assoc p old s)) ∙ drop-at (p ++ old) s (at + length bits) both in
+    h .placed ∙ ap₂ (λ l r. l ++ (bits ++ r)) front end
+
+-- the next bits follow
+pub placed-more : {before mid after : List ℕ} {at next : ℕ} {bits more : List ℕ} → Placed before at bits mid → Placed mid next more after
+    → next ≡ at + length bits → at + length bits + length more ≤ 8 * length before → Placed before at (bits ++ more) after
+placed-more {before} {mid} {after} {at} {next} {bits} {more} p q e room =
+    let long : length (bitsOf before) ≡ 8 * length before = length-bits before in
+    let begun : length (take at (bitsOf before) ++ bits) ≡ next =
+    length-append (take at (bitsOf before)) bits
+    ∙ (ap (λ i. i + length bits) (length-take-le at (bitsOf before) (omega arith)) ∙ sym e) in
+    let split : drop (at + length bits) (bitsOf before) ≡ take (length more) (drop (at + length bits) (bitsOf before)) ++ drop (length more) (drop (at + length bits) (bitsOf before)) =
+    sym (lib.ListN.take-append-drop (length more) (drop (at + length bits) (bitsOf before))) in
+    let bits-mid : bitsOf mid
+    ≡ (take at (bitsOf before) ++ bits) ++ (take (length more) (drop (at + length bits) (bitsOf before)) ++ drop (length more) (drop (at + length bits) (bitsOf before))) =
+    p .placed ∙ (sym (append-assoc (take at (bitsOf before)) bits (drop (at + length bits) (bitsOf before))) ∙ ap (λ l. (take at (bitsOf before) ++ bits) ++ l) split) in
+    let fits : length (take (length more) (drop (at + length bits) (bitsOf before))) ≡ length more =
+    length-take-le (length more) (drop (at + length bits) (bitsOf before)) (omega (arith, length-drop (at + length bits) (bitsOf before))) in
+    let sum : at + length bits + length more ≡ at + length (bits ++ more) = omega (arith, length-append bits more) in
+    record {
+      same-length = q .same-length ∙ p .same-length;
+      placed =
+          placed-at q (take at (bitsOf before) ++ bits) (take (length more) (drop (at + length bits) (bitsOf before)))
+          (drop (length more) (drop (at + length bits) (bitsOf before))) bits-mid begun fits
+          ∙ (append-assoc (take at (bitsOf before)) bits (more ++ drop (length more) (drop (at + length bits) (bitsOf before)))
+          ∙ ap (λ l. take at (bitsOf before) ++ l)
+          (sym (append-assoc bits more (drop (length more) (drop (at + length bits) (bitsOf before))))
+          ∙ ap (λ l. (bits ++ more) ++ l)
+          (drop-drop (length more) (at + length bits) (bitsOf before) ∙ ap (λ i. drop i (bitsOf before)) sum)));
+    }
+
+pub length-entry : (n : ℕ) (e : Entry) → length (entryBits n e) ≡ slotWidth n
+length-entry n e =
+    length-append (digits 12 (e .offset)) (letterBits n (e .a) ++ letterBits n (e .b))
+    ∙ omega (
+      arith,
+      length-append (letterBits n (e .a)) (letterBits n (e .b)),
+      length-digits (letterWidth n) (e .a - 1),
+      length-digits (letterWidth n) (e .b - 1),
+    )
+
+-- where the fields of a slot lie
+module _ {n index : ℕ} {answer : List ℕ} (h : SlotInside n index answer) where
+  pub first-inside : (at : ℕ) → at ≡ slotAt n index → Inside answer at 12
+  first-inside at e = record { narrow = omega arith; inside = omega (arith, h .inside); small = omega (arith, slot-small n index (h .low)) }
+
+  pub second-inside : (at width : ℕ) → at ≡ slotAt n index → width ≡ letterWidth n → Inside answer (at + 12) width
+  second-inside at width e f =
+      record { narrow = omega (arith, width-small n); inside = omega (arith, h .inside); small = omega (arith, slot-small n index (h .low)) }
+
+  pub third-inside : (at width : ℕ) → at ≡ slotAt n index → width ≡ letterWidth n → Inside answer (at + 12 + width) width
+  third-inside at width e f =
+      record { narrow = omega (arith, width-small n); inside = omega (arith, h .inside); small = omega (arith, slot-small n index (h .low)) }
+
+-- the same place in an area of the same length
+pub slot-inside-as : {n index : ℕ} {answer after : List ℕ} → length after ≡ length answer → SlotInside n index answer → SlotInside n index after
+slot-inside-as e h = record { some = h .some; few = h .few; low = h .low; inside = omega (arith, h .inside) }
+
+-- a slot from its three fields
+module _ {n index : ℕ} {before : List ℕ} (h : SlotInside n index before) (e : Entry) (at width : ℕ) (ea : at ≡ slotAt n index) (ew : width ≡ letterWidth n)
+    (one two three : List ℕ) where
+  pub slot-placed : Written before at 12 (e .offset) one → Written one (at + 12) width (e .a - 1) two → Written two (at + 12 + width) width (e .b - 1) three
+      → Placed before (slotAt n index) (entryBits n e) three
+  slot-placed p q r =
+      let pa : Placed before at (digits 12 (e .offset)) one = written-placed p in
+      let pb : Placed one (at + 12) (digits width (e .a - 1)) two = written-placed q in
+      let pc : Placed two (at + 12 + width) (digits width (e .b - 1)) three = written-placed r in
+      let la : length (digits 12 (e .offset)) ≡ 12 = length-digits 12 (e .offset) in
+      let lb : length (digits width (e .a - 1)) ≡ width = length-digits width (e .a - 1) in
+      let lc : length (digits width (e .b - 1)) ≡ width = length-digits width (e .b - 1) in
+      let lab : length (digits 12 (e .offset) ++ digits width (e .a - 1)) ≡ 12 + width =
+      length-append (digits 12 (e .offset)) (digits width (e .a - 1)) ∙ ap₂ (λ i j. i + j) la lb in
+      let ab = placed-more pa pb (ap (λ i. at + i) (sym la)) (omega (arith, h .inside)) in
+      let abc = placed-more ab pc (omega arith) (omega (arith, h .inside)) in
+      placed-as ea
+      (append-assoc (digits 12 (e .offset)) (digits width (e .a - 1)) (digits width (e .b - 1))
+      ∙ ap (λ w. digits 12 (e .offset) ++ (digits w (e .a - 1) ++ digits w (e .b - 1))) ew) abc
+
+-- FIELDS READ
+
+regroup : (a b c d : List ℕ) → (a ++ (b ++ c)) ++ d ≡ a ++ (b ++ (c ++ d))
+regroup a b c d = simp append-assoc
+
+field-at : (bits : List ℕ) (at : ℕ) (p f r : List ℕ) (k w : ℕ) → drop at bits ≡ p ++ (f ++ r) → length p ≡ k → length f ≡ w → take w (drop (at + k) bits) ≡ f
+field-at bits at p f r k w e lp lf =
+    ap (take w) (sym (drop-drop k at bits) ∙ (ap (drop k) e ∙ drop-at p (f ++ r) k lp)) ∙ take-at f r w lf
+
+module _ {n index : ℕ} {answer : List ℕ} (h : SlotInside n index answer) (at width : ℕ) (ea : at ≡ slotAt n index) (ew : width ≡ letterWidth n) where
+  -- a letter's field is small
+  pub letter-small : (from value : ℕ) → Inside answer from width → value ≡ number 0 (take width (drop from (bitsOf answer))) → value < 16
+  letter-small from value i e =
+      let m : 2 ^ width ≤ 2 ^ 4 = pow-mono {j = 4} (omega (arith, width-small n)) in
+      omega (arith, field-fits answer from width i width (omega arith))
+
+  module _ (e : Entry) (rest : List ℕ) (fit : EntryFits n e) (there : drop (slotAt n index) (bitsOf answer) ≡ entryBits n e ++ rest) where
+    bits-there : drop at (bitsOf answer) ≡ digits 12 (e .offset) ++ (digits width (e .a - 1) ++ (digits width (e .b - 1) ++ rest))
+    bits-there =
+        ap (λ i. drop i (bitsOf answer)) ea
+        ∙ (there
+        ∙ (regroup (digits 12 (e .offset)) (digits (letterWidth n) (e .a - 1)) (digits (letterWidth n) (e .b - 1)) rest
+        ∙ ap (λ w. digits 12 (e .offset) ++ (digits w (e .a - 1) ++ (digits w (e .b - 1) ++ rest))) (sym ew)))
+
+    pub slot-read : (s : Slot) (x y : ℕ) → s .count ≡ number 0 (take 12 (drop at (bitsOf answer))) → x ≡ number 0 (take width (drop (at + 12) (bitsOf answer)))
+        → y ≡ number 0 (take width (drop (at + 12 + width) (bitsOf answer))) → s .a ≡ x + 1 → s .b ≡ y + 1 → Same e s
+    slot-read s x y ec ex ey xa yb =
+        let la : length (digits 12 (e .offset)) ≡ 12 = length-digits 12 (e .offset) in
+        let lb : length (digits width (e .a - 1)) ≡ width = length-digits width (e .a - 1) in
+        let lc : length (digits width (e .b - 1)) ≡ width = length-digits width (e .b - 1) in
+        let lab : length (digits 12 (e .offset) ++ digits width (e .a - 1)) ≡ 12 + width =
+        length-append (digits 12 (e .offset)) (digits width (e .a - 1)) ∙ ap₂ (λ i j. i + j) la lb in
+        let fa : e .a - 1 < 2 ^ width = rw ew (letter-fits n (e .a) (h .few) (fit .a-names .low) (fit .a-names .high)) in
+        let fb : e .b - 1 < 2 ^ width = rw ew (letter-fits n (e .b) (h .few) (fit .b-names .low) (fit .b-names .high)) in
+        let c : s .count ≡ e .offset =
+        ec
+        ∙ (ap (number 0) (ap (take 12) bits-there ∙ take-at (digits 12 (e .offset)) (digits width (e .a - 1) ++ (digits width (e .b - 1) ++ rest)) 12 la)
+        ∙ number-of-digits 12 (e .offset) (omega (arith, fit .offset-small))) in
+        let a : x ≡ e .a - 1 =
+        ex
+        ∙ (ap (number 0)
+        (field-at (bitsOf answer) at (digits 12 (e .offset)) (digits width (e .a - 1)) (digits width (e .b - 1) ++ rest) 12 width bits-there la lb)
+        ∙ number-of-digits width (e .a - 1) fa) in
+        let place : at + 12 + width ≡ at + (12 + width) = omega arith in
+        let b : y ≡ e .b - 1 =
+        ey
+        ∙ (ap (λ i. number 0 (take width (drop i (bitsOf answer)))) place
+        ∙ (ap (number 0)
+        (field-at (bitsOf answer) at (digits 12 (e .offset) ++ digits width (e .a - 1)) (digits width (e .b - 1)) rest (12 + width) width
+        (bits-there ∙ sym (append-assoc (digits 12 (e .offset)) (digits width (e .a - 1)) (digits width (e .b - 1) ++ rest))) lab lc)
+        ∙ number-of-digits width (e .b - 1) fb)) in
+        record {
+          count = c;
+          a = omega (arith, xa, a, fit .a-names .low);
+          b = omega (arith, yb, b, fit .b-names .low);
+        }

@@ -1,0 +1,94 @@
+-- `chains::moves::meet` meets its contract: equal letters vanish, and different ones push a face.
+use native.Mathlib.Omega.{arith}
+use Rattle.chains.proofs.Meeting.{wide, cell-inside, byte-back, left-some, left-inside, passed-small, a-here, b-here, stacked-small, met-equal-here, slots-left, slot-here, met-different-here}
+use borrow.Author.Needs.{needs}
+use Rattle.chains.proofs.moves.meet.Statement.{statement}
+use Rattle.chains.proofs.moves.meet.Tie as tie
+
+sub-left : tie.Need-sub-left
+sub-left c =
+    let s = c .before .before .before .before in
+    left-some (s .pre .1)
+
+shared-slice-read-a : tie.Need-shared-slice-read-a
+shared-slice-read-a c =
+    let s = c .before .before .before .before .before in
+    omega (arith, left-some (s .pre .1), left-inside (s .pre .1))
+
+sub-a : tie.Need-sub-a
+sub-a c =
+    let s = c .before .before .before .before .before in
+    byte-back (s .pre .1)
+
+add-passed : tie.Need-add-passed
+add-passed c =
+    let s = c .before .before .before .before .before .before in
+    omega (arith, passed-small (s .pre .1))
+
+returns : tie.Need-returns
+returns c =
+    let s = c .before .before .before .before .before .before .before in
+    record {
+      falls = omega (arith, left-some (s .pre .1));
+      situation = λ t h. met-equal-here h (c .if1 .taken);
+    }
+
+cell-at-requires : tie.Need-cell-at-requires
+cell-at-requires c κs =
+    let s = c .before .before .before .before .before .before .before in
+    (wide (s .pre .1 .settled) (a-here (s .pre .1)), wide (s .pre .1 .settled) (b-here (s .pre .1)))
+
+shared-slice-read-count : tie.Need-shared-slice-read-count
+shared-slice-read-count c =
+    let s = c .before .before .before .before .before .before .before .before .before in
+    omega (arith, c .before .cell-at .ensures, cell-inside (s .pre .1 .settled) (a-here (s .pre .1)) (b-here (s .pre .1)))
+
+cast-count : tie.Need-cast-count
+cast-count c =
+    omega (arith, c .shared-slice-known4 .given (c .before .cell-at .result))
+
+add-stacked : tie.Need-add-stacked
+add-stacked c =
+    let s = c .before .before .before .before .before .before .before .before .before .before in
+    omega (arith, stacked-small (s .pre .1))
+
+sub-write-slot : tie.Need-sub-write-slot
+sub-write-slot c =
+    let s = c .before .before .before .before .before .before .before .before .before .before .before in
+    slots-left (s .pre .1) (c .before .before .before .before .if1 .left)
+
+write-slot-requires : tie.Need-write-slot-requires
+write-slot-requires c κs =
+    let s = c .before .before .before .before .before .before .before .before .before .before .before in (
+      slot-here (s .pre .1) (c .before .before .before .before .if1 .left),
+      (a-here (s .pre .1) .low, b-here (s .pre .1) .low),
+    )
+
+same-length : tie.Need-same-length
+same-length c = search needs
+
+returns-2 : tie.Need-returns-2
+returns-2 c =
+    let s = c .before .before .before .before .before .before .before .before .before .before .before .before .before .before in
+    record {
+      falls = omega (arith, left-some (s .pre .1));
+      situation = λ t h. met-different-here h (c .before .before .before .before .before .before .before .if1 .left) (c .before .before .before .before .before .before .cell-at .result) (c .before .before .before .before .before .before .cell-at .ensures) (c .before .before .write-slot .ensures);
+    }
+
+pub meet-spec : {M : Type 1} → statement M
+meet-spec =
+    tie.close
+    (tie.spec
+    sub-left
+    shared-slice-read-a
+    sub-a
+    add-passed
+    returns
+    cell-at-requires
+    shared-slice-read-count
+    cast-count
+    add-stacked
+    sub-write-slot
+    write-slot-requires
+    same-length
+    returns-2)

@@ -1,0 +1,44 @@
+-- `chains::slots::slot_at` meets its contract.
+use mathlib.Core.Path.{ap}
+use Prim.Native.Nat.{_+_, _*_}
+use native.Mathlib.Omega.{arith}
+use Rattle.chains.proofs.Placing.{position-small}
+use borrow.Author.Needs.{needs}
+use Rattle.chains.proofs.slots.slot_at.Statement.{statement}
+use Rattle.chains.proofs.slots.slot_at.Tie as tie
+
+letter-width-requires : tie.Need-letter-width-requires
+letter-width-requires c κs = search needs
+
+cast-width : tie.Need-cast-width
+cast-width c = search needs
+
+mul-result : tie.Need-mul-result
+mul-result c = search needs
+
+add-result : tie.Need-add-result
+add-result c = search needs
+
+mul-result-2 : tie.Need-mul-result-2
+mul-result-2 c =
+    omega (arith, position-small (c .before .args .size) (c .before .args .index) (c .letter-width .result) (c .before .pre .2) (c .letter-width .ensures))
+
+add-result-2 : tie.Need-add-result-2
+add-result-2 c =
+    omega (arith, position-small (c .before .args .size) (c .before .args .index) (c .letter-width .result) (c .before .pre .2) (c .letter-width .ensures))
+
+returns : tie.Need-returns
+returns c =
+    ap (λ w. 16 + c .before .args .index * (12 + 2 * w)) (c .letter-width .ensures)
+
+pub slot-at-spec : {M : Type 1} → statement M
+slot-at-spec =
+    tie.close
+    (tie.spec
+    letter-width-requires
+    cast-width
+    mul-result
+    add-result
+    mul-result-2
+    add-result-2
+    returns)

@@ -1,0 +1,4 @@
+pub mod Faces
+pub mod Slots
+pub mod Course
+pub mod Listing

@@ -1,0 +1,133 @@
+ghost use mathlib.Core.List.{[], _∷_};
+ghost use mathlib.Core.Path.{_≡_};
+ghost use Prim.Native.Nat.{_≤_};
+ghost use lib.ListN.{length};
+ghost use Rattle.chains.specs.Course.{Somewhere, Emittable, Moves, Emits};
+use crate::slots::Slot;
+use crate::slots::read_slot;
+use crate::slots::write_slot;
+use engine::cells::cell_at;
+use engine::step::push_inverse;
+
+// How far a listing has come. The bytes before `left` are the inverse of the first word's rest, those from `right` on the letters left of
+// the second; `passed` letters stand before the rest in the word that the `emitted` entries have led to, and `stacked` faces are not done.
+pub struct Place {
+    pub left: usize,
+    pub right: usize,
+    pub passed: usize,
+    pub emitted: usize,
+    pub stacked: usize,
+}
+
+// The rest's first letter a meets the letter b that was taken off. Where they differ, their face waits for the letters of C(a,b).
+pub fn meet(
+    cells: &[u8],
+    size: u8,
+    total: usize,
+    bytes: &[u8],
+    at: Place,
+    b: u8,
+    answer: &mut [u8],
+) -> Place
+    requires { ⌜ Somewhere (now cells) size total (b ∷ []) (now bytes) (now answer) at ⌝ }
+    ensures { λ r. ⌜ Moves (now (cells .entry)) size total (b ∷ []) (now (bytes .entry)) (now (answer .entry)) at (now (bytes .entry)) (now (answer .exit)) r ⌝ }
+{
+    let left = at.left - 1;
+    let a = bytes[left] - 128;
+    let passed = at.passed + 1;
+    if a == b {
+        return Place {
+            left,
+            right: at.right,
+            passed,
+            emitted: at.emitted,
+            stacked: at.stacked,
+        };
+    }
+    let to = cell_at(a, b);
+    let count = cells[to] as u16;
+    let stacked = at.stacked + 1;
+    write_slot(answer, size, total - stacked, Slot { count, a, b });
+    Place {
+        left,
+        right: at.right,
+        passed,
+        emitted: at.emitted,
+        stacked,
+    }
+}
+
+// The top face is done: its entry is written, and C(b,a) goes to the front of the rest.
+pub fn emit(
+    cells: &[u8],
+    size: u8,
+    bytes: &mut [u8],
+    at: Place,
+    a: u8,
+    b: u8,
+    answer: &mut [u8],
+) -> Place
+    requires { ⌜ Emittable (now cells) size (now bytes) (now answer) at a b ⌝ }
+    ensures length { λ r. ⌜ length (now (bytes .exit)) ≡ length (now (bytes .entry)) ⌝ }
+    ensures emits { λ r. ⌜ Emits (now (cells .entry)) size (now (bytes .entry)) (now (answer .entry)) at a b (now (bytes .exit)) (now (answer .exit)) r ⌝ }
+{
+    let to = cell_at(a, b);
+    let from = cell_at(b, a);
+    let x = cells[to] as usize;
+    let y = cells[from] as usize;
+    let offset = at.passed - x - 1;
+    let passed = offset + 1;
+    let left = at.left + y;
+    let index = at.emitted;
+    let emitted = index + 1;
+    let stacked = at.stacked - 1;
+    let count = offset as u16;
+    let entry = Slot { count, a, b };
+    write_slot(answer, size, index, entry);
+    push_inverse(bytes, left, cells, from + 1, y);
+    Place {
+        left,
+        right: at.right,
+        passed,
+        emitted,
+        stacked,
+    }
+}
+
+// The next letter is one of the top face's, where one is left; else the face is done.
+pub fn turn(
+    cells: &[u8],
+    size: u8,
+    total: usize,
+    bytes: &mut [u8],
+    at: Place,
+    answer: &mut [u8],
+) -> Place
+    requires somewhere { ⌜ Somewhere (now cells) size total [] (now bytes) (now answer) at ⌝ }
+    requires stacked { ⌜ 1 ≤ at .stacked ⌝ }
+    ensures length { λ r. ⌜ length (now (bytes .exit)) ≡ length (now (bytes .entry)) ⌝ }
+    ensures moves { λ r. ⌜ Moves (now (cells .entry)) size total [] (now (bytes .entry)) (now (answer .entry)) at (now (bytes .exit)) (now (answer .exit)) r ⌝ }
+{
+    let index = total - at.stacked;
+    let face = read_slot(answer, size, index);
+    let count = face.count;
+    let a = face.a;
+    let b = face.b;
+    if count == 0 {
+        return emit(cells, size, bytes, at, a, b, answer);
+    }
+    let to = cell_at(a, b);
+    let x = cells[to] as usize;
+    let next = cells[to + 1 + x - (count as usize)];
+    write_slot(
+        answer,
+        size,
+        index,
+        Slot {
+            count: count - 1,
+            a,
+            b,
+        },
+    );
+    meet(cells, size, total, bytes, at, next, answer)
+}

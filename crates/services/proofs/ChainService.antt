@@ -1,0 +1,232 @@
+-- Listing a chain after a comparison, and the outcome of chain after each check.
+use mathlib.Core.Path.{_≡_, refl, sym, ap, ap₂, subst, _∙_}
+use mathlib.Core.List.{List, [], _∷_, _++_}
+use mathlib.Core.Bool.{Bool, true, false, cond}
+use mathlib.Core.Logic.{⊎-elim}
+use Prim.Native.Nat.{ℕ, _+_, _-_, _*_, _≤_, _<_}
+use native.Mathlib.Omega.{arith}
+use native.Mathlib.Decide.{decLt}
+use borrow.Author.Tests.{lt-ltb, le-ltb}
+use lib.Dec.{ltb}
+use lib.ListN.{length, replicate, length-append}
+use Rattle.model.specs.Word.{Word, Positive, positive, negative}
+use Rattle.model.specs.Presentation.{Presentation}
+use Rattle.model.specs.Equivalence.{Entry}
+use Rattle.model.specs.Reversing.{Ending, finished, stopped, room, reversing}
+use Rattle.model.specs.Outcome.{Outcome, answered, refused, _>>=_, unless}
+use Rattle.model.specs.Checks.{cleared}
+use Rattle.model.specs.Images.{readTable, readProgram, readChain, chainImage}
+use Rattle.model.specs.Services.{Verdict, same-after, different-after, readForward, comparison, chainBytes, listable, chain}
+use Rattle.model.specs.Areas.{Compares, Listed, ChainArea}
+use Rattle.model.specs.Stated.{refusal, compared}
+use Rattle.model.specs.declared.answers.Refusal.{Refusal}
+use Rattle.model.specs.declared.answers.Refusal.the-variants.{AnswerShort}
+use Rattle.model.specs.declared.answers.Compared.{Compared}
+use Rattle.model.specs.declared.answers.Compared.the-variants.{Same as SameAnswer, Refused as RefusedAnswer}
+use Rattle.theory.proofs.Impossible.{impossible}
+use Rattle.theory.proofs.Reversal.{reversing-long}
+use Rattle.theory.proofs.Endings.{reversing-finishes}
+use Rattle.theory.proofs.Leftmost.{counted-within}
+use Rattle.theory.proofs.Clearing.{clear-homogeneous}
+use Rattle.theory.proofs.Verdicts.{demand-three, settled-same, settled-different, stopped-by-budget, stopped-by-room}
+use Rattle.theory.proofs.Verdicts.{Settled as TheorySettled}
+use Rattle.images.specs.Range.{GeneratorInRange, EntryInRange, ChainInRange, ProgramInRange}
+use Rattle.images.specs.Range.{All as Every}
+use Rattle.images.specs.Programs.{ForwardOf}
+use Rattle.images.proofs.RoundTrip.{chain-reads-back, program-in-range}
+use Rattle.engine.specs.Cells.{Lettered}
+use Rattle.engine.proofs.Lettering.{length-positive, length-negative}
+use Rattle.chains.specs.Slots.{All, EntryFits}
+use Rattle.chains.specs.Listing.{Chained}
+use Rattle.chains.specs.Listing.{Compared as Listed-from}
+use Rattle.chains.proofs.Courses.{even-of}
+use Rattle.chains.proofs.Layouts.{room-for-fewer}
+use Rattle.checks.specs.Table.{Of}
+use Rattle.services.specs.Compare.{toldAs, judgementAs, Ended, Judged, LoadedPair, Settled, settled, by-allowance, by-memory, Meaning}
+use Rattle.services.specs.Chain.{Area, ListedAs}
+use Rattle.services.specs.declared.compare.Judgement.{Judgement}
+use Rattle.services.specs.declared.compare.Judgement.the-variants.{Same, Different, Refused}
+use Rattle.services.proofs.Early.{told}
+use Rattle.services.proofs.Outcomes.{still-refused, goes-on}
+use Rattle.services.proofs.Programs.{lettered-program}
+
+-- A VERDICT THAT LISTS NOTHING
+
+abbrev pub NotSame : Judgement → Type 0
+NotSame (Same k r) = ⊥
+NotSame (Different k) = Unit {0}
+NotSame (Refused r) = Unit {0}
+
+refused-area : (T : Presentation) (u v : Positive) (area : List ℕ) (r : Refusal) → Area T u v area area (refusal r)
+refused-area T u v area r = subst (Area T u v area area) (sym (told r .is)) refl
+
+module _ (T : Presentation) (u v : Positive) (steps width : ℕ) (before : List ℕ) where
+  pub lists-nothing : (j : Judgement) → NotSame j → Judged T u v steps width j → ListedAs T u v steps width before before (toldAs j)
+  lists-nothing (Same k r) unlike p = absurd unlike
+  lists-nothing (Different k) unlike p =
+      record { verdict = ap (λ o. o >>= listable (T .size) (length before)) (p .verdict); area = refl }
+  lists-nothing (Refused r) unlike p =
+      record {
+        verdict = sym (still-refused (comparison T u v steps width) r (sym (p .verdict)) (listable (T .size) (length before)));
+        area = refused-area T u v before r;
+      }
+
+  module _ (size k r : ℕ) (sized : T .size ≡ size) (p : Judged T u v steps width (Same k r)) where
+    listing-of : (comparison T u v steps width >>= listable (T .size) (length before)) ≡ unless (ltb (length before) (chainBytes size k)) 13 (same-after k)
+    listing-of =
+        ap (λ o. o >>= listable (T .size) (length before)) (sym (p .verdict))
+        ∙ ap (λ n. unless (ltb (length before) (chainBytes n k)) 13 (same-after k)) sized
+
+    pub area-too-short : length before < chainBytes size k → ListedAs T u v steps width before before (RefusedAnswer AnswerShort)
+    area-too-short h =
+        record {
+          verdict = sym (listing-of ∙ ap (λ t. unless t 13 (same-after k)) (lt-ltb (length before) (chainBytes size k) h));
+          area = refl;
+        }
+
+    pub lists-chain : chainBytes size k ≤ length before → (after : List ℕ) → Listed T u v k before after → ListedAs T u v steps width before after (SameAnswer k)
+    lists-chain h after l =
+        record {
+          verdict = sym (listing-of ∙ ap (λ t. unless t 13 (same-after k)) (le-ltb (length before) (chainBytes size k) h));
+          area = l;
+        }
+
+-- THE LISTING
+
+-- a reversing that finished began with a word that fits
+pub finished-fits : (T : Presentation) (steps width : ℕ) (w : Word) (n d : Positive) (k r : ℕ) → reversing T steps width w ≡ finished n d k r → length w ≤ width
+finished-fits T steps width w n d k r e = go (decLt width (length w))
+  where
+    go : Dec (width < length w) → length w ≤ width
+    go (yes h) = let f = reversing-long T steps width w h in impossible (cc (f, e))
+    go (no h) = omega arith
+
+pub pair-fits : (T : Presentation) (u v : Positive) (steps width k r : ℕ) → Ended T u v steps width k r → length u + length v ≤ width
+pair-fits T u v steps width k r e =
+    let h = finished-fits T steps width (negative u ++ positive v) [] [] k r (e .empty) in
+    omega (arith, length-append (negative u) (positive v), length-negative u, length-positive v)
+
+entries-in-range : (n : ℕ) (es : List Entry) → All (EntryFits n) es → Every (EntryInRange n) es
+entries-in-range n [] p = tt
+entries-in-range n (e ∷ es) p = (
+  record {
+    offset-small = p .0 .offset-small;
+    a-names = record { positive = p .0 .a-names .low; small = p .0 .a-names .high };
+    b-names = record { positive = p .0 .b-names .low; small = p .0 .b-names .high };
+  },
+  entries-in-range n es (p .1),
+)
+
+pub listed-of : (T : Presentation) (u v : Positive) (k : ℕ) (before after : List ℕ) → T .size ≤ 16 → Chained T u v k before after → Listed T u v k before after
+listed-of T u v k before after few c =
+    record {
+      entries = c .entries;
+      leads = c .leads;
+      few = c .few;
+      written = c .written;
+      readable = chain-reads-back (T .size) few (c .entries) (record { short = c .short; entries = entries-in-range (T .size) (c .entries) (c .fit) });
+    }
+
+-- what the listing asks, from the comparison and the programs that were loaded again
+module _ (cells : List ℕ) (size : ℕ) (T : Presentation) (o : Of cells size T) (u v : Positive) (first second : List ℕ) (m n : ℕ) (one : ForwardOf first size m)
+    (two : ForwardOf second size n) (eu : one .word ≡ u) (ev : two .word ≡ v) (steps width k r : ℕ) (e : Ended T u v steps width k r) (bytes : List ℕ) (right : ℕ)
+    (same-width : length bytes ≡ width) (l : LoadedPair cells T u v bytes m right) (room : ℕ) (enough : chainBytes size k ≤ room) where
+  few : size ≤ 16
+  few = omega (arith, o .sized, o .stands .few)
+
+  named : (w : Positive) (image : List ℕ) → readProgram size image ≡ answered (positive w) → ProgramInRange size (positive w)
+  named w image q = program-in-range size few image (positive w) q
+
+  first-range : ProgramInRange size (positive u)
+  first-range = named u first (one .read-signed ∙ ap (λ x. answered (positive x)) eu)
+
+  second-range : ProgramInRange size (positive v)
+  second-range = named v second (two .read-signed ∙ ap (λ x. answered (positive x)) ev)
+
+  lettered : (w : Positive) → ProgramInRange size (positive w) → Lettered (T .size) (positive w)
+  lettered w p = subst (λ i. Lettered i (positive w)) (sym (o .sized)) (lettered-program size (positive w) (p .letters))
+
+  pub listed-from : Listed-from cells size bytes m right r room T u v k
+  listed-from =
+      record {
+        stands = o .stands;
+        size-is = sym (o .sized);
+        even = even-of T (clear-homogeneous T steps width (e .clear));
+        short = omega (arith, first-range .short, length-positive u);
+        first-named = lettered u first-range;
+        second-named = lettered v second-range;
+        ordered = l .searched .ordered;
+        inside = l .searched .inside;
+        first-length = ap length (sym eu) ∙ one .count-is;
+        word = l .word;
+        budget = steps;
+        same = ap (λ i. reversing T steps i (negative u ++ positive v)) same-width ∙ e .empty;
+        enough = omega (arith, room-for-fewer size (counted-within (reversing-finishes T steps width (negative u ++ positive v) [] [] k r (e .empty))));
+      }
+
+-- THE SERVICE
+
+module _ (table first second : List ℕ) (steps width area : ℕ) where
+  pub chain-no-table : (r : Refusal) → readTable table ≡ refusal r → chain table first second steps width area ≡ refusal r
+  unfolding chain
+  chain-no-table r e = still-refused (readTable table) r e _
+
+  module _ (T : Presentation) (e : readTable table ≡ answered T) where
+    pub chain-no-first : (r : Refusal) → readForward (T .size) first ≡ refusal r → chain table first second steps width area ≡ refusal r
+    unfolding chain
+    chain-no-first r f = goes-on (readTable table) T e _ ∙ still-refused (readForward (T .size) first) r f _
+
+    module _ (u : Positive) (f : readForward (T .size) first ≡ answered u) where
+      pub chain-no-second : (r : Refusal) → readForward (T .size) second ≡ refusal r → chain table first second steps width area ≡ refusal r
+      unfolding chain
+      chain-no-second r g =
+          goes-on (readTable table) T e _ ∙ (goes-on (readForward (T .size) first) u f _ ∙ still-refused (readForward (T .size) second) r g _)
+
+      pub chain-runs : (v : Positive) → readForward (T .size) second ≡ answered v
+          → chain table first second steps width area ≡ (comparison T u v steps width >>= listable (T .size) area)
+      unfolding chain
+      chain-runs v g =
+          goes-on (readTable table) T e _ ∙ (goes-on (readForward (T .size) first) u f _ ∙ goes-on (readForward (T .size) second) v g _)
+
+  -- what is told of a verdict gives the verdict back
+  shown : (n : ℕ) (x : Verdict) (y : Verdict) → listable n area x ≡ answered y → x ≡ y
+  shown n (same-after k) y e = by-room (ltb area (chainBytes n k)) e
+    where
+      by-room : (t : Bool) → unless t 13 (same-after k) ≡ answered y → same-after k ≡ y
+      by-room true q = impossible (cc)
+      by-room false q = cc
+  shown n (different-after k) y e = cc
+
+  told-of : (n : ℕ) (o : Outcome Verdict) (y : Verdict) → (o >>= listable n area) ≡ answered y → o ≡ answered y
+  told-of n (answered x) y e = ap answered (shown n x y e)
+  told-of n (refused i ps) y e = impossible (cc)
+
+  as-settled : (n : ℕ) {o : Outcome Verdict} → TheorySettled o → Settled (listable n area) (o >>= listable n area)
+  as-settled n (settled-same {k}) = settled (same-after k)
+  as-settled n (settled-different {k}) = settled (different-after k)
+  as-settled n stopped-by-budget = by-allowance
+  as-settled n stopped-by-room = by-memory
+
+  pub chain-means : (o : Outcome Verdict) → o ≡ chain table first second steps width area → Meaning table first second steps width (λ T v. listable (T .size) area v) o
+  chain-means o e =
+      record {
+        same-joined = λ k h T u v c. demand-three T u v steps width .same-only-joined k (told-of (T .size) (comparison T u v steps width) (same-after k) (sym (is T u v c) ∙ h));
+        different-apart = λ k h T u v c. demand-three T u v steps width .different-only-apart k (told-of (T .size) (comparison T u v steps width) (different-after k) (sym (is T u v c) ∙ h));
+        verdict-or-stop = λ T u v c clear. subst (Settled (listable (T .size) area)) (sym (is T u v c)) (as-settled (T .size) (demand-three T u v steps width .verdict-or-stop clear));
+        ends-empty = λ T u v c clear j. demand-three T u v steps width .ends-empty clear j;
+        answers-same = λ T u v c clear j k run cs cr. is T u v c ∙ ap (λ x. x >>= listable (T .size) area) (demand-three T u v steps width .answers-same clear j k run cs cr);
+      }
+    where
+      is : (T : Presentation) (u v : Positive) → Compares table first second T u v → o ≡ (comparison T u v steps width >>= listable (T .size) area)
+      is T u v c = e ∙ chain-runs T (c .table-read) u (c .first-read) v (c .second-read)
+
+-- the answer area of the service
+module _ (table first second before after : List ℕ) where
+  pub area-refused : (r : Refusal) → ChainArea table first second before before (refusal r)
+  area-refused r = subst (ChainArea table first second before before) (sym (told r .is)) refl
+
+  pub area-listed : (T : Presentation) (u v : Positive) → Compares table first second T u v → (o : Outcome Verdict) → Area T u v before after o
+      → ChainArea table first second before after o
+  area-listed T u v c (answered (same-after k)) l = (T, u, v, c, l)
+  area-listed T u v c (answered (different-after k)) l = l
+  area-listed T u v c (refused n ps) l = l

@@ -1,0 +1,11 @@
+pub mod Fractions
+pub mod Tables
+pub mod Early
+pub mod Programs
+pub mod Answers
+pub mod Outcomes
+pub mod ReverseService
+pub mod ClearService
+pub mod Pairs
+pub mod Comparing
+pub mod ChainService

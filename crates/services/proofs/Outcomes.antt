@@ -1,0 +1,27 @@
+-- A refusal on its way through a service, whatever the service answers.
+use mathlib.Core.Path.{_≡_, refl, sym, ap, subst, _∙_}
+use mathlib.Core.List.{List, [], _∷_, _++_}
+use Prim.Native.Nat.{ℕ, _≤_}
+use lib.ListN.{length, replicate}
+use Rattle.model.specs.Outcome.{Outcome, answered, refused, _>>=_, mapped}
+use Rattle.model.specs.Areas.{outputAfter, workspaceAfter}
+use Rattle.model.specs.Stated.{refusal}
+use Rattle.model.specs.declared.answers.Refusal.{Refusal}
+use Rattle.services.proofs.Early.{Early, refusal-then, refusal-mapped, refusal-output, refusal-workspace}
+
+module _ {A : Type 0} (o : Outcome A) (r : Refusal) (e : o ≡ refusal r) where
+  pub still-refused : {B : Type 0} (f : A → Outcome B) → (o >>= f) ≡ refusal r
+  still-refused f = ap (λ q. q >>= f) e ∙ refusal-then r f
+
+  pub refused-stated : {B : Type 0} (f : A → B) → refusal r ≡ mapped f o
+  refused-stated f = sym (ap (mapped f) e ∙ refusal-mapped r f)
+
+  pub refused-output : (bytes : A → List ℕ) (area : List ℕ) → area ≡ outputAfter bytes o area
+  refused-output bytes area = sym (ap (λ q. outputAfter bytes q area) e ∙ refusal-output r bytes area)
+
+  -- refused by a check that comes before the work
+  pub refused-workspace : {C : Type 0} (first : Outcome C) (k : ℕ) → first ≡ refusal r → Early k first → k ≤ 8 → (area : List ℕ) → area ≡ workspaceAfter o area
+  refused-workspace first k f h few area = sym (ap (λ q. workspaceAfter q area) e ∙ refusal-workspace A r first k f h few area)
+
+pub goes-on : {A B : Type 0} (o : Outcome A) (x : A) → o ≡ answered x → (f : A → Outcome B) → (o >>= f) ≡ f x
+goes-on o x e f = ap (λ q. q >>= f) e

@@ -1,0 +1,86 @@
+-- A program that was accepted, unpacked at the workspace's end: the word that is reversed.
+use mathlib.Core.Path.{_≡_, refl, sym, ap, ap₂, subst, _∙_}
+use mathlib.Core.List.{List, [], _∷_, _++_, map, append-nil}
+use mathlib.Core.Bool.{cond}
+use Prim.Native.Nat.{ℕ, _+_, _-_, _≤_, _<_}
+use native.Mathlib.Omega.{arith}
+use lib.ListN.{length, take, drop, length-append, length-take, length-drop, length-map}
+use lib.Seq.{drop-at, length-take-le, drop-length}
+use Rattle.model.specs.Word.{Letter, forward, back, Word, byte, letter}
+use Rattle.model.specs.Presentation.{Presentation}
+use Rattle.model.specs.Reversing.{site, nowhere, reversing, stopped, room}
+use Rattle.model.specs.Outcome.{answered}
+use Rattle.model.specs.Images.{readProgram}
+use Rattle.model.specs.Plain.{plainProgram}
+use Rattle.model.specs.declared.answers.Ending.{Ending}
+use Rattle.model.specs.declared.answers.Ending.the-variants.{Stopped}
+use Rattle.model.specs.declared.answers.Stop.the-variants.{Room}
+use Rattle.theory.proofs.Reversal.{reversing-long}
+use Rattle.images.specs.Range.{All, GeneratorInRange, LetterInRange, ProgramInRange}
+use Rattle.images.specs.Programs.{written}
+use Rattle.engine.specs.Gap.{letters, wordAt, Searched}
+use Rattle.engine.specs.Cells.{InRange, Lettered, Stands, Serves}
+use Rattle.engine.specs.Run.{Reverses}
+use Rattle.engine.proofs.Letters.{letter-forward, letter-back, letters-cons, letters-nil}
+use Rattle.checks.specs.Table.{Of}
+
+-- the bytes of letters that a table can have are those letters
+pub byte-letters : (n : ℕ) → n ≤ 16 → (w : Word) → All (LetterInRange n) w → letters (map byte w) ≡ w
+byte-letters n h [] p = letters-nil
+byte-letters n h (forward a ∷ w) p =
+    letters-cons a (map byte w) ∙ ap₂ (λ l v. l ∷ v) (letter-forward a (omega (arith, p .0 .small))) (byte-letters n h w (p .1))
+byte-letters n h (back a ∷ w) p =
+    let e : 128 + a - 128 ≡ a = omega arith in
+    letters-cons (128 + a) (map byte w) ∙ ap₂ (λ l v. l ∷ v) (letter-back (128 + a) (omega arith) ∙ ap back e) (byte-letters n h w (p .1))
+
+pub lettered-program : (n : ℕ) (w : Word) → All (LetterInRange n) w → Lettered n w
+lettered-program n [] p = tt
+lettered-program n (forward a ∷ w) p = (record { low = p .0 .positive; high = p .0 .small }, lettered-program n w (p .1))
+lettered-program n (back a ∷ w) p = (record { low = p .0 .positive; high = p .0 .small }, lettered-program n w (p .1))
+
+-- at the end of an area
+pub written-end : (area bytes : List ℕ) (at : ℕ) → at + length bytes ≡ length area → drop at (written area at bytes) ≡ bytes
+written-end area bytes at e =
+    drop-at (take at area) (bytes ++ drop (at + length bytes) area) at (length-take-le at area (omega arith))
+    ∙ (ap (λ i. bytes ++ drop i area) e ∙ (ap (λ l. bytes ++ l) (drop-length area) ∙ append-nil bytes))
+
+module _ (cells : List ℕ) (size : ℕ) (T : Presentation) (o : Of cells size T) (w : Word) (p : ProgramInRange size w)
+    (area : List ℕ) (right : ℕ) (fit : right + length w ≡ length area) where
+  abbrev pub ready : List ℕ
+  ready = written area right (plainProgram w)
+
+  few : size ≤ 16
+  few = omega (arith, o .sized, o .stands .few)
+
+  pub word-loaded : wordAt ready 0 right ≡ w
+  unfolding wordAt
+  word-loaded =
+      ap letters (written-end area (map byte w) right (ap (λ k. right + k) (length-map w byte) ∙ fit)) ∙ byte-letters size few w (p .letters)
+
+  ready-length : length ready ≡ length area
+  ready-length =
+      simp (length-append, length-take, length-drop, length-map) (omega (arith, fit))
+
+  pub word-searched : Searched ready 0 right
+  word-searched =
+      record {
+        ordered = omega arith;
+        inside = omega (arith, ready-length, fit);
+        none-before = ap site letters-nil;
+      }
+
+  pub word-served : Serves cells (wordAt ready 0 right) T
+  word-served =
+      record {
+        stands = o .stands;
+        lettered = rw word-loaded (subst (λ n. Lettered n w) (sym (o .sized)) (lettered-program size w (p .letters)));
+      }
+
+  pub word-reverses : (steps : ℕ) (after : List ℕ) (r : Ending) → Reverses T (wordAt ready 0 right) steps after r → Reverses T w steps after r
+  word-reverses steps after r q = subst (λ v. Reverses T v steps after r) word-loaded q
+
+-- a program longer than the workspace
+pub too-long : (T : Presentation) (w : Word) (steps : ℕ) (area : List ℕ) → length area < length w → Reverses T w steps area (Stopped Room)
+too-long T w steps area h =
+    let e : reversing T steps (length area) w ≡ stopped room = reversing-long T steps (length area) w h in
+    record { answer = sym (ap Rattle.model.specs.Stated.endingAnswer e); holds = rw e tt; named = rw e tt }

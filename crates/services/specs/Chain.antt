@@ -1,0 +1,28 @@
+-- What listing a chain after a comparison of two loaded programs comes to.
+use mathlib.Core.List.{List, [], _∷_, _++_}
+use mathlib.Core.Path.{_≡_}
+use Prim.Native.Nat.{ℕ}
+use lib.ListN.{length}
+use Rattle.model.specs.Word.{Positive}
+use Rattle.model.specs.Presentation.{Presentation}
+use Rattle.model.specs.Outcome.{Outcome, answered, refused, _>>=_}
+use Rattle.model.specs.Services.{Verdict, same-after, different-after, readForward, comparison, listable}
+use Rattle.model.specs.Areas.{Listed, workspaceAfter}
+use Rattle.model.specs.Stated.{compared}
+use Rattle.model.specs.declared.answers.Compared.{Compared}
+use Rattle.checks.specs.Table.{Of}
+
+-- the answer area: a chain after `same`, else as it was
+abbrev pub Area : Presentation → Positive → Positive → List ℕ → List ℕ → Outcome Verdict → Type 0
+Area T u v before after (answered (same-after k)) = Listed T u v k before after
+Area T u v before after (answered (different-after k)) = after ≡ before
+Area T u v before after (refused n ps) = after ≡ before
+
+pub record ListedAs (T : Presentation) (u v : Positive) (budget width : ℕ) (before after : List ℕ) (r : Compared) : Type 0 where
+  pub verdict : compared r ≡ (comparison T u v budget width >>= listable (T .size) (length before))
+  pub area : Area T u v before after (compared r)
+
+pub record Lists (cells : List ℕ) (size : ℕ) (first second : List ℕ) (budget : ℕ) (workspace workspace′ before after : List ℕ) (r : Compared) : Type 0 where
+  pub wiped : workspace′ ≡ workspaceAfter (compared r) workspace
+  pub lists : (T : Presentation) → Of cells size T → (u v : Positive) → readForward size first ≡ answered u → readForward size second ≡ answered v
+      → ListedAs T u v budget (length workspace) before after r

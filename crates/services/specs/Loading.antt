@@ -1,0 +1,44 @@
+-- What is loaded before a reversing: the cells of a table, and a program.
+use mathlib.Core.List.{List, [], _∷_, _++_}
+use mathlib.Core.Path.{_≡_}
+use Prim.Native.Nat.{ℕ, _≤_}
+use lib.ListN.{length, getD}
+use Rattle.model.specs.Word.{Word}
+use Rattle.model.specs.Presentation.{Presentation}
+use Rattle.model.specs.Outcome.{Outcome, answered, refused}
+use Rattle.model.specs.Images.{readTable, readProgram}
+use Rattle.model.specs.Stated.{refusal}
+use Rattle.model.specs.declared.answers.Ending.{Ending}
+use Rattle.images.specs.Programs.{Accepted}
+use Rattle.images.specs.declared.tables.TableRead.{TableRead}
+use Rattle.images.specs.declared.tables.TableRead.the-variants.{Table, Refused}
+use Rattle.engine.specs.Cells.{cellAt, Stands}
+use Rattle.engine.specs.Run.{Reverses}
+use Rattle.checks.specs.Table.{Of}
+
+-- the cells of the first `n` letters with themselves begin with 0, and no other byte has changed
+pub record Diagonal (before after : List ℕ) (n : ℕ) : Type 0 where
+  pub same-length : length after ≡ length before
+  pub emptied : (a : ℕ) → 1 ≤ a → a ≤ n → getD after (cellAt a a) 0 ≡ 0
+  pub kept : (i : ℕ) → ((a : ℕ) → 1 ≤ a → a ≤ n → i ≡ cellAt a a → ⊥) → getD after i 0 ≡ getD before i 0
+
+-- the cells stand for the table that the image holds
+pub record Loaded (image cells : List ℕ) (size : ℕ) : Type 0 where
+  pub table : Presentation
+  pub read : readTable image ≡ answered table
+  pub of : Of cells size table
+
+abbrev pub TableLoaded : List ℕ → List ℕ → TableRead → Type 0
+TableLoaded image cells (Table size) = Loaded image cells size
+TableLoaded image cells (Refused r) = readTable image ≡ refusal r
+
+-- an accepted program under cells that stand for a table
+pub record ProgramRuns (cells : List ℕ) (size : ℕ) (program : List ℕ) (count : ℕ) : Type 0 where
+  pub table : Presentation
+  pub of : Of cells size table
+  pub accepted : Accepted program size count
+
+-- its reversing, under every table that the cells stand for
+abbrev pub ProgramReverses : List ℕ → ℕ → List ℕ → ℕ → List ℕ → Ending → Type 0
+ProgramReverses cells size program budget workspace r =
+    (T : Presentation) → Of cells size T → (w : Word) → readProgram size program ≡ answered w → Reverses T w budget workspace r

@@ -1,0 +1,112 @@
+// Chain: as compare; where the verdict is `same`, a chain from the first program to the second is listed in the answer area.
+ghost use mathlib.Core.Path.{_≡_};
+ghost use Prim.Native.Nat.{_≤_};
+ghost use lib.ListN.{length};
+ghost use Rattle.model.specs.Services.{chain, chainBytes, listable};
+ghost use Rattle.model.specs.Areas.{workspaceAfter, ChainArea};
+ghost use Rattle.model.specs.Stated.{compared};
+ghost use Rattle.services.specs.Compare.{Forward, Meaning};
+ghost use Rattle.services.specs.Chain.{Lists};
+use crate::areas::wipe;
+use crate::compare::Judgement;
+use crate::compare::compare_programs;
+use crate::compare::load_pair;
+use crate::compare::told;
+use crate::loading::load_table;
+use bits::letter_width;
+use chains::listing::list;
+use engine::gap::Gap;
+use images::programs::ProgramRead;
+use images::programs::read_forward;
+use images::tables::TableRead;
+use model::answers::Compared;
+use model::answers::Refusal;
+
+// The bytes of a chain image with so many entries.
+pub fn chain_bytes(size: u8, entries: u16) -> usize
+    requires { ⌜ (1 ≤ size) × (size ≤ 16) ⌝ }
+    ensures { λ r. ⌜ r ≡ chainBytes size entries ⌝ }
+{
+    let width = letter_width(size) as usize;
+    (16 + entries as usize * (12 + 2 * width) + 7) / 8
+}
+
+// Two accepted forward programs under a table that was loaded. The workspace is wiped, unless the length check refused.
+pub fn chain_programs(
+    cells: &[u8],
+    size: u8,
+    first: &[u8],
+    m: u16,
+    second: &[u8],
+    n: u16,
+    budget: u16,
+    workspace: &mut [u8],
+    answer: &mut [u8],
+) -> Compared
+    requires { ⌜ Forward (now cells) size (now first) m (now second) n ⌝ }
+    ensures { λ r. ⌜ Lists (now (cells .entry)) size (now (first .entry)) (now (second .entry)) budget (now (workspace .entry)) (now (workspace .exit)) (now (answer .entry)) (now (answer .exit)) r ⌝ }
+{
+    let verdict = compare_programs(cells, size, first, m, second, n, budget, workspace);
+    let Judgement::Same { steps, relations } = verdict else {
+        return told(verdict);
+    };
+    if answer.len() < chain_bytes(size, steps) {
+        return Compared::Refused(Refusal::AnswerShort);
+    }
+    let left = m as usize;
+    let right = workspace.len() - n as usize;
+    load_pair(size, first, m, second, n, workspace);
+    list(
+        cells,
+        size,
+        workspace,
+        Gap { left, right },
+        relations,
+        answer,
+    );
+    wipe(workspace);
+    Compared::Same { steps }
+}
+
+pub fn chain(
+    table: &[u8],
+    first: &[u8],
+    second: &[u8],
+    allowance: u16,
+    workspace: &mut [u8],
+    answer: &mut [u8],
+) -> Compared
+    ensures stated { λ r. ⌜ compared r ≡ chain (now (table .entry)) (now (first .entry)) (now (second .entry)) allowance (length (now (workspace .entry))) (length (now (answer .entry))) ⌝ }
+    ensures workspace { λ r. ⌜ now (workspace .exit) ≡ workspaceAfter (chain (now (table .entry)) (now (first .entry)) (now (second .entry)) allowance (length (now (workspace .entry))) (length (now (answer .entry)))) (now (workspace .entry)) ⌝ }
+    ensures area { λ r. ⌜ ChainArea (now (table .entry)) (now (first .entry)) (now (second .entry)) (now (answer .entry)) (now (answer .exit)) (compared r) ⌝ }
+    ensures meaning { λ r. ⌜ Meaning (now (table .entry)) (now (first .entry)) (now (second .entry)) allowance (length (now (workspace .entry))) (λ T v. listable (T .size) (length (now (answer .entry))) v) (compared r) ⌝ }
+{
+    let mut cells = [0u8; 4096];
+    let read = load_table(table, &mut cells);
+    match read {
+        TableRead::Refused(refusal) => Compared::Refused(refusal),
+        TableRead::Table { size } => {
+            let one = read_forward(first, size);
+            match one {
+                ProgramRead::Refused(refusal) => Compared::Refused(refusal),
+                ProgramRead::Program { count } => {
+                    let two = read_forward(second, size);
+                    match two {
+                        ProgramRead::Refused(refusal) => Compared::Refused(refusal),
+                        ProgramRead::Program { count: other } => chain_programs(
+                            &cells,
+                            size,
+                            first,
+                            count,
+                            second,
+                            other,
+                            allowance,
+                            workspace,
+                            answer,
+                        ),
+                    }
+                }
+            }
+        }
+    }
+}

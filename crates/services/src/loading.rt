@@ -1,0 +1,61 @@
+ghost use mathlib.Core.Path.{_≡_};
+ghost use Prim.Native.Nat.{ℕ, _≤_};
+ghost use lib.ListN.{length, getD};
+ghost use Rattle.engine.specs.Cells.{cellAt};
+ghost use Rattle.images.specs.Programs.{Accepted};
+ghost use Rattle.services.specs.Loading.{Diagonal, TableLoaded, ProgramRuns, ProgramReverses};
+use engine::cells::cell_at;
+use engine::gap::Gap;
+use engine::run::reversing;
+use images::programs::unpack_letters;
+use images::tables::TableRead;
+use images::tables::read_table;
+use model::answers::Ending;
+use model::answers::Stop;
+
+// Empties the cells of each letter with itself: C(a,a) is empty.
+pub fn clear_diagonal(cells: &mut [u8])
+    requires { ⌜ length (now cells) ≡ 4096 ⌝ }
+    ensures { λ r. ⌜ Diagonal (now (cells .entry)) (now (cells .exit)) 16 ⌝ }
+{
+    let mut a: u8 = 1;
+    while a <= 16 {
+        let at = cell_at(a, a);
+        cells[at] = 0;
+        a += 1;
+    }
+}
+
+// Reads a table image into cells for the engine.
+pub fn load_table(image: &[u8], cells: &mut [u8]) -> TableRead
+    requires { ⌜ length (now cells) ≡ 4096 ⌝ }
+    ensures length { λ r. ⌜ length (now (cells .exit)) ≡ length (now (cells .entry)) ⌝ }
+    ensures table { λ r. ⌜ TableLoaded (now (image .entry)) (now (cells .exit)) r ⌝ }
+{
+    let read = read_table(image, cells);
+    clear_diagonal(cells);
+    read
+}
+
+// Reverses an accepted program, loaded at the workspace's end.
+pub fn run_program(
+    cells: &[u8],
+    size: u8,
+    program: &[u8],
+    count: u16,
+    budget: u16,
+    workspace: &mut [u8],
+) -> Ending
+    requires { ⌜ ProgramRuns (now cells) size (now program) count ⌝ }
+    ensures length { λ r. ⌜ length (now (workspace .exit)) ≡ length (now (workspace .entry)) ⌝ }
+    ensures runs { λ r. ⌜ ProgramReverses (now (cells .entry)) size (now (program .entry)) budget (now (workspace .exit)) r ⌝ }
+{
+    let end = workspace.len();
+    let letters = count as usize;
+    if end < letters {
+        return Ending::Stopped(Stop::Room);
+    }
+    let right = end - letters;
+    unpack_letters(program, size, count, workspace, right);
+    reversing(cells, workspace, Gap { left: 0, right }, budget)
+}
