@@ -34,7 +34,6 @@ pub number-append : (v : ℕ) (xs ys : List ℕ) → number v (xs ++ ys) ≡ num
 number-append v [] ys = refl
 number-append v (x ∷ xs) ys = number-append (v * 2 + x) xs ys
 
-
 -- a digit before others, where p is 2 to the number of those
 shifted : (v b p : ℕ) → (v * 2 + b) * p ≡ v * (p * 2) + b * p
 shifted v b p = add-mul (v * 2) b p ∙ ap (λ x. x + b * p) (mul-assoc v 2 p ∙ ap (λ x. v * x) (mul-comm 2 p))

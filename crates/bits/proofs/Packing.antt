@@ -58,22 +58,22 @@ packed-bits (suc k) bits h l r =
     let first : digits 8 (number 0 (take 8 (bits ++ replicate 7 0))) ≡ take 8 (bits ++ replicate 7 0) = next-bits bits some r in
     ⊎-elim
     (λ (short : length bits < 8).
-      let k0 : k ≡ 0 = omega arith in
-      ap (λ ds. ds ++ bitsOf (packed k (drop 8 bits))) first
-      ∙ (ap (λ n. take 8 (bits ++ replicate 7 0) ++ bitsOf (packed n (drop 8 bits))) k0
-      ∙ (append-nil (take 8 (bits ++ replicate 7 0))
-      ∙ (ap (λ n. take n (bits ++ replicate 7 0)) {x = 8} {y = length bits + (8 - length bits)} (omega arith)
-      ∙ (take-append-add bits (replicate 7 0) (8 - length bits)
-      ∙ (ap (λ l. bits ++ l) (take-replicate (8 - length bits) 7 (omega arith))
-      ∙ ap (λ n. bits ++ replicate n 0) {x = 8 - length bits} {y = 8 * suc k - length bits} (omega arith)))))))
+    let k0 : k ≡ 0 = omega arith in
+    ap (λ ds. ds ++ bitsOf (packed k (drop 8 bits))) first
+    ∙ (ap (λ n. take 8 (bits ++ replicate 7 0) ++ bitsOf (packed n (drop 8 bits))) k0
+    ∙ (append-nil (take 8 (bits ++ replicate 7 0))
+    ∙ (ap (λ n. take n (bits ++ replicate 7 0)) {x = 8} {y = length bits + (8 - length bits)} (omega arith)
+    ∙ (take-append-add bits (replicate 7 0) (8 - length bits)
+    ∙ (ap (λ l. bits ++ l) (take-replicate (8 - length bits) 7 (omega arith))
+    ∙ ap (λ n. bits ++ replicate n 0) {x = 8 - length bits} {y = 8 * suc k - length bits} (omega arith)))))))
     (λ (long : 8 ≤ length bits).
-      let d : length (drop 8 bits) ≡ length bits - 8 = length-drop 8 bits in
-      ap (λ ds. ds ++ bitsOf (packed k (drop 8 bits))) first
-      ∙ (ap (λ ds. ds ++ bitsOf (packed k (drop 8 bits))) (take-append-le 8 bits (replicate 7 0) long)
-      ∙ (ap (λ ds. take 8 bits ++ ds) (packed-bits k (drop 8 bits) (omega arith) (omega arith) (bits-drop 8 bits r))
-      ∙ (sym (append-assoc (take 8 bits) (drop 8 bits) (replicate (8 * k - length (drop 8 bits)) 0))
-      ∙ (ap (λ ds. ds ++ replicate (8 * k - length (drop 8 bits)) 0) (take-append-drop 8 bits)
-      ∙ ap (λ n. bits ++ replicate n 0) {x = 8 * k - length (drop 8 bits)} {y = 8 * suc k - length bits} (omega arith))))))
+    let d : length (drop 8 bits) ≡ length bits - 8 = length-drop 8 bits in
+    ap (λ ds. ds ++ bitsOf (packed k (drop 8 bits))) first
+    ∙ (ap (λ ds. ds ++ bitsOf (packed k (drop 8 bits))) (take-append-le 8 bits (replicate 7 0) long)
+    ∙ (ap (λ ds. take 8 bits ++ ds) (packed-bits k (drop 8 bits) (omega arith) (omega arith) (bits-drop 8 bits r))
+    ∙ (sym (append-assoc (take 8 bits) (drop 8 bits) (replicate (8 * k - length (drop 8 bits)) 0))
+    ∙ (ap (λ ds. ds ++ replicate (8 * k - length (drop 8 bits)) 0) (take-append-drop 8 bits)
+    ∙ ap (λ n. bits ++ replicate n 0) {x = 8 * k - length (drop 8 bits)} {y = 8 * suc k - length bits} (omega arith))))))
     (below-or (length bits) 8)
 
 -- the bits after packing: those packed, then the filling

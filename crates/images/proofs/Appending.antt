@@ -57,11 +57,11 @@ appended-more before at xs mid ys after h p q =
     record {
       same-length = q .same-length ∙ p .same-length;
       bits =
-        q .bits
-        ∙ (ap (λ l. l ++ (ys ++ drop (at + length xs + length ys) (bitsOf mid))) t
-        ∙ (ap (λ l. (take at (bitsOf before) ++ xs) ++ (ys ++ l)) d
-        ∙ (append-assoc (take at (bitsOf before)) xs (ys ++ drop (at + length (xs ++ ys)) (bitsOf before))
-        ∙ ap (λ l. take at (bitsOf before) ++ l) (sym (append-assoc xs ys (drop (at + length (xs ++ ys)) (bitsOf before)))))));
+          q .bits
+          ∙ (ap (λ l. l ++ (ys ++ drop (at + length xs + length ys) (bitsOf mid))) t
+          ∙ (ap (λ l. (take at (bitsOf before) ++ xs) ++ (ys ++ l)) d
+          ∙ (append-assoc (take at (bitsOf before)) xs (ys ++ drop (at + length (xs ++ ys)) (bitsOf before))
+          ∙ ap (λ l. take at (bitsOf before) ++ l) (sym (append-assoc xs ys (drop (at + length (xs ++ ys)) (bitsOf before)))))));
     }
 
 -- a sign and a number are a letter's bits
@@ -178,6 +178,7 @@ image-written before after bits ob nb r some fits w =
     bytes-append [] ys hx hy i = hy i
     bytes-append (x ∷ xs) ys hx hy zero = hx 0
     bytes-append (x ∷ xs) ys hx hy (suc i) = bytes-append xs ys (λ i. hx (suc i)) hy i
+
     bytes-drop : (n : ℕ) (xs : List ℕ) → AreBytes xs → AreBytes (drop n xs)
     bytes-drop zero xs h i = h i
     bytes-drop (suc n) [] h i = h i

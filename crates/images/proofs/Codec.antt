@@ -55,10 +55,9 @@ module _ (Input : List ℕ → Type 0) (suffix : (xs ys : List ℕ) → Input (x
         let t = answer-of (several reader k (f .0 .rest)) (λ rs. answered (record { value = f .0 .value ∷ rs .value; rest = rs .rest })) r (f .2) in
         let h = several-stood k (f .0 .rest) (input-rest one input i (f .0) (f .1)) (t .0) (t .1) in
         subst (λ r. (input ≡ concatMap write (r .value) ++ r .rest) × (length (r .value) ≡ suc k) × All Range (r .value))
-        (same-answer (record { value = f .0 .value ∷ t .0 .value; rest = t .0 .rest }) r (t .2))
-        (
+        (same-answer (record { value = f .0 .value ∷ t .0 .value; rest = t .0 .rest }) r (t .2)) (
           one .stood-there input i (f .0) (f .1)
-          ∙ (ap (λ l. write (f .0 .value) ++ l) (h .0) ∙ sym (append-assoc (write (f .0 .value)) (concatMap write (t .0 .value)) (t .0 .rest))),
+              ∙ (ap (λ l. write (f .0 .value) ++ l) (h .0) ∙ sym (append-assoc (write (f .0 .value)) (concatMap write (t .0 .value)) (t .0 .rest))),
           ap suc (h .1),
           (one .in-range input i (f .0) (f .1), h .2),
         )
@@ -96,10 +95,9 @@ module _ (Input : List ℕ → Type 0) (suffix : (xs ys : List ℕ) → Input (x
         let t = answer-of (rowsOf reader k (f .0 .rest)) (λ rs. answered (record { value = f .0 .value ∷ rs .value; rest = rs .rest })) r (f .2) in
         let h = rows-stood k (f .0 .rest) (input-rest (several-codec k) input i (f .0) (f .1)) (t .0) (t .1) in
         subst (λ r. (input ≡ concatMap (concatMap write) (r .value) ++ r .rest) × Rows Range (suc k) (r .value))
-        (same-answer (record { value = f .0 .value ∷ t .0 .value; rest = t .0 .rest }) r (t .2))
-        (
+        (same-answer (record { value = f .0 .value ∷ t .0 .value; rest = t .0 .rest }) r (t .2)) (
           several-codec k .stood-there input i (f .0) (f .1)
-          ∙ (ap (λ l. concatMap write (f .0 .value) ++ l) (h .0) ∙ sym (append-assoc (concatMap write (f .0 .value)) (concatMap (concatMap write) (t .0 .value)) (t .0 .rest))),
+              ∙ (ap (λ l. concatMap write (f .0 .value) ++ l) (h .0) ∙ sym (append-assoc (concatMap write (f .0 .value)) (concatMap (concatMap write) (t .0 .value)) (t .0 .rest))),
           (several-codec k .in-range input i (f .0) (f .1) .0, several-codec k .in-range input i (f .0) (f .1) .1, h .1),
         )
 
@@ -131,8 +129,7 @@ field-parts early width input r e =
 field-stood : (width : ℕ) (input : List ℕ) → AreBits input → width ≤ length input
     → (input ≡ digits width (number 0 (take width input)) ++ drop width input) × (number 0 (take width input) < 2 ^ width)
 field-stood width input h l =
-    let n : length (take width input) ≡ width = length-take-le width input l in
-    (
+    let n : length (take width input) ≡ width = length-take-le width input l in (
       sym (take-append-drop width input) ∙ ap (λ l. l ++ drop width input) (sym (digits-of-number width (take width input) n (bits-take width input h))),
       subst (λ k. number 0 (take width input) < 2 ^ k) n (number-bound (take width input) (bits-take width input h)),
     )
@@ -142,15 +139,15 @@ unfolding field
 field-codec early width =
     record {
       reads-back = λ v h rest.
-        ap (λ t. unless t early (record { value = number 0 (take width (digits width v ++ rest)); rest = drop width (digits width v ++ rest) }))
-            (le-ltb (length (digits width v ++ rest)) width (omega (arith, length-append (digits width v) rest, length-digits width v)))
-        ∙ (ap (λ l. answered (record { value = number 0 l; rest = drop width (digits width v ++ rest) })) (take-at (digits width v) rest width (length-digits width v))
-        ∙ (ap (λ n. answered (record { value = n; rest = drop width (digits width v ++ rest) })) (number-of-digits width v h)
-        ∙ ap (λ l. answered (record { value = v; rest = l })) (drop-at (digits width v) rest width (length-digits width v))));
+          ap (λ t. unless t early (record { value = number 0 (take width (digits width v ++ rest)); rest = drop width (digits width v ++ rest) }))
+          (le-ltb (length (digits width v ++ rest)) width (omega (arith, length-append (digits width v) rest, length-digits width v)))
+          ∙ (ap (λ l. answered (record { value = number 0 l; rest = drop width (digits width v ++ rest) })) (take-at (digits width v) rest width (length-digits width v))
+          ∙ (ap (λ n. answered (record { value = n; rest = drop width (digits width v ++ rest) })) (number-of-digits width v h)
+          ∙ ap (λ l. answered (record { value = v; rest = l })) (drop-at (digits width v) rest width (length-digits width v))));
       stood-there = λ input i r e.
-        let p = field-parts early width input r e in
-        subst (λ r. input ≡ digits width (r .value) ++ r .rest) (p .1) (field-stood width input i (p .0) .0);
+          let p = field-parts early width input r e in
+          subst (λ r. input ≡ digits width (r .value) ++ r .rest) (p .1) (field-stood width input i (p .0) .0);
       in-range = λ input i r e.
-        let p = field-parts early width input r e in
-        subst (λ r. r .value < 2 ^ width) (p .1) (field-stood width input i (p .0) .1);
+          let p = field-parts early width input r e in
+          subst (λ r. r .value < 2 ^ width) (p .1) (field-stood width input i (p .0) .1);
     }

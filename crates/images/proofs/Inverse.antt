@@ -38,23 +38,23 @@ module _ {A : Type 0} (early width : ℕ) (reader : List ℕ → Outcome (Read A
   counted-codec =
       record {
         reads-back = λ xs h rest.
-          ap counted (append-assoc (digits width (length xs)) (concatMap write xs) rest)
-          ∙ then (field early width (digits width (length xs) ++ (concatMap write xs ++ rest))) _ (record { value = length xs; rest = concatMap write xs ++ rest }) _
-          (field-codec early width .reads-back (length xs) (h .0) (concatMap write xs ++ rest))
-          (many (length xs) .reads-back xs (refl, h .1) rest);
+            ap counted (append-assoc (digits width (length xs)) (concatMap write xs) rest)
+            ∙ then (field early width (digits width (length xs) ++ (concatMap write xs ++ rest))) _ (record { value = length xs; rest = concatMap write xs ++ rest }) _
+            (field-codec early width .reads-back (length xs) (h .0) (concatMap write xs ++ rest))
+            (many (length xs) .reads-back xs (refl, h .1) rest);
         stood-there = λ input i r e.
-          let f = answer-of (field early width input) (λ k. several reader (k .value) (k .rest)) r e in
-          let j = input-rest AreBits bits-suffix (field-codec early width) input i (f .0) (f .1) in
-          let c = many (f .0 .value) .in-range (f .0 .rest) j r (f .2) in
-          field-codec early width .stood-there input i (f .0) (f .1)
-          ∙ (ap (λ l. digits width (f .0 .value) ++ l) (many (f .0 .value) .stood-there (f .0 .rest) j r (f .2))
-          ∙ (ap (λ n. digits width n ++ (concatMap write (r .value) ++ r .rest)) (sym (c .0))
-          ∙ sym (append-assoc (digits width (length (r .value))) (concatMap write (r .value)) (r .rest))));
+            let f = answer-of (field early width input) (λ k. several reader (k .value) (k .rest)) r e in
+            let j = input-rest AreBits bits-suffix (field-codec early width) input i (f .0) (f .1) in
+            let c = many (f .0 .value) .in-range (f .0 .rest) j r (f .2) in
+            field-codec early width .stood-there input i (f .0) (f .1)
+            ∙ (ap (λ l. digits width (f .0 .value) ++ l) (many (f .0 .value) .stood-there (f .0 .rest) j r (f .2))
+            ∙ (ap (λ n. digits width n ++ (concatMap write (r .value) ++ r .rest)) (sym (c .0))
+            ∙ sym (append-assoc (digits width (length (r .value))) (concatMap write (r .value)) (r .rest))));
         in-range = λ input i r e.
-          let f = answer-of (field early width input) (λ k. several reader (k .value) (k .rest)) r e in
-          let j = input-rest AreBits bits-suffix (field-codec early width) input i (f .0) (f .1) in
-          let c = many (f .0 .value) .in-range (f .0 .rest) j r (f .2) in
-          (subst (λ n. n < 2 ^ width) (sym (c .0)) (field-codec early width .in-range input i (f .0) (f .1)), c .1);
+            let f = answer-of (field early width input) (λ k. several reader (k .value) (k .rest)) r e in
+            let j = input-rest AreBits bits-suffix (field-codec early width) input i (f .0) (f .1) in
+            let c = many (f .0 .value) .in-range (f .0 .rest) j r (f .2) in
+            (subst (λ n. n < 2 ^ width) (sym (c .0)) (field-codec early width .in-range input i (f .0) (f .1)), c .1);
       }
 
 module _ (n : ℕ) (few : n ≤ 16) where
@@ -70,8 +70,7 @@ module _ (n : ℕ) (few : n ≤ 16) where
         let p = not-refused (leb n (f .0 .value)) wrong (record { value = f .0 .value + 1; rest = f .0 .rest }) r (f .2) in
         let below : f .0 .value < n = leb-false n (f .0 .value) (p .0) in
         let back : f .0 .value + 1 - 1 ≡ f .0 .value = omega arith in
-        subst (λ r. (input ≡ letterBits n (r .value) ++ r .rest) × GeneratorInRange n (r .value)) (p .1)
-        (
+        subst (λ r. (input ≡ letterBits n (r .value) ++ r .rest) × GeneratorInRange n (r .value)) (p .1) (
           field-codec early (letterWidth n) .stood-there input i (f .0) (f .1) ∙ ap (λ v. digits (letterWidth n) v ++ f .0 .rest) (sym back),
           record { positive = omega arith; small = omega arith },
         )
@@ -80,12 +79,12 @@ module _ (n : ℕ) (few : n ≤ 16) where
     letter-codec =
         record {
           reads-back = λ a h rest.
-            let below : a - 1 < n = omega (arith, h .positive, h .small) in
-            let up : a - 1 + 1 ≡ a = omega (arith, h .positive) in
-            then (field early (letterWidth n) (digits (letterWidth n) (a - 1) ++ rest)) _ (record { value = a - 1; rest = rest }) _
-            (field-codec early (letterWidth n) .reads-back (a - 1) (letter-fits n a few (h .positive) (h .small)) rest)
-            (ap (λ t. unless t wrong (record { value = a - 1 + 1; rest = rest })) (lt-leb n (a - 1) below)
-            ∙ ap (λ v. answered (record { value = v; rest = rest })) up);
+              let below : a - 1 < n = omega (arith, h .positive, h .small) in
+              let up : a - 1 + 1 ≡ a = omega (arith, h .positive) in
+              then (field early (letterWidth n) (digits (letterWidth n) (a - 1) ++ rest)) _ (record { value = a - 1; rest = rest }) _
+              (field-codec early (letterWidth n) .reads-back (a - 1) (letter-fits n a few (h .positive) (h .small)) rest)
+              (ap (λ t. unless t wrong (record { value = a - 1 + 1; rest = rest })) (lt-leb n (a - 1) below)
+              ∙ ap (λ v. answered (record { value = v; rest = rest })) up);
           stood-there = λ input i r e. letter-parts input i r e .0;
           in-range = λ input i r e. letter-parts input i r e .1;
         }
@@ -125,12 +124,11 @@ module _ (n : ℕ) (few : n ≤ 16) where
       let j = input-rest AreBits bits-suffix (field-codec 4 1) input i (s .0) (s .1) in
       let h : s .0 .value < 2 = field-codec 4 1 .in-range input i (s .0) (s .1) in
       subst (λ r. (input ≡ signedBits n (r .value) ++ r .rest) × LetterInRange n (r .value))
-      (same-answer (record { value = signed (s .0 .value) (a .0 .value); rest = a .0 .rest }) r (a .2))
-      (
+      (same-answer (record { value = signed (s .0 .value) (a .0 .value); rest = a .0 .rest }) r (a .2)) (
         field-codec 4 1 .stood-there input i (s .0) (s .1)
-        ∙ (ap (λ l. digits 1 (s .0 .value) ++ l) (letter-codec 4 5 .stood-there (s .0 .rest) j (a .0) (a .1))
-        ∙ (sym (append-assoc (digits 1 (s .0 .value)) (letterBits n (a .0 .value)) (a .0 .rest))
-        ∙ ap (λ l. l ++ a .0 .rest) (sign-bits (s .0 .value) (a .0 .value) h))),
+            ∙ (ap (λ l. digits 1 (s .0 .value) ++ l) (letter-codec 4 5 .stood-there (s .0 .rest) j (a .0) (a .1))
+            ∙ (sym (append-assoc (digits 1 (s .0 .value)) (letterBits n (a .0 .value)) (a .0 .rest))
+            ∙ ap (λ l. l ++ a .0 .rest) (sign-bits (s .0 .value) (a .0 .value) h))),
         sign-range (s .0 .value) (a .0 .value) h (letter-codec 4 5 .in-range (s .0 .rest) j (a .0) (a .1)),
       )
 
@@ -173,12 +171,11 @@ module _ (n : ℕ) (few : n ≤ 16) where
       let j = input-rest AreBits bits-suffix word-codec input i (x .0) (x .1) in
       let y = answer-of (wordField n (x .0 .rest)) (λ y. answered (record { value = complement (x .0 .value) (y .value); rest = y .rest })) r (x .2) in
       subst (λ r. (1 ∷ input ≡ pairBits n (r .value) ++ r .rest) × PairInRange n (r .value))
-      (same-answer (record { value = complement (x .0 .value) (y .0 .value); rest = y .0 .rest }) r (y .2))
-      (
+      (same-answer (record { value = complement (x .0 .value) (y .0 .value); rest = y .0 .rest }) r (y .2)) (
         ap (λ l. 1 ∷ l)
-        (word-codec .stood-there input i (x .0) (x .1)
-        ∙ (ap (λ l. wordBits n (x .0 .value) ++ l) (word-codec .stood-there (x .0 .rest) j (y .0) (y .1))
-        ∙ sym (append-assoc (wordBits n (x .0 .value)) (wordBits n (y .0 .value)) (y .0 .rest)))),
+            (word-codec .stood-there input i (x .0) (x .1)
+            ∙ (ap (λ l. wordBits n (x .0 .value) ++ l) (word-codec .stood-there (x .0 .rest) j (y .0) (y .1))
+            ∙ sym (append-assoc (wordBits n (x .0 .value)) (wordBits n (y .0 .value)) (y .0 .rest)))),
         (word-codec .in-range input i (x .0) (x .1), word-codec .in-range (x .0 .rest) j (y .0) (y .1)),
       )
 
@@ -245,14 +242,13 @@ module _ (n : ℕ) (few : n ≤ 16) where
       let k = input-rest AreBits bits-suffix (letter-codec 4 5) (s .0 .rest) j (a .0) (a .1) in
       let b = answer-of (letterField 4 5 n (a .0 .rest)) (λ b. answered (record { value = record { offset = s .0 .value; a = a .0 .value; b = b .value }; rest = b .rest })) r (a .2) in
       subst (λ r. (input ≡ entryBits n (r .value) ++ r .rest) × EntryInRange n (r .value))
-      (same-answer (record { value = record { offset = s .0 .value; a = a .0 .value; b = b .0 .value }; rest = b .0 .rest }) r (b .2))
-      (
+      (same-answer (record { value = record { offset = s .0 .value; a = a .0 .value; b = b .0 .value }; rest = b .0 .rest }) r (b .2)) (
         field-codec 4 12 .stood-there input i (s .0) (s .1)
-        ∙ (ap (λ l. digits 12 (s .0 .value) ++ l)
-        (letter-codec 4 5 .stood-there (s .0 .rest) j (a .0) (a .1)
-        ∙ (ap (λ l. letterBits n (a .0 .value) ++ l) (letter-codec 4 5 .stood-there (a .0 .rest) k (b .0) (b .1))
-        ∙ sym (append-assoc (letterBits n (a .0 .value)) (letterBits n (b .0 .value)) (b .0 .rest))))
-        ∙ sym (append-assoc (digits 12 (s .0 .value)) (letterBits n (a .0 .value) ++ letterBits n (b .0 .value)) (b .0 .rest))),
+            ∙ (ap (λ l. digits 12 (s .0 .value) ++ l)
+            (letter-codec 4 5 .stood-there (s .0 .rest) j (a .0) (a .1)
+            ∙ (ap (λ l. letterBits n (a .0 .value) ++ l) (letter-codec 4 5 .stood-there (a .0 .rest) k (b .0) (b .1))
+            ∙ sym (append-assoc (letterBits n (a .0 .value)) (letterBits n (b .0 .value)) (b .0 .rest))))
+            ∙ sym (append-assoc (digits 12 (s .0 .value)) (letterBits n (a .0 .value) ++ letterBits n (b .0 .value)) (b .0 .rest))),
         record {
           offset-small = field-codec 4 12 .in-range input i (s .0) (s .1);
           a-names = letter-codec 4 5 .in-range (s .0 .rest) j (a .0) (a .1);

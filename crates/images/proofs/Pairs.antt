@@ -29,13 +29,13 @@ apart p q a b k lp la d h =
     ⊎-elim
     (λ (l : cellAt p q < cellAt a b). inl (omega arith))
     (λ (l : cellAt a b ≤ cellAt p q).
-      ⊎-elim
-      (λ (m : cellAt a b < cellAt p q). inr (omega arith))
-      (λ (m : cellAt p q ≤ cellAt a b).
-        let first : p ≡ a = omega (arith, lp .a-positive, lp .b-positive, lp .b-small, la .a-positive, la .b-positive, la .b-small) in
-        let second : q ≡ b = omega (arith, lp .a-positive, lp .b-positive, lp .b-small, la .a-positive, la .b-positive, la .b-small) in
-        absurd (d (first, second)))
-      (below-or (cellAt a b) (cellAt p q)))
+    ⊎-elim
+    (λ (m : cellAt a b < cellAt p q). inr (omega arith))
+    (λ (m : cellAt p q ≤ cellAt a b).
+    let first : p ≡ a = omega (arith, lp .a-positive, lp .b-positive, lp .b-small, la .a-positive, la .b-positive, la .b-small) in
+    let second : q ≡ b = omega (arith, lp .a-positive, lp .b-positive, lp .b-small, la .a-positive, la .b-positive, la .b-small) in
+    absurd (d (first, second)))
+    (below-or (cellAt a b) (cellAt p q)))
     (below-or (cellAt p q) (cellAt a b))
 
 pub kept-cell : (before after : List ℕ) (p q a b : ℕ) → Letters p q → Letters a b → ((p ≡ a) × (q ≡ b) → ⊥) → KeptOutside before (cellAt a b) after → SameCell before after p q
@@ -51,8 +51,8 @@ holds-word-kept size before after p q x s h =
     record {
       count = subst (λ i. getD after i 0 ≡ getD before i 0) zero-th (s 0 (omega arith)) ∙ h .count;
       letters = λ k l.
-        let e : cellAt p q + (1 + k) ≡ cellAt p q + 1 + k = omega arith in
-        subst (λ i. getD after i 0 ≡ getD before i 0) e (s (1 + k) (omega (arith, h .in-range .short))) ∙ h .letters k l;
+          let e : cellAt p q + (1 + k) ≡ cellAt p q + 1 + k = omega arith in
+          subst (λ i. getD after i 0 ≡ getD before i 0) e (s (1 + k) (omega (arith, h .in-range .short))) ∙ h .letters k l;
       in-range = h .in-range;
     }
 
@@ -99,15 +99,15 @@ module _ (image : List ℕ) (at size : ℕ) (before : List ℕ) (a b : ℕ) (let
           read = undefined-read z;
           position = record { inside = head .inside; near = omega arith };
           holds =
-            record {
-              there =
-                getD-set-other (set before (cellAt a b) 255) (cellAt b a) (cellAt a b) 255 0 (λ e. omega (arith, letters .a-positive, letters .a-small, letters .b-positive, letters .b-small))
-                ∙ getD-set-same before (cellAt a b) 255 0 (omega (arith, cell-inside));
-              back = getD-set-same (set before (cellAt a b) 255) (cellAt b a) 255 0 (omega (arith, back-inside, length-set before (cellAt a b) 255));
-            };
+              record {
+                there =
+                    getD-set-other (set before (cellAt a b) 255) (cellAt b a) (cellAt a b) 255 0 (λ e. omega (arith, letters .a-positive, letters .a-small, letters .b-positive, letters .b-small))
+                    ∙ getD-set-same before (cellAt a b) 255 0 (omega (arith, cell-inside));
+                back = getD-set-same (set before (cellAt a b) 255) (cellAt b a) 255 0 (omega (arith, back-inside, length-set before (cellAt a b) 255));
+              };
           kept = λ p q l d₁ d₂ k h.
-            getD-set-other (set before (cellAt a b) 255) (cellAt b a) (cellAt p q + k) 255 0 (λ e. ⊎-elim (λ (x : cellAt p q + k < cellAt b a). omega arith) (λ (x : cellAt b a + 16 ≤ cellAt p q + k). omega arith) (apart p q b a k l (swap-letters a b letters) d₂ h))
-            ∙ getD-set-other before (cellAt a b) (cellAt p q + k) 255 0 (λ e. ⊎-elim (λ (x : cellAt p q + k < cellAt a b). omega arith) (λ (x : cellAt a b + 16 ≤ cellAt p q + k). omega arith) (apart p q a b k l letters d₁ h));
+              getD-set-other (set before (cellAt a b) 255) (cellAt b a) (cellAt p q + k) 255 0 (λ e. ⊎-elim (λ (x : cellAt p q + k < cellAt b a). omega arith) (λ (x : cellAt b a + 16 ≤ cellAt p q + k). omega arith) (apart p q b a k l (swap-letters a b letters) d₂ h))
+              ∙ getD-set-other before (cellAt a b) (cellAt p q + k) 255 0 (λ e. ⊎-elim (λ (x : cellAt p q + k < cellAt a b). omega arith) (λ (x : cellAt a b + 16 ≤ cellAt p q + k). omega arith) (apart p q a b k l letters d₁ h));
         }
 
     module _ (one : bit ≡ 0 → ⊥) where
@@ -133,12 +133,12 @@ module _ (image : List ℕ) (at size : ℕ) (before : List ℕ) (a b : ℕ) (let
               read = second-is ∙ ap (λ o. o >>= λ y. answered (record { value = complement (x .word) (y .value); rest = y .rest })) (y .read);
               position = record { inside = y .position .inside; near = omega (arith, y .position .near, x .position .near) };
               holds =
-                record {
-                  there = holds-word-kept size mid after a b (x .word) (kept-cell mid after a b b a letters (swap-letters a b letters) differ (y .kept)) (x .holds);
-                  back = y .holds;
-                };
+                  record {
+                    there = holds-word-kept size mid after a b (x .word) (kept-cell mid after a b b a letters (swap-letters a b letters) differ (y .kept)) (x .holds);
+                    back = y .holds;
+                  };
               kept = λ p q l d₁ d₂.
-                same-cell-after before mid after p q (kept-cell before mid p q a b l letters d₁ (x .kept)) (kept-cell mid after p q b a l (swap-letters a b letters) d₂ (y .kept));
+                  same-cell-after before mid after p q (kept-cell before mid p q a b l letters d₁ (x .kept)) (kept-cell mid after p q b a l (swap-letters a b letters) d₂ (y .kept));
             }
         second-done after Ends y = second-is ∙ ap (λ o. o >>= λ y. answered (record { value = complement (x .word) (y .value); rest = y .rest })) y
         second-done after Wrong y = second-is ∙ ap (λ o. o >>= λ y. answered (record { value = complement (x .word) (y .value); rest = y .rest })) y

@@ -51,8 +51,7 @@ module _ {A : Type 0} (width tail early size : ℕ) (reader : List ℕ → Outco
         let k = answer-of (field early width (bitsOf image)) body xs read in
         let r = answer-of (several reader (k .0 .value) (k .0 .rest)) (finish tail) xs (k .2) in
         let rest : k .0 .rest ≡ from image width = steady (field-codec early width) width (length-digits width) image 0 (k .0) (k .1) ∙ ap (from image) {x = 0 + width} {y = width} (omega arith) in
-        let n : length (r .0 .value) ≡ k .0 .value = several-length reader (k .0 .value) (k .0 .rest) (r .0) (r .1) in
-        (
+        let n : length (r .0 .value) ≡ k .0 .value = several-length reader (k .0 .value) (k .0 .rest) (r .0) (r .1) in (
           r .0,
           ap (λ m. several reader m (from image width)) n ∙ (ap (several reader (k .0 .value)) (sym rest) ∙ r .1),
           finished (filling (r .0 .rest)) (r .0 .value) (r .2),

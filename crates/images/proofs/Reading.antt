@@ -32,10 +32,10 @@ module _ (image : List ℕ) (at width : ℕ) where
         inside = inside .inside;
         small = omega (arith, field-fits image at width inside width (omega arith));
         read = λ early.
-          ap (λ t. unless t early (record { value = number 0 (take width (from image at)); rest = drop width (from image at) }))
-              (le-ltb (length (from image at)) width (omega (arith, length-from image at, inside .inside)))
-          ∙ (ap (λ x. answered (record { value = x; rest = drop width (from image at) })) (sym e)
-          ∙ ap (λ r. answered (record { value = v; rest = r })) (from-from image at width));
+            ap (λ t. unless t early (record { value = number 0 (take width (from image at)); rest = drop width (from image at) }))
+            (le-ltb (length (from image at)) width (omega (arith, length-from image at, inside .inside)))
+            ∙ (ap (λ x. answered (record { value = x; rest = drop width (from image at) })) (sym e)
+            ∙ ap (λ r. answered (record { value = v; rest = r })) (from-from image at width));
       }
 
   pub field-ends : at ≤ 8 * length image → 8 * length image < at + width → (early : ℕ) → field early width (from image at) ≡ refused early []
@@ -56,9 +56,9 @@ module _ (image : List ℕ) (at size : ℕ) where
         positive = omega arith;
         small = omega arith;
         read = λ early wrong.
-          ap (λ w. letter-of early wrong (field early w (from image at))) (sym e)
-          ∙ (ap (letter-of early wrong) (f .read early)
-          ∙ ap (λ t. unless t wrong (record { value = v + 1; rest = from image (at + width) })) (lt-leb size v h));
+            ap (λ w. letter-of early wrong (field early w (from image at))) (sym e)
+            ∙ (ap (letter-of early wrong) (f .read early)
+            ∙ ap (λ t. unless t wrong (record { value = v + 1; rest = from image (at + width) })) (lt-leb size v h));
       }
 
   pub letter-wrong : (width v : ℕ) → width ≡ letterWidth size → FieldAt image at width v → size ≤ v

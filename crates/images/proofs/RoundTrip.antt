@@ -102,7 +102,7 @@ module _ (n : ℕ) (few : n ≤ 16) where
       let p = image-in-range 6 _ _ _ program-codec bytes w (sym (program-is bytes) ∙ e) in
       record { short = p .0; letters = p .1 }
 
--- CHAINS
+  -- CHAINS
   chain-codec : Codec AreBits (counted 4 16 (entryField n) (entryBits n) (EntryInRange n) (entry-codec n few)) (λ es. digits 16 (length es) ++ concatMap (entryBits n) es) (λ es. (length es < 2 ^ 16) × All (EntryInRange n) es)
   chain-codec = counted-codec 4 16 (entryField n) (entryBits n) (EntryInRange n) (entry-codec n few)
 
@@ -169,12 +169,11 @@ table-parts input i r e =
     let few : h .0 .value + 1 ≤ 16 = omega arith in
     let less : h .0 .value + 1 - 1 ≡ h .0 .value = omega arith in
     subst (λ r. (input ≡ tableBits (r .value) ++ r .rest) × TableInRange (r .value))
-    (same-answer (record { value = record { size = h .0 .value + 1; rows = t .0 .value }; rest = t .0 .rest }) r (t .2))
-    (
+    (same-answer (record { value = record { size = h .0 .value + 1; rows = t .0 .value }; rest = t .0 .rest }) r (t .2)) (
       field-codec 1 4 .stood-there input i (h .0) (h .1)
-      ∙ (ap (λ l. digits 4 (h .0 .value) ++ l) (rows-of (h .0 .value + 1) few .stood-there (h .0 .rest) j (t .0) (t .1))
-      ∙ (ap (λ v. digits 4 v ++ (concatMap (concatMap (pairBits (h .0 .value + 1))) (t .0 .value) ++ t .0 .rest)) (sym less)
-      ∙ sym (append-assoc (digits 4 (h .0 .value + 1 - 1)) (concatMap (concatMap (pairBits (h .0 .value + 1))) (t .0 .value)) (t .0 .rest)))),
+          ∙ (ap (λ l. digits 4 (h .0 .value) ++ l) (rows-of (h .0 .value + 1) few .stood-there (h .0 .rest) j (t .0) (t .1))
+          ∙ (ap (λ v. digits 4 v ++ (concatMap (concatMap (pairBits (h .0 .value + 1))) (t .0 .value) ++ t .0 .rest)) (sym less)
+          ∙ sym (append-assoc (digits 4 (h .0 .value + 1 - 1)) (concatMap (concatMap (pairBits (h .0 .value + 1))) (t .0 .value)) (t .0 .rest)))),
       record { some = omega arith; few = few; pairs = rows-of (h .0 .value + 1) few .in-range (h .0 .rest) j (t .0) (t .1) },
     )
 
@@ -183,10 +182,10 @@ unfolding tableBody tableBits
 table-codec =
     record {
       reads-back = λ T h rest.
-        ap tableBody (append-assoc (digits 4 (T .size - 1)) (concatMap (concatMap (pairBits (T .size))) (T .rows)) rest)
-        ∙ then (field 1 4 (digits 4 (T .size - 1) ++ (concatMap (concatMap (pairBits (T .size))) (T .rows) ++ rest))) tableRows (record { value = T .size - 1; rest = concatMap (concatMap (pairBits (T .size))) (T .rows) ++ rest }) _
-        (field-codec 1 4 .reads-back (T .size - 1) (omega (arith, h .few)) (concatMap (concatMap (pairBits (T .size))) (T .rows) ++ rest))
-        (rows-back (T .size - 1) (T .size) (omega (arith, h .some)) (h .few) (T .rows) (h .pairs) rest);
+          ap tableBody (append-assoc (digits 4 (T .size - 1)) (concatMap (concatMap (pairBits (T .size))) (T .rows)) rest)
+          ∙ then (field 1 4 (digits 4 (T .size - 1) ++ (concatMap (concatMap (pairBits (T .size))) (T .rows) ++ rest))) tableRows (record { value = T .size - 1; rest = concatMap (concatMap (pairBits (T .size))) (T .rows) ++ rest }) _
+          (field-codec 1 4 .reads-back (T .size - 1) (omega (arith, h .few)) (concatMap (concatMap (pairBits (T .size))) (T .rows) ++ rest))
+          (rows-back (T .size - 1) (T .size) (omega (arith, h .some)) (h .few) (T .rows) (h .pairs) rest);
       stood-there = λ input i r e. table-parts input i r e .0;
       in-range = λ input i r e. table-parts input i r e .1;
     }

@@ -29,8 +29,8 @@ one-more P xs x d old new j h =
     ⊎-elim
     (λ (b : j < length xs). subst (P j) (sym (List·getD-append xs (x ∷ []) d j b)) (old j b))
     (λ (b : length xs ≤ j).
-      let e : length xs ≡ j = omega (arith, length-append xs (x ∷ [])) in
-      subst (λ j. P j (getD (xs ++ (x ∷ [])) j d)) e (subst (P (length xs)) (sym (getD-at xs x [] d (length xs) refl)) new))
+    let e : length xs ≡ j = omega (arith, length-append xs (x ∷ [])) in
+    subst (λ j. P j (getD (xs ++ (x ∷ [])) j d)) e (subst (P (length xs)) (sym (getD-at xs x [] d (length xs) refl)) new))
     (below-or j (length xs))
 
 pub holds-pair-kept : (size : ℕ) (before after : List ℕ) (a b : ℕ) (c : Complement) → SameCell before after a b → SameCell before after b a → HoldsPair size before a b c → HoldsPair size after a b c
@@ -84,21 +84,21 @@ module _ (image : List ℕ) (at size : ℕ) (before : List ℕ) (a : ℕ) (insid
           done = f .done ++ (p .pair ∷ []);
           done-length = omega (arith, length-append (f .done) (p .pair ∷ []));
           resumed =
-            f .resumed
-            ∙ (ap (λ k. after (f .done) (several (pairField size) k (from image next))) (left h)
-            ∙ several-step (pairField size) (f .done) (size + 1 - (b + 1)) (from image next) (record { value = p .pair; rest = from image next' }) (p .read));
+              f .resumed
+              ∙ (ap (λ k. after (f .done) (several (pairField size) k (from image next))) (left h)
+              ∙ several-step (pairField size) (f .done) (size + 1 - (b + 1)) (from image next) (record { value = p .pair; rest = from image next' }) (p .read));
           holds =
-            one-more (λ j c. HoldsPair size cells' a (a + 1 + j) c) (f .done) (p .pair) undefined
-            (λ j l.
+              one-more (λ j c. HoldsPair size cells' a (a + 1 + j) c) (f .done) (p .pair) undefined
+              (λ j l.
               let letters : Letters a (a + 1 + j) = record { a-positive = positive; a-small = omega arith; b-positive = omega arith; b-small = omega arith } in
               holds-pair-kept size cells cells' a (a + 1 + j) (getD (f .done) j undefined)
               (p .kept a (a + 1 + j) letters (λ e. let x = e .1 in omega arith) (λ e. let x = e .0 in omega (arith, f .above)))
               (p .kept (a + 1 + j) a (swap-letters a (a + 1 + j) letters) (λ e. let x = e .0 in omega arith) (λ e. let x = e .0 in omega arith))
               (f .holds j l))
-            (subst (λ b. HoldsPair size cells' a b (p .pair)) (sym n) (p .holds));
+              (subst (λ b. HoldsPair size cells' a b (p .pair)) (sym n) (p .holds));
           kept = λ u v l o.
-            same-cell-after before cells cells' u v (f .kept u v l o)
-            (p .kept u v l
+              same-cell-after before cells cells' u v (f .kept u v l o)
+              (p .kept u v l
               (λ e. ⊎-elim (λ (x : u < a). let y = e .0 in omega arith) (λ (x : v < a). let y = e .1 in omega (arith, f .above)) o)
               (λ e. ⊎-elim (λ (x : u < a). let y = e .0 in omega (arith, f .above)) (λ (x : v < a). let y = e .1 in omega arith) o));
         }
@@ -114,9 +114,9 @@ module _ (image : List ℕ) (at size : ℕ) (before : List ℕ) (a : ℕ) (insid
         record {
           row = f .done;
           read =
-            f .resumed
-            ∙ (ap (λ k. after (f .done) (several (pairField size) k (from image next))) {x = size + 1 - b} {y = 0} (omega arith)
-            ∙ several-done (pairField size) (f .done) (from image next));
+              f .resumed
+              ∙ (ap (λ k. after (f .done) (several (pairField size) k (from image next))) {x = size + 1 - b} {y = 0} (omega arith)
+              ∙ several-done (pairField size) (f .done) (from image next));
           position = record { inside = f .inside; near = omega (arith, f .near, f .some-left) };
           holds = f .holds;
           kept = f .kept;
@@ -224,21 +224,21 @@ module _ (image : List ℕ) (m size : ℕ) (head : FieldAt image 0 4 m) (size-is
           done = f .done ++ (r .row ∷ []);
           done-length = omega (arith, length-append (f .done) (r .row ∷ []));
           resumed =
-            f .resumed
-            ∙ (ap (λ k. after (f .done) (rowsOf (pairField size) k (from image at))) (rows-left h)
-            ∙ (rows-step (pairField size) (f .done) (size - a) (from image at) (record { value = r .row; rest = from image next }) (r .read)
-            ∙ ap (λ k. after (f .done ++ (r .row ∷ [])) (rowsOf (pairField size) k (from image next))) {x = size - a} {y = size + 1 - (a + 1)} (omega arith)));
+              f .resumed
+              ∙ (ap (λ k. after (f .done) (rowsOf (pairField size) k (from image at))) (rows-left h)
+              ∙ (rows-step (pairField size) (f .done) (size - a) (from image at) (record { value = r .row; rest = from image next }) (r .read)
+              ∙ ap (λ k. after (f .done ++ (r .row ∷ [])) (rowsOf (pairField size) k (from image next))) {x = size - a} {y = size + 1 - (a + 1)} (omega arith)));
           widths = one-more (λ i row. length row ≡ size - (1 + i)) (f .done) (r .row) [] (f .widths) (wide ∙ omega arith);
           holds =
-            one-more (λ i row. HoldsRow size cells' (1 + i) row) (f .done) (r .row) []
-            (λ i l j k.
+              one-more (λ i row. HoldsRow size cells' (1 + i) row) (f .done) (r .row) []
+              (λ i l j k.
               let w : length (getD (f .done) i []) ≡ size - (1 + i) = f .widths i l in
               let letters : Letters (1 + i) (1 + i + 1 + j) = record { a-positive = omega arith; a-small = omega arith; b-positive = omega arith; b-small = omega arith } in
               holds-pair-kept size cells cells' (1 + i) (1 + i + 1 + j) (getD (getD (f .done) i []) j undefined)
               (r .kept (1 + i) (1 + i + 1 + j) letters (inl (omega arith)))
               (r .kept (1 + i + 1 + j) (1 + i) (swap-letters (1 + i) (1 + i + 1 + j) letters) (inr (omega arith)))
               (f .holds i l j k))
-            (subst (λ a. HoldsRow size cells' a (r .row)) (sym n) (r .holds));
+              (subst (λ a. HoldsRow size cells' a (r .row)) (sym n) (r .holds));
         }
 
     pub row-refused : (n : ℕ) → a ≤ size → several (pairField size) (size - a) (from image at) ≡ refused n [] → readTable image ≡ refused n []
@@ -267,12 +267,12 @@ module _ (image : List ℕ) (m size : ℕ) (head : FieldAt image 0 4 m) (size-is
           read = ended h ∙ ap (λ t. cond t (answered (record { size = size; rows = f .done })) (refused 3 [])) t;
           size-is = refl;
           stands =
-            record {
-              full = f .full;
-              some = omega arith;
-              few = size-few;
-              holds = complete-holds cells size (f .done) size-few (f .holds) (omega (arith, f .done-length, f .some-left)) (f .widths);
-            };
+              record {
+                full = f .full;
+                some = omega arith;
+                few = size-few;
+                holds = complete-holds cells size (f .done) size-few (f .holds) (omega (arith, f .done-length, f .some-left)) (f .widths);
+              };
         }
 
     pub table-tail : size < a → filling (from image at) ≡ false → readTable image ≡ refused 3 []

@@ -70,9 +70,9 @@ module _ {A : Type 0} (reader : List ℕ → Outcome (Read A)) (head : ℕ) wher
             done = v .done ++ (x ∷ []);
             done-length = length-append (v .done) (x ∷ []) ∙ omega (arith, v .done-length);
             resumed =
-              v .resumed
-              ∙ (ap (λ k. after (v .done) (several reader k (from image at))) (left h)
-              ∙ several-step reader (v .done) (count - (i + 1)) (from image at) (record { value = x; rest = from image next }) e);
+                v .resumed
+                ∙ (ap (λ k. after (v .done) (several reader k (from image at))) (left h)
+                ∙ several-step reader (v .done) (count - (i + 1)) (from image at) (record { value = x; rest = from image next }) e);
           }
 
       pub value-refused : (n : ℕ) → i < count → reader (from image at) ≡ refused n [] → whole image ≡ refused n []

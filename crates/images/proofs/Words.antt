@@ -41,13 +41,13 @@ stored-letters : (cells : List ℕ) (place : ℕ) (done : Positive) (a : ℕ) �
 stored-letters cells place done a h old j l =
     ⊎-elim
     (λ (b : j < length done).
-      getD-set-other cells (place + length done) (place + j) a 0 (λ e. omega arith)
-      ∙ (old j b ∙ sym (List·getD-append done (a ∷ []) 0 j b)))
+    getD-set-other cells (place + length done) (place + j) a 0 (λ e. omega arith)
+    ∙ (old j b ∙ sym (List·getD-append done (a ∷ []) 0 j b)))
     (λ (b : length done ≤ j).
-      let e : j ≡ length done = omega (arith, length-append done (a ∷ [])) in
-      ap (λ j. getD (set cells (place + length done) a) (place + j) 0) e
-      ∙ (getD-set-same cells (place + length done) a 0 h
-      ∙ (sym (getD-at done a [] 0 (length done) refl) ∙ ap (λ j. getD (done ++ (a ∷ [])) j 0) (sym e))))
+    let e : j ≡ length done = omega (arith, length-append done (a ∷ [])) in
+    ap (λ j. getD (set cells (place + length done) a) (place + j) 0) e
+    ∙ (getD-set-same cells (place + length done) a 0 h
+    ∙ (sym (getD-at done a [] 0 (length done) refl) ∙ ap (λ j. getD (done ++ (a ∷ [])) j 0) (sym e))))
     (below-or j (length done))
 
 pub kept-store : (before : List ℕ) (cell : ℕ) (cells : List ℕ) (i v : ℕ) → KeptOutside before cell cells → cell ≤ i → i < cell + 16 → KeptOutside before cell (set cells i v)
@@ -98,13 +98,13 @@ module _ (image : List ℕ) (at size : ℕ) (before : List ℕ) (cell count : �
           done = f .done ++ (a ∷ []);
           done-length = length-append (f .done) (a ∷ []) ∙ omega arith;
           resumed =
-            f .resumed
-            ∙ (ap (λ m. after (f .done) (several (letterField 1 2 size) m (from image next))) (left h)
-            ∙ several-step (letterField 1 2 size) (f .done) (count - (k + 1)) (from image next) (record { value = a; rest = from image (next + width) }) (l .read 1 2));
+              f .resumed
+              ∙ (ap (λ m. after (f .done) (several (letterField 1 2 size) m (from image next))) (left h)
+              ∙ several-step (letterField 1 2 size) (f .done) (count - (k + 1)) (from image next) (record { value = a; rest = from image (next + width) }) (l .read 1 2));
           first = getD-set-other cells (cell + 1 + k) cell a 0 (λ e. omega arith) ∙ f .first;
           letters =
-            subst (λ m. (j : ℕ) → j < length (f .done ++ (a ∷ [])) → getD (set cells (cell + 1 + m) a) (cell + 1 + j) 0 ≡ getD (f .done ++ (a ∷ [])) j 0) n
-            (stored-letters cells (cell + 1) (f .done) a (omega (arith, f .same-length, length-set before cell count)) (f .letters));
+              subst (λ m. (j : ℕ) → j < length (f .done ++ (a ∷ [])) → getD (set cells (cell + 1 + m) a) (cell + 1 + j) 0 ≡ getD (f .done ++ (a ∷ [])) j 0) n
+              (stored-letters cells (cell + 1) (f .done) a (omega (arith, f .same-length, length-set before cell count)) (f .letters));
           in-range = all-more (GeneratorInRange size) (f .done) a (f .in-range) (record { positive = l .positive; small = l .small });
           kept = kept-store (set before cell count) cell cells (cell + 1 + k) a (f .kept) (omega arith) (omega arith);
         }
@@ -122,16 +122,16 @@ module _ (image : List ℕ) (at size : ℕ) (before : List ℕ) (cell count : �
         record {
           word = f .done;
           read =
-            word-is
-            ∙ (f .resumed
-            ∙ (ap (λ m. after (f .done) (several (letterField 1 2 size) m (from image next))) {x = count - k} {y = 0} (omega arith)
-            ∙ several-done (letterField 1 2 size) (f .done) (from image next)));
+              word-is
+              ∙ (f .resumed
+              ∙ (ap (λ m. after (f .done) (several (letterField 1 2 size) m (from image next))) {x = count - k} {y = 0} (omega arith)
+              ∙ several-done (letterField 1 2 size) (f .done) (from image next)));
           position = record { inside = f .inside; near = omega (arith, f .near, f .some-left) };
           holds =
-            record {
-              count = f .first ∙ omega (arith, f .some-left, f .done-length);
-              letters = f .letters;
-              in-range = record { short = omega (arith, f .some-left, f .done-length); letters = f .in-range };
-            };
+              record {
+                count = f .first ∙ omega (arith, f .some-left, f .done-length);
+                letters = f .letters;
+                in-range = record { short = omega (arith, f .some-left, f .done-length); letters = f .in-range };
+              };
           kept = λ i o. f .kept i o ∙ kept-store before cell before cell count (λ i o. refl) (omega arith) (omega arith) i o;
         }

@@ -4,7 +4,6 @@ use crate::fields;
 use crate::fields::Field;
 use crate::fields::LetterField;
 use model::answers::Refusal;
-
 ghost use mathlib.Core.Path.{_≡_};
 ghost use mathlib.Core.List.{List};
 ghost use Prim.Native.Nat.{ℕ, _+_, _*_, _≤_, _<_};
@@ -89,7 +88,15 @@ pub fn entry_at(image: &[u8], size: u8, width: usize, i: usize) -> ChainEntry
 {
     match next_entry(image, 16 + i * (12 + (width + width)), size, width) {
         EntryField::Found(e) => e,
-        EntryField::Ends => ChainEntry { offset: 0, a: 0, b: 0 },
-        EntryField::Wrong => ChainEntry { offset: 0, a: 0, b: 0 },
+        EntryField::Ends => ChainEntry {
+            offset: 0,
+            a: 0,
+            b: 0,
+        },
+        EntryField::Wrong => ChainEntry {
+            offset: 0,
+            a: 0,
+            b: 0,
+        },
     }
 }

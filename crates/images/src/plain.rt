@@ -2,7 +2,6 @@
 
 use crate::writing;
 use model::answers::Refusal;
-
 ghost use mathlib.Core.Path.{_≡_};
 ghost use Rattle.images.specs.Bytewise.{PlainDone};
 

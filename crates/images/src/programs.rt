@@ -4,7 +4,6 @@ use crate::fields;
 use crate::fields::Field;
 use crate::fields::LetterField;
 use model::answers::Refusal;
-
 ghost use mathlib.Core.Path.{_≡_};
 ghost use Prim.Native.Nat.{ℕ, _+_, _*_, _≤_, _<_};
 ghost use lib.ListN.{length, getD};

@@ -4,7 +4,6 @@ use crate::fields;
 use crate::fields::Field;
 use crate::fields::LetterField;
 use model::answers::Refusal;
-
 ghost use mathlib.Core.Path.{_≡_};
 ghost use Prim.Native.Nat.{ℕ, _+_, _*_, _^_, _≤_, _<_};
 ghost use lib.ListN.{length, getD};
@@ -33,7 +32,14 @@ pub fn cell_of(a: u8, b: u8) -> usize
 }
 
 // A word of a table image, into a cell.
-pub fn read_word(image: &[u8], at: usize, size: u8, width: usize, cells: &mut [u8], cell: usize) -> TablePart
+pub fn read_word(
+    image: &[u8],
+    at: usize,
+    size: u8,
+    width: usize,
+    cells: &mut [u8],
+    cell: usize,
+) -> TablePart
     requires { ⌜ Before (now image) at size width × (cell + 16 ≤ length (now cells)) ⌝ }
     ensures length { λ r. ⌜ length (now (cells .exit)) ≡ length (now (cells .entry)) ⌝ }
     ensures word { λ r. ⌜ WordDone (now (image .entry)) at size (now (cells .entry)) cell (now (cells .exit)) r ⌝ }
@@ -60,7 +66,15 @@ pub fn read_word(image: &[u8], at: usize, size: u8, width: usize, cells: &mut [u
 }
 
 // A pair of a table image, into the cells of a, b and of b, a.
-pub fn read_pair(image: &[u8], at: usize, size: u8, width: usize, cells: &mut [u8], a: u8, b: u8) -> TablePart
+pub fn read_pair(
+    image: &[u8],
+    at: usize,
+    size: u8,
+    width: usize,
+    cells: &mut [u8],
+    a: u8,
+    b: u8,
+) -> TablePart
     requires { ⌜ Before (now image) at size width × Letters a b × (a < b) × (length (now cells) ≡ 4096) × (at + 129 ≤ 2 ^ 40) ⌝ }
     ensures length { λ r. ⌜ length (now (cells .exit)) ≡ length (now (cells .entry)) ⌝ }
     ensures pair { λ r. ⌜ PairDone (now (image .entry)) at size (now (cells .entry)) a b (now (cells .exit)) r ⌝ }
@@ -83,7 +97,14 @@ pub fn read_pair(image: &[u8], at: usize, size: u8, width: usize, cells: &mut [u
 }
 
 // The pairs of a letter with those after it, into their cells.
-pub fn read_row(image: &[u8], at: usize, size: u8, width: usize, cells: &mut [u8], a: u8) -> TablePart
+pub fn read_row(
+    image: &[u8],
+    at: usize,
+    size: u8,
+    width: usize,
+    cells: &mut [u8],
+    a: u8,
+) -> TablePart
     requires { ⌜ Before (now image) at size width × (1 ≤ a) × (a ≤ size) × (length (now cells) ≡ 4096) × (at + 2064 ≤ 2 ^ 40) ⌝ }
     ensures length { λ r. ⌜ length (now (cells .exit)) ≡ length (now (cells .entry)) ⌝ }
     ensures row { λ r. ⌜ RowDone (now (image .entry)) at size (now (cells .entry)) a (now (cells .exit)) r ⌝ }

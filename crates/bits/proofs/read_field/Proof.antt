@@ -32,7 +32,7 @@ read-bit-requires c κs = omega (arith, c .before .before .before .pre .inside)
 
 -- src/lib.rt:32:17
 mul-value : tie.Need-mul-value Inv-loop μ-loop
-mul-value c = 
+mul-value c =
     let s = c .before .before .before .before in
     let l = c .before .before .loop in
     let i : l .i < s .args .width = omega arith in
@@ -46,7 +46,7 @@ cast-value c = omega (arith, c .read-bit .ensures, bit-small (c .before .before 
 
 -- src/lib.rt:32:17
 add-value : tie.Need-add-value Inv-loop μ-loop
-add-value c = 
+add-value c =
     let s = c .before .before .before .before in
     let l = c .before .before .loop in
     let i : l .i < s .args .width = omega arith in
@@ -64,17 +64,18 @@ loop-less c = omega arith
 
 -- src/lib.rt:30:5
 loop-again : tie.Need-loop-again Inv-loop μ-loop
-loop-again c = 
+loop-again c =
     let s = c .before .before .before .before in
     let l = c .before .before .loop in
-    let i : l .i < s .args .width = omega arith in
-    (omega arith,
+    let i : l .i < s .args .width = omega arith in (
+      omega arith,
       sym (field-more (s .args .bytes .now) (s .args .at) (s .args .width) (s .pre) (l .i) i
-      ∙ omega (arith, l .inv .1, c .read-bit .ensures)))
+          ∙ omega (arith, l .inv .1, c .read-bit .ensures)),
+    )
 
 -- src/lib.rt:24:1
 returns : tie.Need-returns Inv-loop μ-loop
-returns c = 
+returns c =
     let l = c .before .loop in
     let e : l .i ≡ c .before .before .before .args .width = omega arith in
     l .inv .1 ∙ ap (λ n. number 0 (take n (drop (c .before .before .before .args .at) (bitsOf (c .before .before .before .args .bytes .now))))) e

@@ -51,7 +51,7 @@ cast-write-bit c = omega arith
 
 -- src/lib.rt:60:9
 write-bit-requires : tie.Need-write-bit-requires Inv-loop μ-loop
-write-bit-requires c κs = 
+write-bit-requires c κs =
     let s = c .before .before .before .before in
     let l = c .before .before .loop in
     (omega (arith, s .pre .inside, l .inv .1), omega arith)
@@ -66,17 +66,16 @@ loop-less c = omega arith
 
 -- src/lib.rt:58:5
 loop-again : tie.Need-loop-again Inv-loop μ-loop
-loop-again c = 
+loop-again c =
     let s = c .before .before .before .before .before .before .before in
     let l = c .before .before .before .before .before .loop in
     let w = c .before .before .write-bit in
-    let i : l .i < s .args .width = omega arith in
-    (
+    let i : l .i < s .args .width = omega arith in (
       omega arith,
       w .ensures .0 ∙ l .inv .1,
       w .ensures .1
-      ∙ (ap (λ bs. set bs (s .args .at + l .i) (s .args .value / 2 ^ (s .args .width - 1 - l .i) % 2)) (l .inv .2)
-      ∙ digits-more (bitsOf (s .args .bytes .now)) (s .args .at) (s .args .width) (s .args .value) (l .i) (omega (arith, s .pre .inside, length-bits (s .args .bytes .now))) i)
+          ∙ (ap (λ bs. set bs (s .args .at + l .i) (s .args .value / 2 ^ (s .args .width - 1 - l .i) % 2)) (l .inv .2)
+          ∙ digits-more (bitsOf (s .args .bytes .now)) (s .args .at) (s .args .width) (s .args .value) (l .i) (omega (arith, s .pre .inside, length-bits (s .args .bytes .now))) i),
     )
 
 -- src/lib.rt:53:1
@@ -85,16 +84,16 @@ same-length c = c .before .loop .inv .1
 
 -- src/lib.rt:53:1
 returns : tie.Need-returns Inv-loop μ-loop
-returns c = 
+returns c =
     let s = c .before .before .before in
     let l = c .before .loop in
     let e : l .i ≡ s .args .width = omega arith in
     record {
       same-length = l .inv .1;
       bits =
-        l .inv .2
-        ∙ (ap (paste (bitsOf (s .args .bytes .now)) (s .args .at) (digits (s .args .width) (s .args .value))) e
-        ∙ digits-done (bitsOf (s .args .bytes .now)) (s .args .at) (s .args .width) (s .args .value));
+          l .inv .2
+          ∙ (ap (paste (bitsOf (s .args .bytes .now)) (s .args .at) (digits (s .args .width) (s .args .value))) e
+          ∙ digits-done (bitsOf (s .args .bytes .now)) (s .args .at) (s .args .width) (s .args .value));
     }
 
 pub write-field-spec : {M : Type 1} → statement M

@@ -48,19 +48,19 @@ enum-told-2 c = search needs
 
 -- src/chains.rt:86:1
 returns : tie.Need-returns
-returns c = 
+returns c =
     let s = c .before .before .before .before .before in
     entry-answer (s .args .image .now) (s .args .size) (s .args .width) (s .args .i) (s .pre) (c .before .e .given .0 .0) (subst (EntryDone (s .args .image .now) (16 + s .args .i * (12 + (s .args .width + s .args .width))) (s .args .size) (s .args .width)) (c .before .e .given .1) (c .before .before .before .next-entry .ensures))
 
 -- src/chains.rt:86:1
 returns-2 : tie.Need-returns-2
-returns-2 c = 
+returns-2 c =
     let s = c .before .before .before .before in
     absurd (entry-stands (s .args .image .now) (s .args .size) (s .args .width) (s .args .i) (s .pre) 4 (subst (EntryDone (s .args .image .now) (16 + s .args .i * (12 + (s .args .width + s .args .width))) (s .args .size) (s .args .width)) (c .enum-told .given .1) (c .before .before .next-entry .ensures)))
 
 -- src/chains.rt:86:1
 returns-3 : tie.Need-returns-3
-returns-3 c = 
+returns-3 c =
     let s = c .before .before .before .before in
     absurd (entry-stands (s .args .image .now) (s .args .size) (s .args .width) (s .args .i) (s .pre) 5 (subst (EntryDone (s .args .image .now) (16 + s .args .i * (12 + (s .args .width + s .args .width))) (s .args .size) (s .args .width)) (c .enum-told2 .given .1) (c .before .before .next-entry .ensures)))
 

@@ -38,7 +38,7 @@ enum-told c = search needs
 
 -- src/chains.rt:42:9
 returns : tie.Need-returns
-returns c = 
+returns c =
     let s = c .before .before .before .before in
     offset-ends (s .args .image .now) (s .args .at) (s .args .size) (s .args .width) (subst (FieldDone (s .args .image .now) (s .args .at) 12) (c .enum-told .given .1) (c .before .before .next-field .ensures))
 
@@ -48,7 +48,7 @@ add-next-letter c = search needs
 
 -- src/chains.rt:44:11
 next-letter-requires : tie.Need-next-letter-requires
-next-letter-requires c κs = 
+next-letter-requires c κs =
     let p = start c .pre in
     (record { narrow = omega (arith, p .narrow); inside = offset-at c .inside; small = omega (arith, p .small, p .narrow) }, p .width-is, p .few)
 
@@ -74,7 +74,7 @@ add-next-letter-3 c = search needs
 
 -- src/chains.rt:48:19
 next-letter-requires-2 : tie.Need-next-letter-requires-2
-next-letter-requires-2 c κs = 
+next-letter-requires-2 c κs =
     let p = start (c .before .before .before .before) .pre in
     (record { narrow = omega (arith, p .narrow); inside = a-at (c .before) .inside; small = omega (arith, p .small, p .narrow) }, p .width-is, p .few)
 
@@ -92,21 +92,21 @@ enum-known-b c = search needs
 
 -- src/chains.rt:37:1
 returns-2 : tie.Need-returns-2
-returns-2 c = 
+returns-2 c =
     let k = c .before .before .before in
     let s = start k in
     first-refused (s .args .image .now) (s .args .at) (s .args .size) (s .args .width) _ (offset-at k) 4 (subst (LetterDone (s .args .image .now) (s .args .at + 12) (s .args .size) (s .args .width)) (c .enum-told2 .given .1) (c .before .before .next-letter .ensures) 4 5)
 
 -- src/chains.rt:37:1
 returns-3 : tie.Need-returns-3
-returns-3 c = 
+returns-3 c =
     let k = c .before .before .before in
     let s = start k in
     first-refused (s .args .image .now) (s .args .at) (s .args .size) (s .args .width) _ (offset-at k) 5 (subst (LetterDone (s .args .image .now) (s .args .at + 12) (s .args .size) (s .args .width)) (c .enum-told3 .given .1) (c .before .before .next-letter .ensures) 4 5)
 
 -- src/chains.rt:37:1
 returns-4 : tie.Need-returns-4
-returns-4 c = 
+returns-4 c =
     let x = c .before .before .before .before in
     let k = x .before .before .before in
     let s = start k in
@@ -114,7 +114,7 @@ returns-4 c =
 
 -- src/chains.rt:37:1
 returns-5 : tie.Need-returns-5
-returns-5 c = 
+returns-5 c =
     let x = c .before .before .before .before in
     let k = x .before .before .before in
     let s = start k in
@@ -122,7 +122,7 @@ returns-5 c =
 
 -- src/chains.rt:37:1
 returns-6 : tie.Need-returns-6
-returns-6 c = 
+returns-6 c =
     let x = c .before .before .before .before .before in
     let k = x .before .before .before in
     let s = start k in

@@ -32,7 +32,7 @@ read-field-requires c κs = search needs
 
 -- src/fields.rt:49:1
 returns-2 : tie.Need-returns-2
-returns-2 c = 
+returns-2 c =
     let s = c .before .before .before in
     ap (λ v. eqb v 0) (c .read-field .ensures)
     ∙ filling-short (s .args .image .now) (s .args .at) (s .pre .inside) (omega arith)

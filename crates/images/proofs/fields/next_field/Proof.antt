@@ -26,7 +26,7 @@ read-field-requires c κs = search needs
 
 -- src/fields.rt:22:1
 returns-2 : tie.Need-returns-2
-returns-2 c = 
+returns-2 c =
     let s = c .before .before .before in
     field-answered (s .args .image .now) (s .args .at) (s .args .width) (search needs) (c .read-field .result) (c .read-field .ensures)
 

@@ -25,7 +25,7 @@ enum-known-value c = search needs
 
 -- src/fields.rt:41:17
 returns : tie.Need-returns
-returns c = 
+returns c =
     let s = c .before .before .before .before .before .before in
     let f : FieldAt (s .args .image .now) (s .args .at) (s .args .width) (c .before .before .value .given .0 .0) =
     subst (FieldDone (s .args .image .now) (s .args .at) (s .args .width)) (c .before .before .value .given .1) (c .before .before .before .before .next-field .ensures) in
@@ -41,14 +41,14 @@ cast-t10 c = search needs
 
 -- src/fields.rt:33:1
 returns-2 : tie.Need-returns-2
-returns-2 c = 
+returns-2 c =
     let s = c .before .before .before .before in
     letter-ends (s .args .image .now) (s .args .at) (s .args .size) (s .args .width) (s .pre .1)
     (subst (FieldDone (s .args .image .now) (s .args .at) (s .args .width)) (c .enum-told .given .1) (c .before .before .next-field .ensures))
 
 -- src/fields.rt:33:1
 returns-3 : tie.Need-returns-3
-returns-3 c = 
+returns-3 c =
     let s = c .before .before .before .before .before .before in
     let f : FieldAt (s .args .image .now) (s .args .at) (s .args .width) (c .before .before .value .given .0 .0) =
     subst (FieldDone (s .args .image .now) (s .args .at) (s .args .width)) (c .before .before .value .given .1) (c .before .before .before .before .next-field .ensures) in

@@ -39,7 +39,7 @@ names-letter-requires c κs = search needs
 
 -- src/plain.rt:24:13
 returns-2 : tie.Need-returns-2 Inv-loop μ-loop
-returns-2 c = 
+returns-2 c =
     let n = c .before in
     let l = n .before .before .before in
     let s = l .before .before .before in
@@ -55,14 +55,14 @@ loop-less c = omega (arith, c .before .before .before .loop-test .taken)
 
 -- src/plain.rt:22:5
 loop-again : tie.Need-loop-again Inv-loop μ-loop
-loop-again c = 
+loop-again c =
     let n = c .before in
     let l = n .before .before .before in
     (omega (arith, n .before .before .loop-test .taken), below-more _ _ (l .loop .inv .1) (sym (n .names-letter .ensures) ∙ not-false (n .names-letter .result) (c .if2 .left)))
 
 -- src/plain.rt:15:1
 returns-3 : tie.Need-returns-3 Inv-loop μ-loop
-returns-3 c = 
+returns-3 c =
     let l = c .before in
     let s = l .before .before .before in
     plain-accepted (s .args .plain .now) (s .args .size) (l .before .if1 .left) (λ i h. l .loop .inv .1 i (omega (arith, c .loop-test .left)))

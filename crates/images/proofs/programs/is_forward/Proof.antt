@@ -46,7 +46,7 @@ cast-letter-at c = omega (arith, c .loop-test .taken, c .before .before .before 
 
 -- src/programs.rt:98:12
 letter-at-requires : tie.Need-letter-at-requires Inv-loop μ-loop
-letter-at-requires c κs = 
+letter-at-requires c κs =
     let s = c .before .before .before .before in
     has-letter (s .args .image .now) (s .args .size) (s .args .count) (c .before .before .letter-width .result) (c .before .loop .i) (s .pre) (c .before .before .letter-width .ensures) (c .loop-test .taken)
 
@@ -68,14 +68,13 @@ loop-less c = omega (arith, c .before .before .loop-test .taken)
 
 -- src/programs.rt:97:5
 loop-again : tie.Need-loop-again Inv-loop μ-loop
-loop-again c = 
+loop-again c =
     let l = c .before .before .before in
-    let s = l .before .before .before in
-    (
+    let s = l .before .before .before in (
       omega (arith, c .before .before .loop-test .taken),
       λ w e.
-        forward-more (s .args .image .now) (s .args .size) (s .pre .few) w e (l .loop .i) (inside (c .before .before) w e)
-        (subst (λ x. x < 128) (c .before .letter-at .ensures w e) (c .if1 .left)) (l .loop .inv .1 w e),
+          forward-more (s .args .image .now) (s .args .size) (s .pre .few) w e (l .loop .i) (inside (c .before .before) w e)
+          (subst (λ x. x < 128) (c .before .letter-at .ensures w e) (c .if1 .left)) (l .loop .inv .1 w e),
     )
 
 -- src/programs.rt:91:1

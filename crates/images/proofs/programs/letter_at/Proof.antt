@@ -44,21 +44,21 @@ enum-told-2 c = search needs
 
 -- src/programs.rt:79:1
 returns : tie.Need-returns
-returns c = 
+returns c =
     let s = c .before .before .before .before .before in
     letter-answer (s .args .image .now) (s .args .size) (s .args .width) (s .args .i) (s .pre) (c .before .x .given .0 .0)
     (subst (SignedDone (s .args .image .now) (12 + s .args .i * (1 + s .args .width)) (s .args .size) (s .args .width)) (c .before .x .given .1) (c .before .before .before .next-signed .ensures))
 
 -- src/programs.rt:79:1
 returns-2 : tie.Need-returns-2
-returns-2 c = 
+returns-2 c =
     let s = c .before .before .before .before in
     absurd (letter-stands (s .args .image .now) (s .args .size) (s .args .width) (s .args .i) (s .pre) 4
     (subst (SignedDone (s .args .image .now) (12 + s .args .i * (1 + s .args .width)) (s .args .size) (s .args .width)) (c .enum-told .given .1) (c .before .before .next-signed .ensures)))
 
 -- src/programs.rt:79:1
 returns-3 : tie.Need-returns-3
-returns-3 c = 
+returns-3 c =
     let s = c .before .before .before .before in
     absurd (letter-stands (s .args .image .now) (s .args .size) (s .args .width) (s .args .i) (s .pre) 5
     (subst (SignedDone (s .args .image .now) (12 + s .args .i * (1 + s .args .width)) (s .args .size) (s .args .width)) (c .enum-told2 .given .1) (c .before .before .next-signed .ensures)))

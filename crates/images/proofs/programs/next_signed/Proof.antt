@@ -39,7 +39,7 @@ enum-told c = search needs
 
 -- src/programs.rt:32:9
 returns : tie.Need-returns
-returns c = 
+returns c =
     let s = c .before .before .before .before in
     sign-ends (s .args .image .now) (s .args .at) (s .args .size) (s .args .width)
     (subst (FieldDone (s .args .image .now) (s .args .at) 1) (c .enum-told .given .1) (c .before .before .next-field .ensures))
@@ -50,7 +50,7 @@ add-next-letter c = search needs
 
 -- src/programs.rt:34:11
 next-letter-requires : tie.Need-next-letter-requires
-next-letter-requires c κs = 
+next-letter-requires c κs =
     let p = start c .pre in
     (record { narrow = omega (arith, p .narrow); inside = sign-at c .inside; small = omega (arith, p .small, p .narrow) }, p .width-is, p .few)
 
@@ -68,7 +68,7 @@ enum-known-a c = search needs
 
 -- src/programs.rt:39:17
 returns-2 : tie.Need-returns-2
-returns-2 c = 
+returns-2 c =
     let s = start (c .before .before .before .before .before) in
     signed-forward (s .args .image .now) (s .args .at) (s .args .size) (s .args .width) _ (sign-at (c .before .before .before .before .before)) _ (letter-at (c .before .before)) (c .if1 .taken)
 
@@ -78,21 +78,21 @@ add-t12 c = omega (arith, letter-at (c .before .before) .small, start (c .before
 
 -- src/programs.rt:27:1
 returns-3 : tie.Need-returns-3
-returns-3 c = 
+returns-3 c =
     let s = start (c .before .before .before) in
     number-refused (s .args .image .now) (s .args .at) (s .args .size) (s .args .width) _ (sign-at (c .before .before .before)) 4
     (subst (LetterDone (s .args .image .now) (s .args .at + 1) (s .args .size) (s .args .width)) (c .enum-told2 .given .1) (c .before .before .next-letter .ensures) 4 5)
 
 -- src/programs.rt:27:1
 returns-4 : tie.Need-returns-4
-returns-4 c = 
+returns-4 c =
     let s = start (c .before .before .before) in
     number-refused (s .args .image .now) (s .args .at) (s .args .size) (s .args .width) _ (sign-at (c .before .before .before)) 5
     (subst (LetterDone (s .args .image .now) (s .args .at + 1) (s .args .size) (s .args .width)) (c .enum-told3 .given .1) (c .before .before .next-letter .ensures) 4 5)
 
 -- src/programs.rt:27:1
 returns-5 : tie.Need-returns-5
-returns-5 c = 
+returns-5 c =
     let s = start (c .before .before .before .before .before) in
     signed-back (s .args .image .now) (s .args .at) (s .args .size) (s .args .width) _ (sign-at (c .before .before .before .before .before)) _ (letter-at (c .before .before)) (c .if1 .left)
 

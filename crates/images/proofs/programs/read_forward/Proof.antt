@@ -34,19 +34,19 @@ is-forward-requires c κs = record { some = start c .pre .0; few = start c .pre 
 
 -- src/programs.rt:129:17
 returns : tie.Need-returns
-returns c = 
+returns c =
     let k = c .before .before in
     forward-read (start k .args .image .now) (start k .args .size) (k .before .count .given .0 .0) (program-of k) (sym (c .before .is-forward .ensures (program-of k .word) (program-of k .read)) ∙ c .if1 .taken)
 
 -- src/programs.rt:121:1
 returns-2 : tie.Need-returns-2
-returns-2 c = 
+returns-2 c =
     let s = c .before .before .before .before .before in
     forward-refused (s .args .image .now) (s .args .size) (c .before .refusal .given .0 .0) (subst (ProgramDone (s .args .image .now) (s .args .size)) (c .before .refusal .given .1) (c .before .before .before .read-program .ensures))
 
 -- src/programs.rt:121:1
 returns-3 : tie.Need-returns-3
-returns-3 c = 
+returns-3 c =
     let k = c .before .before in
     back-read (start k .args .image .now) (start k .args .size) (k .before .count .given .0 .0) (program-of k) (sym (c .before .is-forward .ensures (program-of k .word) (program-of k .read)) ∙ c .if1 .left)
 

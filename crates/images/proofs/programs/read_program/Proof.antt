@@ -49,7 +49,7 @@ enum-told c = search needs
 
 -- src/programs.rt:51:9
 returns : tie.Need-returns Inv-loop μ-loop
-returns c = 
+returns c =
     let s = c .before .before .before .before in
     program-whole (s .args .size) (s .args .image .now) ∙ count-ends (signedField (s .args .size)) 12 (s .args .image .now) (subst (FieldDone (s .args .image .now) 0 12) (c .enum-told .given .1) (c .before .before .next-field .ensures))
 
@@ -67,7 +67,7 @@ loop-holds c = validated-none (signedField (start (c .before) .args .size)) 12 (
 
 -- src/programs.rt:57:15
 next-signed-requires : tie.Need-next-signed-requires Inv-loop μ-loop
-next-signed-requires c κs = 
+next-signed-requires c κs =
     let b = c .before .before in
     let s = start (b .before) in
     let v = c .before .loop .inv in
@@ -86,7 +86,7 @@ enum-told-2 c = search needs
 
 -- src/programs.rt:58:34
 returns-2 : tie.Need-returns-2 Inv-loop μ-loop
-returns-2 c = 
+returns-2 c =
     let l = c .before .before .before .before in
     let s = start (l .before .before) in
     program-whole (s .args .size) (s .args .image .now) ∙ value-refused (signedField (s .args .size)) 12 (s .args .image .now) (l .before .before .before .count .given .0 .0) (count-at (l .before .before)) (l .loop .at) (l .loop .i) (l .loop .inv) 4 (c .before .before .before .loop-test .taken)
@@ -98,7 +98,7 @@ enum-told-3 c = search needs
 
 -- src/programs.rt:59:35
 returns-3 : tie.Need-returns-3 Inv-loop μ-loop
-returns-3 c = 
+returns-3 c =
     let l = c .before .before .before .before in
     let s = start (l .before .before) in
     program-whole (s .args .size) (s .args .image .now) ∙ value-refused (signedField (s .args .size)) 12 (s .args .image .now) (l .before .before .before .count .given .0 .0) (count-at (l .before .before)) (l .loop .at) (l .loop .i) (l .loop .inv) 5 (c .before .before .before .loop-test .taken)
@@ -126,7 +126,7 @@ loop-less c = omega (arith, c .before .before .before .loop-test .taken)
 
 -- src/programs.rt:56:5
 loop-again : tie.Need-loop-again Inv-loop μ-loop
-loop-again c = 
+loop-again c =
     let l = c .before .before .before .before in
     let s = start (l .before .before) in
     let x : SignedAt (s .args .image .now) (l .loop .at) (s .args .size) (l .before .letter-width .result) (c .enum-told4 .given .0 .0) =
@@ -140,7 +140,7 @@ is-filling-requires c κs = record { narrow = omega arith; inside = c .before .l
 
 -- src/programs.rt:46:1
 returns-4 : tie.Need-returns-4 Inv-loop μ-loop
-returns-4 c = 
+returns-4 c =
     let l = c .before .before .before in
     let s = start (l .before .before) in
     record {
@@ -151,7 +151,7 @@ returns-4 c =
 
 -- src/programs.rt:46:1
 returns-5 : tie.Need-returns-5 Inv-loop μ-loop
-returns-5 c = 
+returns-5 c =
     let l = c .before .before .before in
     let s = start (l .before .before) in
     program-whole (s .args .size) (s .args .image .now) ∙ whole-tail (signedField (s .args .size)) 12 (s .args .image .now) (l .before .before .before .count .given .0 .0) (count-at (l .before .before)) (l .loop .at) (l .loop .i) (l .loop .inv) (c .before .before .loop-test .left) (sym (c .before .is-filling .ensures) ∙ c .if1 .left)

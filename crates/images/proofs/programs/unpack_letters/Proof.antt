@@ -42,7 +42,7 @@ cast-letter-at c = omega (arith, c .loop-test .taken, c .before .before .before 
 
 -- src/programs.rt:115:35
 letter-at-requires : tie.Need-letter-at-requires Inv-loop μ-loop
-letter-at-requires c κs = 
+letter-at-requires c κs =
     let s = c .before .before .before .before .before in
     has-letter (s .args .image .now) (s .args .size) (s .args .count) (c .before .before .letter-width .result) (c .before .loop .i) (s .pre .0) (c .before .before .letter-width .ensures) (c .loop-test .taken)
 
@@ -60,7 +60,7 @@ slice-write-area c = omega (arith, c .before .loop-test .taken, c .before .befor
 
 -- src/programs.rt:116:9
 add-i : tie.Need-add-i Inv-loop μ-loop
-add-i c = 
+add-i c =
     let s = c .before .before .before .before .before .before in
     omega (arith, c .before .loop-test .taken, count-small (s .args .image .now) (s .args .size) (s .args .count) (s .pre .0))
 
@@ -70,17 +70,16 @@ loop-less c = omega (arith, c .before .loop-test .taken)
 
 -- src/programs.rt:114:5
 loop-again : tie.Need-loop-again Inv-loop μ-loop
-loop-again c = 
+loop-again c =
     let l = c .before .before in
-    let s = l .before .before .before .before in
-    (
+    let s = l .before .before .before .before in (
       omega (arith, c .before .loop-test .taken),
       length-set (l .loop .area) (s .args .at + l .loop .i) (c .letter-at .result) ∙ l .loop .inv .1,
       λ w e.
-        let n : length w ≡ s .args .count = count-of (s .args .image .now) (s .args .size) (s .args .count) (s .pre .0) w e in
-        ap (λ a. set a (s .args .at + l .loop .i) (c .letter-at .result)) (l .loop .inv .2 w e)
-        ∙ (ap (set (paste (s .args .area .now) (s .args .at) (plainProgram w) (l .loop .i)) (s .args .at + l .loop .i)) (c .letter-at .ensures w e)
-        ∙ unpack-more (s .args .area .now) (s .args .at) w (l .loop .i) (omega (arith, s .pre .1)) (omega (arith, c .before .loop-test .taken))),
+          let n : length w ≡ s .args .count = count-of (s .args .image .now) (s .args .size) (s .args .count) (s .pre .0) w e in
+          ap (λ a. set a (s .args .at + l .loop .i) (c .letter-at .result)) (l .loop .inv .2 w e)
+          ∙ (ap (set (paste (s .args .area .now) (s .args .at) (plainProgram w) (l .loop .i)) (s .args .at + l .loop .i)) (c .letter-at .ensures w e)
+          ∙ unpack-more (s .args .area .now) (s .args .at) w (l .loop .i) (omega (arith, s .pre .1)) (omega (arith, c .before .loop-test .taken))),
     )
 
 -- src/programs.rt:107:1
@@ -89,14 +88,13 @@ same-length c = c .before .loop .inv .1
 
 -- src/programs.rt:107:1
 returns : tie.Need-returns Inv-loop μ-loop
-returns c = 
+returns c =
     let l = c .before in
-    let s = l .before .before .before .before in
-    (
+    let s = l .before .before .before .before in (
       l .loop .inv .1,
       λ w e.
-        l .loop .inv .2 w e
-        ∙ unpack-all (s .args .area .now) (s .args .at) w (l .loop .i) (count-of (s .args .image .now) (s .args .size) (s .args .count) (s .pre .0) w e ∙ omega (arith, l .loop .inv .0, c .loop-test .left)),
+          l .loop .inv .2 w e
+          ∙ unpack-all (s .args .area .now) (s .args .at) w (l .loop .i) (count-of (s .args .image .now) (s .args .size) (s .args .count) (s .pre .0) w e ∙ omega (arith, l .loop .inv .0, c .loop-test .left)),
     )
 
 pub unpack-letters-spec : {M : Type 1} → statement M

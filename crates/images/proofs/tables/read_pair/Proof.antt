@@ -52,7 +52,7 @@ enum-told c = search needs
 
 -- src/tables.rt:69:9
 returns : tie.Need-returns
-returns c = 
+returns c =
     let s = c .before .before .before .before .before in
     (refl, bit-ends (s .args .image .now) (s .args .at) (s .args .size) (s .args .cells .now) (s .args .a) (s .args .b) (s .pre .1) (s .pre .2) (s .pre .3) (subst (FieldDone (s .args .image .now) (s .args .at) 1) (c .enum-told .given .1) (c .before .before .next-field .ensures)))
 
@@ -82,13 +82,12 @@ same-length c = search needs
 
 -- src/tables.rt:76:9
 returns-2 : tie.Need-returns-2
-returns-2 c = 
-    let s = start (c .before .before .before) in
-    (
+returns-2 c =
+    let s = start (c .before .before .before) in (
       simp length-set,
       subst (λ j. PairAt (s .args .image .now) (s .args .at) (s .args .size) (s .args .cells .now) (s .args .a) (s .args .b) (set (set (s .args .cells .now) (c .before .before .cell-of .result) 255) j 255) (s .args .at + 1)) (sym (c .before .cell-of2 .ensures))
-      (subst (λ i. PairAt (s .args .image .now) (s .args .at) (s .args .size) (s .args .cells .now) (s .args .a) (s .args .b) (set (set (s .args .cells .now) i 255) (cellAt (s .args .b) (s .args .a)) 255) (s .args .at + 1)) (sym (c .before .before .cell-of .ensures))
-      (pair-undefined (s .args .image .now) (s .args .at) (s .args .size) (s .args .cells .now) (s .args .a) (s .args .b) (s .pre .1) (s .pre .2) (s .pre .3) (c .before .before .before .before .bit .given .0 .0) (bit-at (c .before .before .before)) (c .if1 .taken))),
+          (subst (λ i. PairAt (s .args .image .now) (s .args .at) (s .args .size) (s .args .cells .now) (s .args .a) (s .args .b) (set (set (s .args .cells .now) i 255) (cellAt (s .args .b) (s .args .a)) 255) (s .args .at + 1)) (sym (c .before .before .cell-of .ensures))
+          (pair-undefined (s .args .image .now) (s .args .at) (s .args .size) (s .args .cells .now) (s .args .a) (s .args .b) (s .pre .1) (s .pre .2) (s .pre .3) (c .before .before .before .before .bit .given .0 .0) (bit-at (c .before .before .before)) (c .if1 .taken))),
     )
 
 -- src/tables.rt:78:28
@@ -97,11 +96,10 @@ add-read-word c = search needs
 
 -- src/tables.rt:78:11
 read-word-requires : tie.Need-read-word-requires
-read-word-requires c κs = 
+read-word-requires c κs =
     let e = c .before in
     let s = start (e .before .before .before) in
-    let p = s .pre .0 in
-    (
+    let p = s .pre .0 in (
       record { inside = bit-at (e .before .before .before) .inside; small = omega (arith, s .pre .4); some = p .some; few = p .few; narrow = p .narrow; width-is = p .width-is },
       omega (arith, e .before .before .cell-of .ensures, cell-inside (s .args .image .now) (s .args .at) (s .args .size) (s .args .cells .now) (s .args .a) (s .args .b) (s .pre .1) (s .pre .2) (s .pre .3), s .pre .3),
     )
@@ -120,13 +118,12 @@ enum-known-next c = search needs
 
 -- src/tables.rt:81:34
 read-word-requires-2 : tie.Need-read-word-requires-2
-read-word-requires-2 c κs = 
+read-word-requires-2 c κs =
     let n = c .before .before in
     let w = n .before .before .before .before in
     let k = w .before .before .before .before .before in
     let s = start k in
-    let p = s .pre .0 in
-    (
+    let p = s .pre .0 in (
       record { inside = first-read n .position .inside; small = omega (arith, s .pre .4, first-read n .position .near); some = p .some; few = p .few; narrow = p .narrow; width-is = p .width-is },
       omega (arith, w .before .before .before .cell-of2 .ensures, back-inside (s .args .image .now) (s .args .at) (s .args .size) (s .args .cells .now) (s .args .a) (s .args .b) (s .pre .1) (s .pre .2) (s .pre .3), s .pre .3, w .read-word .ensures .0),
     )
@@ -137,14 +134,13 @@ same-length-2 c = search needs
 
 -- src/tables.rt:63:1
 returns-3 : tie.Need-returns-3
-returns-3 c = 
+returns-3 c =
     let w = c .before .before .before .before in
     let k = w .before .before .before .before .before in
-    let s = start k in
-    (
+    let s = start k in (
       w .read-word .ensures .0,
       first-refused (s .args .image .now) (s .args .at) (s .args .size) (s .args .cells .now) (s .args .a) (s .args .b) (s .pre .1) (s .pre .2) (s .pre .3) (k .before .bit .given .0 .0) (bit-at k) (w .before .before .if1 .left) 1
-      (subst (WordDone (s .args .image .now) (s .args .at + 1) (s .args .size) (s .args .cells .now) (cellAt (s .args .a) (s .args .b)) (w .read-word .last .1 .1 .1 .1 .0)) (c .enum-told2 .given .1) (first-at w)),
+          (subst (WordDone (s .args .image .now) (s .args .at + 1) (s .args .size) (s .args .cells .now) (cellAt (s .args .a) (s .args .b)) (w .read-word .last .1 .1 .1 .1 .0)) (c .enum-told2 .given .1) (first-at w)),
     )
 
 -- src/tables.rt:63:1
@@ -153,14 +149,13 @@ same-length-3 c = search needs
 
 -- src/tables.rt:63:1
 returns-4 : tie.Need-returns-4
-returns-4 c = 
+returns-4 c =
     let w = c .before .before .before .before in
     let k = w .before .before .before .before .before in
-    let s = start k in
-    (
+    let s = start k in (
       w .read-word .ensures .0,
       first-refused (s .args .image .now) (s .args .at) (s .args .size) (s .args .cells .now) (s .args .a) (s .args .b) (s .pre .1) (s .pre .2) (s .pre .3) (k .before .bit .given .0 .0) (bit-at k) (w .before .before .if1 .left) 2
-      (subst (WordDone (s .args .image .now) (s .args .at + 1) (s .args .size) (s .args .cells .now) (cellAt (s .args .a) (s .args .b)) (w .read-word .last .1 .1 .1 .1 .0)) (c .enum-told3 .given .1) (first-at w)),
+          (subst (WordDone (s .args .image .now) (s .args .at + 1) (s .args .size) (s .args .cells .now) (cellAt (s .args .a) (s .args .b)) (w .read-word .last .1 .1 .1 .1 .0)) (c .enum-told3 .given .1) (first-at w)),
     )
 
 -- src/tables.rt:63:1
@@ -169,16 +164,15 @@ same-length-4 c = search needs
 
 -- src/tables.rt:63:1
 returns-5 : tie.Need-returns-5
-returns-5 c = 
+returns-5 c =
     let v = c .before .before in
     let n = v .before .before .before in
     let w = n .before .before .before .before in
     let k = w .before .before .before .before .before in
-    let s = start k in
-    (
+    let s = start k in (
       v .read-word2 .ensures .0 ∙ w .read-word .ensures .0,
       second-done (s .args .image .now) (s .args .at) (s .args .size) (s .args .cells .now) (s .args .a) (s .args .b) (s .pre .1) (s .pre .2) (s .pre .3) (k .before .bit .given .0 .0) (bit-at k) (w .before .before .if1 .left) (w .read-word .last .1 .1 .1 .1 .0) (n .next .given .0 .0) (first-read n) (v .read-word2 .last .1 .1 .1 .1 .0) (v .read-word2 .result)
-      (subst (λ cell. WordDone (s .args .image .now) (n .next .given .0 .0) (s .args .size) (w .read-word .last .1 .1 .1 .1 .0) cell (v .read-word2 .last .1 .1 .1 .1 .0) (v .read-word2 .result)) (w .before .before .before .cell-of2 .ensures) (v .read-word2 .ensures .1)),
+          (subst (λ cell. WordDone (s .args .image .now) (n .next .given .0 .0) (s .args .size) (w .read-word .last .1 .1 .1 .1 .0) cell (v .read-word2 .last .1 .1 .1 .1 .0) (v .read-word2 .result)) (w .before .before .before .cell-of2 .ensures) (v .read-word2 .ensures .1)),
     )
 
 pub read-pair-spec : {M : Type 1} → statement M

@@ -33,18 +33,17 @@ add-b c = omega (arith, c .before .before .pre .2, c .before .before .pre .0 .fe
 
 -- src/tables.rt:93:5
 loop-holds : tie.Need-loop-holds Inv-loop μ-loop
-loop-holds c = 
+loop-holds c =
     let s = c .before .before in
     row-none (s .args .image .now) (s .args .at) (s .args .size) (s .args .cells .now) (s .args .a) (s .pre .0 .inside) (s .pre .1) (s .pre .2) (s .pre .0 .few)
 
 -- src/tables.rt:94:15
 read-pair-requires : tie.Need-read-pair-requires Inv-loop μ-loop
-read-pair-requires c κs = 
+read-pair-requires c κs =
     let l = c .before .before in
     let s = start l in
     let p = s .pre .0 in
-    let test : l .loop .b ≤ s .args .size = c .before .loop-test .taken in
-    (
+    let test : l .loop .b ≤ s .args .size = c .before .loop-test .taken in (
       record { inside = l .loop .inv .inside; small = omega (arith, near (c .before), s .pre .4); some = p .some; few = p .few; narrow = p .narrow; width-is = p .width-is },
       pair-letters (s .args .image .now) (s .args .at) (s .args .size) (s .args .cells .now) (s .args .a) (s .pre .0 .inside) (s .pre .1) (s .pre .2) (s .pre .0 .few) (l .loop .cells) (l .loop .next) (l .loop .b) (l .loop .inv) test,
       l .loop .inv .above,
@@ -62,7 +61,7 @@ same-length c = returned (c .before .before .before .before)
 
 -- src/tables.rt:95:32
 returns : tie.Need-returns Inv-loop μ-loop
-returns c = 
+returns c =
     let r = c .before .before .before .before in
     let l = r .before .before .before in
     let s = start l in
@@ -78,7 +77,7 @@ same-length-2 c = returned (c .before .before .before .before)
 
 -- src/tables.rt:96:33
 returns-2 : tie.Need-returns-2 Inv-loop μ-loop
-returns-2 c = 
+returns-2 c =
     let r = c .before .before .before .before in
     let l = r .before .before .before in
     let s = start l in
@@ -90,19 +89,19 @@ enum-known-after c = search needs
 
 -- src/tables.rt:99:17
 add-b-2 : tie.Need-add-b-2 Inv-loop μ-loop
-add-b-2 c = 
+add-b-2 c =
     let r = c .before .before .before .before .before in
     omega (arith, r .before .before .loop-test .taken, start (r .before .before .before) .pre .0 .few)
 
 -- src/tables.rt:93:5
 loop-less : tie.Need-loop-less Inv-loop μ-loop
-loop-less c = 
+loop-less c =
     let r = c .before .before .before .before .before in
     omega (arith, r .before .before .loop-test .taken)
 
 -- src/tables.rt:93:5
 loop-again : tie.Need-loop-again Inv-loop μ-loop
-loop-again c = 
+loop-again c =
     let r = c .before .before .before .before .before in
     let l = r .before .before .before in
     let s = start l in
@@ -115,7 +114,7 @@ same-length-3 c = c .before .loop .inv .same-length
 
 -- src/tables.rt:86:1
 returns-3 : tie.Need-returns-3 Inv-loop μ-loop
-returns-3 c = 
+returns-3 c =
     let l = c .before in
     let s = start l in
     (l .loop .inv .same-length, row-answered (s .args .image .now) (s .args .at) (s .args .size) (s .args .cells .now) (s .args .a) (s .pre .0 .inside) (s .pre .1) (s .pre .2) (s .pre .0 .few) (l .loop .cells) (l .loop .next) (l .loop .b) (l .loop .inv) (c .loop-test .left))

@@ -52,7 +52,7 @@ enum-told c = search needs
 
 -- src/tables.rt:113:9
 returns : tie.Need-returns Inv-loop μ-loop
-returns c = 
+returns c =
     let s = c .before .before .before .before .before in
     (refl, head-ends (s .args .image .now) (subst (FieldDone (s .args .image .now) 0 4) (c .enum-told .given .1) (c .before .before .next-field .ensures)))
 
@@ -78,10 +78,9 @@ loop-holds c = rows-none (start (c .before) .args .image .now) (c .before .befor
 
 -- src/tables.rt:120:15
 read-row-requires : tie.Need-read-row-requires Inv-loop μ-loop
-read-row-requires c κs = 
+read-row-requires c κs =
     let l = c .before .before in
-    let k = l .before in
-    (
+    let k = l .before in (
       record {
         inside = l .loop .inv .inside;
         small = omega (arith, near l);
@@ -106,7 +105,7 @@ same-length c = returned (c .before .before .before .before)
 
 -- src/tables.rt:121:32
 returns-2 : tie.Need-returns-2 Inv-loop μ-loop
-returns-2 c = 
+returns-2 c =
     let r = c .before .before .before .before in
     let l = r .before .before .before in
     let s = start (l .before .before) in
@@ -122,7 +121,7 @@ same-length-2 c = returned (c .before .before .before .before)
 
 -- src/tables.rt:122:33
 returns-3 : tie.Need-returns-3 Inv-loop μ-loop
-returns-3 c = 
+returns-3 c =
     let r = c .before .before .before .before in
     let l = r .before .before .before in
     let s = start (l .before .before) in
@@ -134,19 +133,19 @@ enum-known-next c = search needs
 
 -- src/tables.rt:125:17
 add-a : tie.Need-add-a Inv-loop μ-loop
-add-a c = 
+add-a c =
     let r = c .before .before .before .before .before in
     omega (arith, r .before .before .loop-test .taken, head-at (r .before .before .before .before .before) .small)
 
 -- src/tables.rt:119:5
 loop-less : tie.Need-loop-less Inv-loop μ-loop
-loop-less c = 
+loop-less c =
     let r = c .before .before .before .before .before in
     omega (arith, r .before .before .loop-test .taken)
 
 -- src/tables.rt:119:5
 loop-again : tie.Need-loop-again Inv-loop μ-loop
-loop-again c = 
+loop-again c =
     let r = c .before .before .before .before .before in
     let l = r .before .before .before in
     let s = start (l .before .before) in
@@ -163,7 +162,7 @@ same-length-3 c = kept (c .before .before .before)
 
 -- src/tables.rt:107:1
 returns-4 : tie.Need-returns-4 Inv-loop μ-loop
-returns-4 c = 
+returns-4 c =
     let l = c .before .before .before in
     let s = start (l .before .before) in
     (kept l, table-answered (s .args .image .now) (l .before .before .before .head .given .0 .0) (l .before .before .before .head .given .0 .0 + 1) (head-at (l .before .before)) refl (l .loop .cells) (l .loop .at) (l .loop .a) (l .loop .inv) (c .before .before .loop-test .left) (sym (c .before .is-filling .ensures) ∙ c .if1 .taken))
@@ -174,7 +173,7 @@ same-length-4 c = kept (c .before .before .before)
 
 -- src/tables.rt:107:1
 returns-5 : tie.Need-returns-5 Inv-loop μ-loop
-returns-5 c = 
+returns-5 c =
     let l = c .before .before .before in
     let s = start (l .before .before) in
     (kept l, table-tail (s .args .image .now) (l .before .before .before .head .given .0 .0) (l .before .before .before .head .given .0 .0 + 1) (head-at (l .before .before)) refl (l .loop .cells) (l .loop .at) (l .loop .a) (l .loop .inv) (c .before .before .loop-test .left) (sym (c .before .is-filling .ensures) ∙ c .if1 .left))

@@ -48,7 +48,7 @@ enum-told c = search needs
 
 -- src/tables.rt:42:9
 returns : tie.Need-returns Inv-loop μ-loop
-returns c = 
+returns c =
     let s = c .before .before .before .before .before in
     (refl, length-ends (s .args .image .now) (s .args .at) (s .args .size) (subst (FieldDone (s .args .image .now) (s .args .at) 4) (c .enum-told .given .1) (c .before .before .next-field .ensures)))
 
@@ -70,13 +70,13 @@ add-next c = omega (arith, start c .pre .0 .small)
 
 -- src/tables.rt:48:5
 loop-holds : tie.Need-loop-holds Inv-loop μ-loop
-loop-holds c = 
+loop-holds c =
     let s = start c in
     filled-none (s .args .image .now) (s .args .at) (s .args .size) (s .args .cells .now) (s .args .cell) (c .before .value .given .0 .0) (s .pre .1) (length-at c)
 
 -- src/tables.rt:49:15
 next-letter-requires : tie.Need-next-letter-requires Inv-loop μ-loop
-next-letter-requires c κs = 
+next-letter-requires c κs =
     let l = c .before in
     let p = start (l .before) .pre .0 in
     (record { narrow = omega (arith, p .narrow); inside = l .loop .inv .inside; small = omega (arith, near l, p .narrow) }, p .width-is, p .few)
@@ -87,19 +87,18 @@ enum-told-2 c = search needs
 
 -- src/tables.rt:50:34
 same-length : tie.Need-same-length Inv-loop μ-loop
-same-length c = 
+same-length c =
     let l = c .before .before .before .before in
     l .loop .inv .same-length ∙ length-set (start (l .before) .args .cells .now) (start (l .before) .args .cell) (l .before .before .value .given .0 .0)
 
 -- src/tables.rt:50:34
 returns-2 : tie.Need-returns-2 Inv-loop μ-loop
-returns-2 c = 
+returns-2 c =
     let l = c .before .before .before .before in
-    let s = start (l .before) in
-    (
+    let s = start (l .before) in (
       l .loop .inv .same-length ∙ length-set (s .args .cells .now) (s .args .cell) (l .before .before .value .given .0 .0),
       letter-refused (s .args .image .now) (s .args .at) (s .args .size) (s .args .cells .now) (s .args .cell) (l .before .before .value .given .0 .0) (s .pre .1) (length-at (l .before)) (l .loop .cells) (l .loop .next) (l .loop .k) (l .loop .inv) 1 (c .before .before .before .loop-test .taken)
-      (subst (LetterDone (s .args .image .now) (l .loop .next) (s .args .size) (s .args .width)) (c .enum-told2 .given .1) (c .before .before .next-letter .ensures) 1 2),
+          (subst (LetterDone (s .args .image .now) (l .loop .next) (s .args .size) (s .args .width)) (c .enum-told2 .given .1) (c .before .before .next-letter .ensures) 1 2),
     )
 
 -- src/tables.rt:51:35
@@ -108,19 +107,18 @@ enum-told-3 c = search needs
 
 -- src/tables.rt:51:35
 same-length-2 : tie.Need-same-length-2 Inv-loop μ-loop
-same-length-2 c = 
+same-length-2 c =
     let l = c .before .before .before .before in
     l .loop .inv .same-length ∙ length-set (start (l .before) .args .cells .now) (start (l .before) .args .cell) (l .before .before .value .given .0 .0)
 
 -- src/tables.rt:51:35
 returns-3 : tie.Need-returns-3 Inv-loop μ-loop
-returns-3 c = 
+returns-3 c =
     let l = c .before .before .before .before in
-    let s = start (l .before) in
-    (
+    let s = start (l .before) in (
       l .loop .inv .same-length ∙ length-set (s .args .cells .now) (s .args .cell) (l .before .before .value .given .0 .0),
       letter-refused (s .args .image .now) (s .args .at) (s .args .size) (s .args .cells .now) (s .args .cell) (l .before .before .value .given .0 .0) (s .pre .1) (length-at (l .before)) (l .loop .cells) (l .loop .next) (l .loop .k) (l .loop .inv) 2 (c .before .before .before .loop-test .taken)
-      (subst (LetterDone (s .args .image .now) (l .loop .next) (s .args .size) (s .args .width)) (c .enum-told3 .given .1) (c .before .before .next-letter .ensures) 1 2),
+          (subst (LetterDone (s .args .image .now) (l .loop .next) (s .args .size) (s .args .width)) (c .enum-told3 .given .1) (c .before .before .next-letter .ensures) 1 2),
     )
 
 -- src/tables.rt:52:33
@@ -153,7 +151,7 @@ loop-less c = omega (arith, c .before .before .before .before .loop-test .taken)
 
 -- src/tables.rt:48:5
 loop-again : tie.Need-loop-again Inv-loop μ-loop
-loop-again c = 
+loop-again c =
     let l = c .before .before .before .before .before in
     let s = start (l .before) in
     filled-more (s .args .image .now) (s .args .at) (s .args .size) (s .args .cells .now) (s .args .cell) (l .before .before .value .given .0 .0) (s .pre .1) (length-at (l .before)) (l .loop .cells) (l .loop .next) (l .loop .k) (l .loop .inv) (s .args .width) (c .before .a .given .0 .0) (s .pre .0 .narrow) (c .before .before .before .before .loop-test .taken)
@@ -161,16 +159,15 @@ loop-again c =
 
 -- src/tables.rt:36:1
 same-length-3 : tie.Need-same-length-3 Inv-loop μ-loop
-same-length-3 c = 
+same-length-3 c =
     let l = c .before in
     l .loop .inv .same-length ∙ length-set (start (l .before) .args .cells .now) (start (l .before) .args .cell) (l .before .before .value .given .0 .0)
 
 -- src/tables.rt:36:1
 returns-4 : tie.Need-returns-4 Inv-loop μ-loop
-returns-4 c = 
+returns-4 c =
     let l = c .before in
-    let s = start (l .before) in
-    (
+    let s = start (l .before) in (
       l .loop .inv .same-length ∙ length-set (s .args .cells .now) (s .args .cell) (l .before .before .value .given .0 .0),
       word-answered (s .args .image .now) (s .args .at) (s .args .size) (s .args .cells .now) (s .args .cell) (l .before .before .value .given .0 .0) (s .pre .1) (length-at (l .before)) (l .loop .cells) (l .loop .next) (l .loop .k) (l .loop .inv) (c .loop-test .left),
     )

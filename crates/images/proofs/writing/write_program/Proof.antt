@@ -72,7 +72,7 @@ write-field-requires c κs = record { narrow = omega arith; inside = omega (arit
 
 -- src/writing.rt:41:5
 loop-holds : tie.Need-loop-holds Inv-loop μ-loop
-loop-holds c = 
+loop-holds c =
     let s = start (c .before .before .before .before) in
     (omega arith, subst (λ bs. Appended (c .before .before .write-field .last .0) 12 bs (c .before .before .write-field .last .0)) (first-none (s .args .size) (c .before .before .before .before .letter-width .result) (c .before .before .before .before .letter-width .ensures) (s .args .plain .now)) (appended-none (c .before .before .write-field .last .0) 12))
 
@@ -94,10 +94,9 @@ shared-slice-read-write-signed c = omega (arith, c .before .before .loop-test .t
 
 -- src/writing.rt:42:9
 write-signed-requires : tie.Need-write-signed-requires Inv-loop μ-loop
-write-signed-requires c κs = 
+write-signed-requires c κs =
     let l = c .before .before .before in
-    let s = start (width-at (c .before .before)) in
-    (
+    let s = start (width-at (c .before .before)) in (
       record { few = s .pre .1; narrow = narrow (width-at (c .before .before)); width-is = width-at (c .before .before) .letter-width .ensures },
       s .pre .2 .named (l .loop .i) (c .before .before .loop-test .taken),
       omega (arith, fits (c .before .before), begun (c .before .before)),
@@ -114,7 +113,7 @@ loop-less c = omega (arith, c .before .before .before .before .before .loop-test
 
 -- src/writing.rt:41:5
 loop-again : tie.Need-loop-again Inv-loop μ-loop
-loop-again c = 
+loop-again c =
     let a = c .before .before in
     let n = a .before .before .before in
     let l = n .before in
@@ -122,14 +121,13 @@ loop-again c =
     let s = start w in
     let area₀ = l .before .before .before .write-field .last .0 in
     let e : length (firstBits (s .args .size) (s .args .plain .now) (l .loop .i)) ≡ l .loop .i * (1 + w .letter-width .result) =
-    first-length (s .args .size) (w .letter-width .result) (w .letter-width .ensures) (s .args .plain .now) (l .loop .i) (l .loop .inv .0) in
-    (
+    first-length (s .args .size) (w .letter-width .result) (w .letter-width .ensures) (s .args .plain .now) (l .loop .i) (l .loop .inv .0) in (
       omega (arith, n .loop-test .taken),
       subst (λ bs. Appended area₀ 12 bs (a .write-signed .last .0)) (first-more (s .args .size) (w .letter-width .result) (w .letter-width .ensures) (s .args .plain .now) (l .loop .i) (n .loop-test .taken))
-      (appended-more area₀ 12 (firstBits (s .args .size) (s .args .plain .now) (l .loop .i)) (l .loop .area) (signedBits (s .args .size) (letter (getD (s .args .plain .now) (l .loop .i) 0))) (a .write-signed .last .0)
-      (omega (arith, fits n, l .before .before .before .write-field .ensures .same-length))
-      (l .loop .inv .1)
-      (subst (λ k. Appended (l .loop .area) (12 + k) (signedBits (s .args .size) (letter (getD (s .args .plain .now) (l .loop .i) 0))) (a .write-signed .last .0)) (sym e) (a .write-signed .ensures))),
+          (appended-more area₀ 12 (firstBits (s .args .size) (s .args .plain .now) (l .loop .i)) (l .loop .area) (signedBits (s .args .size) (letter (getD (s .args .plain .now) (l .loop .i) 0))) (a .write-signed .last .0)
+          (omega (arith, fits n, l .before .before .before .write-field .ensures .same-length))
+          (l .loop .inv .1)
+          (subst (λ k. Appended (l .loop .area) (12 + k) (signedBits (s .args .size) (letter (getD (s .args .plain .now) (l .loop .i) 0))) (a .write-signed .last .0)) (sym e) (a .write-signed .ensures))),
     )
 
 -- src/writing.rt:34:1
@@ -138,7 +136,7 @@ same-length c = c .before .loop .inv .1 .same-length ∙ c .before .before .befo
 
 -- src/writing.rt:34:1
 returns : tie.Need-returns Inv-loop μ-loop
-returns c = 
+returns c =
     let l = c .before in
     let v = l .before .before .before in
     let w = v .before .before in

@@ -43,7 +43,7 @@ same-length c = search needs
 
 -- src/writing.rt:25:1
 returns : tie.Need-returns
-returns c = 
+returns c =
     let w = c .before .before in
     let v = w .before .before .before .before in
     let s = v .before .before .before in

@@ -1,0 +1,5 @@
+pub mod Putting
+pub mod Refused
+pub mod Reports
+pub mod Rendering
+pub mod Decimal

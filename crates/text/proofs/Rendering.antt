@@ -1,0 +1,86 @@
+-- What was put is the report.
+use mathlib.Core.Path.{_≡_, sym, ap, ap₂, _∙_}
+use mathlib.Core.List.{List, _++_, map}
+use Prim.Native.Nat.{ℕ, _+_, _≤_}
+use native.Mathlib.Omega.{arith}
+use lib.ListN.{length, take, drop, length-append, length-drop, length-map}
+use lib.Seq.{take-at}
+use Rattle.model.specs.Word.{Word, Positive, byte}
+use Rattle.model.specs.Presentation.{Presentation}
+use Rattle.model.specs.Outcome.{Outcome, answered, mapped}
+use Rattle.model.specs.Images.{readProgram}
+use Rattle.model.specs.Plain.{plainProgram}
+use Rattle.model.specs.Services.{Fraction, reverse}
+use Rattle.model.specs.Areas.{begins, fractionBytes, outputAfter}
+use Rattle.model.specs.Stated.{refusal, sizes}
+use Rattle.model.specs.declared.answers.Refusal.{Refusal}
+use Rattle.images.specs.Programs.{written}
+use Rattle.images.specs.Tables.{SizeOf}
+use Rattle.images.proofs.RoundTrip.{program-in-range}
+use Rattle.text.specs.Text.{wordText, bytesText, answerText, outcomeText, report}
+use Rattle.text.specs.Put.{Put}
+use Rattle.text.specs.Render.{Readable, Reported}
+use Rattle.text.proofs.Reports.{Sized, mapped-answered, outcome, no-program, no-answer, answer, bytes-word, numerator-part, denominator-part}
+
+pub reported : {most : ℕ} {table program before text after : List ℕ} {r : ℕ} → Put most before 0 text after r → most ≤ length before → text ≡ report table program
+    → Reported table program after r
+reported p h e = record { inside = omega (arith, p .near, p .same-length); text = p .appended ∙ e }
+
+-- a table of so many letters, and a program that is refused under it
+pub program-refused : (table program : List ℕ) (size : ℕ) (t : SizeOf table size) (r : Refusal) → readProgram size program ≡ refusal r
+    → outcomeText (refusal r) ≡ report table program
+program-refused table program size t r e =
+    no-program table program (t .table) (t .read) r (ap (λ n. readProgram n program) (t .size-is) ∙ e)
+
+module _ (table program : List ℕ) (size count : ℕ) (q : Readable table program size count) (width area : ℕ) (ew : width ≡ 32768)
+    (ea : area ≡ 32768) where
+  abbrev run : Outcome Fraction
+  run = reverse table program 65535 width area
+
+  run-is : run ≡ outcome table program
+  run-is = ap₂ (λ i j. reverse table program 65535 i j) ew ea
+
+  abbrev T : Presentation
+  T = q .table-read .table
+
+  abbrev word : Word
+  word = q .program-read .program .word
+
+  word-read : readProgram (T .size) program ≡ answered word
+  word-read = ap (λ n. readProgram n program) (q .table-read .size-is) ∙ q .program-read .program .read
+
+  pub refused-report : (r : Refusal) → refusal r ≡ mapped sizes run → outcomeText (refusal r) ≡ report table program
+  refused-report r e = no-answer table program T (q .table-read .read) word word-read r (e ∙ ap (mapped sizes) run-is)
+
+  module _ (n d k : ℕ) (e : answered (record { numerator = n; denominator = d; steps = k }) ≡ mapped sizes run) (before after : List ℕ)
+      (a : after ≡ outputAfter fractionBytes run before) where
+    found : Sized run n d k
+    found = mapped-answered run n d k e
+
+    abbrev N : Positive
+    N = found .fraction .numerator
+
+    abbrev D : Positive
+    D = found .fraction .denominator
+
+    begun : after ≡ begins (N ++ D) before
+    begun = a ∙ ap (λ o. outputAfter fractionBytes o before) (found .is)
+
+    pub fraction-fits : length after ≡ length before → n + d ≤ length after
+    fraction-fits h =
+        let l = ap length begun ∙ length-append (N ++ D) (drop (length (N ++ D)) before) in
+        omega (arith, l, length-append N D, length-drop (length (N ++ D)) before, found .numerator-length, found .denominator-length)
+
+    pub answer-report : (workspace bytes : List ℕ) → bytes ≡ written workspace 0 (plainProgram word)
+        → answerText size (bytesText (take count bytes)) (take n after) (take d (drop n after)) k ≡ report table program
+    answer-report workspace bytes b =
+        let letters : take count bytes ≡ map byte word =
+        ap (take count) b ∙ take-at (map byte word) (drop (0 + length (map byte word)) workspace) count (length-map word byte ∙ q .program-read .program .count-is) in
+        let range = program-in-range size (q .program-read .few) program word (q .program-read .program .read) in
+        let spelled : bytesText (take count bytes) ≡ wordText word = ap bytesText letters ∙ bytes-word size (q .program-read .few) word (range .letters) in
+        let numerator : take n after ≡ N = ap (take n) begun ∙ numerator-part N D before n (found .numerator-length) in
+        let denominator : take d (drop n after) ≡ D =
+        ap (λ l. take d (drop n l)) begun ∙ denominator-part N D before n d (found .numerator-length) (found .denominator-length) in
+        let same : answerText size (bytesText (take count bytes)) (take n after) (take d (drop n after)) k ≡
+        answerText (T .size) (wordText word) N D (found .fraction .steps) = cc (q .table-read .size-is, found .steps-are) in
+        same ∙ answer table program T (q .table-read .read) word word-read (found .fraction) (sym run-is ∙ found .is)

@@ -1,0 +1,120 @@
+-- The report, by what reading and reversing come to.
+use mathlib.Core.Path.{_≡_, refl, sym, ap, ap₂, _∙_}
+use mathlib.Core.List.{List, [], _∷_, _++_, map, append-assoc}
+use Prim.Native.Nat.{ℕ, _+_, _-_, _*_, _≤_}
+use native.Mathlib.Omega.{arith}
+use lib.ListN.{length, take, drop, length-drop}
+use lib.Seq.{take-at, drop-at, length-take-le}
+use Rattle.model.specs.Word.{forward, back, Word, byte}
+use Rattle.model.specs.Presentation.{Presentation}
+use Rattle.model.specs.Outcome.{Outcome, answered, refused, _>>=_, mapped}
+use Rattle.model.specs.Images.{readTable, readProgram}
+use Rattle.model.specs.Services.{Fraction, reverse}
+use Rattle.model.specs.Areas.{begins}
+use Rattle.model.specs.Stated.{refusal, Sizes, sizes}
+use Rattle.model.specs.declared.answers.Refusal.{Refusal}
+use Rattle.theory.proofs.Impossible.{impossible}
+use Rattle.images.specs.Range.{All, LetterInRange}
+use Rattle.engine.proofs.Letters.{letter-forward, letter-back}
+use Rattle.services.proofs.Early.{told, refusal-mapped}
+use Rattle.services.proofs.Outcomes.{still-refused, goes-on}
+use Rattle.text.specs.Text.{letterText, wordText, bytesText, answerText, outcomeText, reading, report}
+
+-- the outcome whose sizes a refusal states
+mapped-refused : (o : Outcome Fraction) (r : Refusal) → refusal r ≡ mapped sizes o → o ≡ refusal r
+mapped-refused (answered f) r e =
+    let t = told r in
+    let u : refused (t .number) (t .places) ≡ answered (sizes f) = sym (t .is {A = Sizes}) ∙ e in impossible (cc)
+mapped-refused (refused k ps) r e =
+    let g : Sizes → Fraction = λ s. record { numerator = []; denominator = []; steps = 0 } in
+    ap (mapped g) (sym e) ∙ refusal-mapped r g
+
+-- the fraction whose sizes an answer states
+pub record Sized (o : Outcome Fraction) (n d k : ℕ) : Type 0 where
+  pub fraction : Fraction
+  pub is : o ≡ answered fraction
+  pub numerator-length : length (fraction .numerator) ≡ n
+  pub denominator-length : length (fraction .denominator) ≡ d
+  pub steps-are : fraction .steps ≡ k
+
+pub mapped-answered : (o : Outcome Fraction) (n d k : ℕ) → answered (record { numerator = n; denominator = d; steps = k }) ≡ mapped sizes o → Sized o n d k
+mapped-answered (answered f) n d k e =
+    let u : record { numerator = n; denominator = d; steps = k } ≡ sizes f = cc in
+    record {
+      fraction = f;
+      is = refl;
+      numerator-length = ap (λ s. s .numerator) (sym u);
+      denominator-length = ap (λ s. s .denominator) (sym u);
+      steps-are = ap (λ s. s .steps) (sym u);
+    }
+mapped-answered (refused i ps) n d k e = impossible (cc)
+
+module _ (table program : List ℕ) where
+  -- the reader's reversing
+  abbrev pub outcome : Outcome Fraction
+  outcome = reverse table program 65535 32768 32768
+
+  abbrev text : Presentation → Word → Fraction → Outcome (List ℕ)
+  text T w f = answered (answerText (T .size) (wordText w) (f .numerator) (f .denominator) (f .steps))
+
+  pub no-table : (r : Refusal) → readTable table ≡ refusal r → outcomeText (refusal r) ≡ report table program
+  unfolding report
+  no-table r e = sym (ap outcomeText (still-refused (readTable table) r e (λ T. readProgram (T .size) program >>= λ w. outcome >>= text T w)))
+
+  module _ (T : Presentation) (e : readTable table ≡ answered T) where
+    read-table : reading table program ≡ (readProgram (T .size) program >>= λ w. outcome >>= text T w)
+    read-table = goes-on (readTable table) T e (λ T. readProgram (T .size) program >>= λ w. outcome >>= text T w)
+
+    pub no-program : (r : Refusal) → readProgram (T .size) program ≡ refusal r → outcomeText (refusal r) ≡ report table program
+    unfolding report
+    no-program r f = sym (ap outcomeText (read-table ∙ still-refused (readProgram (T .size) program) r f (λ w. outcome >>= text T w)))
+
+    module _ (w : Word) (f : readProgram (T .size) program ≡ answered w) where
+      read-both : reading table program ≡ (outcome >>= text T w)
+      read-both = read-table ∙ goes-on (readProgram (T .size) program) w f (λ w. outcome >>= text T w)
+
+      pub no-answer : (r : Refusal) → refusal r ≡ mapped sizes outcome → outcomeText (refusal r) ≡ report table program
+      unfolding report
+      no-answer r g = sym (ap outcomeText (read-both ∙ still-refused outcome r (mapped-refused outcome r g) (text T w)))
+
+      pub answer : (x : Fraction) → outcome ≡ answered x
+          → answerText (T .size) (wordText w) (x .numerator) (x .denominator) (x .steps) ≡ report table program
+      unfolding report
+      answer x g = sym (ap outcomeText (read-both ∙ goes-on outcome x g (text T w)))
+
+-- the bytes of a program's letters are written as its letters
+pub bytes-word : (n : ℕ) → n ≤ 16 → (w : Word) → All (LetterInRange n) w → bytesText (map byte w) ≡ wordText w
+unfolding bytesText wordText
+bytes-word n h [] p = refl
+bytes-word n h (forward a ∷ w) p = ap₂ _++_ (ap letterText (letter-forward a (omega (arith, p .0 .small)))) (bytes-word n h w (p .1))
+bytes-word n h (back a ∷ w) p =
+    let e : 128 + a - 128 ≡ a = omega arith in
+    ap₂ _++_ (ap letterText (letter-back (128 + a) (omega arith) ∙ ap back e)) (bytes-word n h w (p .1))
+
+-- N and D, where an area begins with them
+module _ (N D area : List ℕ) where
+  abbrev pub both : List ℕ
+  both = begins (N ++ D) area
+
+  split : both ≡ N ++ (D ++ drop (length (N ++ D)) area)
+  split = append-assoc N D (drop (length (N ++ D)) area)
+
+  pub numerator-part : (n : ℕ) → length N ≡ n → take n both ≡ N
+  numerator-part n e = ap (take n) split ∙ take-at N (D ++ drop (length (N ++ D)) area) n e
+
+  pub denominator-part : (n d : ℕ) → length N ≡ n → length D ≡ d → take d (drop n both) ≡ D
+  denominator-part n d e f =
+      ap (λ l. take d (drop n l)) split
+      ∙ (ap (take d) (drop-at N (D ++ drop (length (N ++ D)) area) n e) ∙ take-at D (drop (length (N ++ D)) area) d f)
+
+-- the bytes that the parts of the areas take
+pub parts-room : (program fraction : List ℕ) (letters n d : ℕ) → letters ≤ length program → n + d ≤ length fraction
+    → 7 * length (take letters program) + (6 * length (take n fraction) + (6 * length (take (n + d - n) (drop n fraction)) + 64))
+    ≡ 7 * letters + (6 * n + (6 * d + 64))
+parts-room program fraction letters n d h i =
+    omega (
+      arith,
+      length-take-le letters program h,
+      length-take-le n fraction (omega arith),
+      length-take-le (n + d - n) (drop n fraction) (omega (arith, length-drop n fraction)),
+    )

@@ -1,0 +1,62 @@
+-- `text::pieces::put_word` meets its contract.
+use Prim.Native.Nat.{_-_, _≤_, _<_}
+use native.Mathlib.Omega.{arith}
+use lib.ListN.{length}
+use Rattle.model.specs.Word.{letter}
+use Rattle.text.specs.Text.{letterText, bytesText}
+use Rattle.text.proofs.Putting.{PutFirst, first-none, first-more, first-all}
+use Rattle.text.proofs.pieces.put_word.Statement.{statement}
+use Rattle.text.proofs.pieces.put_word.Tie as tie
+
+abbrev Inv-loop : tie.InvT-loop
+Inv-loop out₀ at word next₀ i₀ out next i = (i ≤ length word) × PutFirst (λ x. letterText (letter x)) 7 word out₀ at i out next
+
+abbrev μ-loop : tie.MeasureT-loop
+μ-loop out₀ at word next₀ i₀ out next i = length word - i
+
+loop-holds : tie.Need-loop-holds Inv-loop μ-loop
+loop-holds c = let s = c .before .before in (omega arith, first-none (λ x. letterText (letter x)) 7 (s .args .word .now) (s .args .out .now) (s .args .at))
+
+shared-slice-read-put-letter : tie.Need-shared-slice-read-put-letter Inv-loop μ-loop
+shared-slice-read-put-letter c = omega arith
+
+put-letter-requires : tie.Need-put-letter-requires Inv-loop μ-loop
+put-letter-requires c κs = let l = c .before .before .before .loop in omega (arith, l .inv .1 .near, l .inv .1 .same-length, c .before .before .before .before .before .before .pre)
+
+add-i : tie.Need-add-i Inv-loop μ-loop
+add-i c = omega arith
+
+loop-less : tie.Need-loop-less Inv-loop μ-loop
+loop-less c = omega arith
+
+loop-again : tie.Need-loop-again Inv-loop μ-loop
+loop-again c =
+    let l = c .before .before .before .before .before .before .loop in
+    let s = c .before .before .before .before .before .before .before .before .before in
+    let h : l .i < length (s .args .word .now) = c .before .before .before .before .before .loop-test .taken in
+    (omega arith, first-more (λ x. letterText (letter x)) 7 (s .args .word .now) (s .args .out .now) (s .args .at) (l .i) h (l .inv .1) (c .before .before .put-letter .ensures))
+
+same-length : tie.Need-same-length Inv-loop μ-loop
+same-length c = c .before .loop .inv .1 .same-length
+
+returns : tie.Need-returns Inv-loop μ-loop
+unfolding bytesText
+returns c =
+    let l = c .before .loop in
+    let s = c .before .before .before .before in
+    first-all (λ x. letterText (letter x)) 7 (s .args .word .now) (s .args .out .now) (s .args .at) (l .i) (omega arith) (l .inv .1)
+
+pub put-word-spec : {M : Type 1} → statement M
+put-word-spec =
+    tie.close
+    (tie.spec
+    Inv-loop
+    μ-loop
+    loop-holds
+    shared-slice-read-put-letter
+    put-letter-requires
+    add-i
+    loop-less
+    loop-again
+    same-length
+    returns)

@@ -1,0 +1,5 @@
+pub mod Text
+pub mod Put
+pub mod Refusals
+pub mod Render
+pub mod Cases

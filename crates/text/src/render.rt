@@ -1,0 +1,92 @@
+// The report of a table image and a program image.
+ghost use Rattle.images.specs.Tables.{SizeOf};
+ghost use Rattle.text.specs.Render.{Areas, Readable, Reported};
+use crate::lines::put_areas;
+use crate::refusals::put_refusal;
+use images::programs::ProgramRead;
+use images::programs::read_program;
+use images::programs::unpack_letters;
+use images::tables::TableRead;
+use images::tables::table_size;
+use model::answers::Reversed;
+use services::reverse::reverse;
+
+// Of an accepted program: reverses it, then unpacks it into the workspace, which is free again, to write its letters.
+pub fn render_accepted(
+    table: &[u8],
+    size: u8,
+    program: &[u8],
+    count: u16,
+    workspace: &mut [u8],
+    answer: &mut [u8],
+    out: &mut [u8],
+) -> usize
+    requires { ⌜ Areas (now workspace) (now answer) (now out) × Readable (now table) (now program) size count ⌝ }
+    ensures { λ r. ⌜ Reported (now (table .entry)) (now (program .entry)) (now (out .exit)) r ⌝ }
+{
+    let reversed = reverse(table, program, 65535, workspace, answer);
+    match reversed {
+        Reversed::Refused(refused) => put_refusal(out, refused),
+        Reversed::Answer {
+            numerator,
+            denominator,
+            steps,
+        } => {
+            unpack_letters(program, size, count, workspace, 0);
+            put_areas(
+                out,
+                size,
+                workspace,
+                count as usize,
+                answer,
+                numerator,
+                denominator,
+                steps,
+            )
+        }
+    }
+}
+
+// Under a table that was read.
+pub fn render_program(
+    table: &[u8],
+    size: u8,
+    program: &[u8],
+    workspace: &mut [u8],
+    answer: &mut [u8],
+    out: &mut [u8],
+) -> usize
+    requires { ⌜ Areas (now workspace) (now answer) (now out) × SizeOf (now table) size ⌝ }
+    ensures { λ r. ⌜ Reported (now (table .entry)) (now (program .entry)) (now (out .exit)) r ⌝ }
+{
+    let read = read_program(program, size);
+    match read {
+        ProgramRead::Refused(refused) => put_refusal(out, refused),
+        ProgramRead::Program { count } => render_accepted(
+            table,
+            size,
+            program,
+            count,
+            workspace,
+            answer,
+            out,
+        ),
+    }
+}
+
+pub fn render(
+    table: &[u8],
+    program: &[u8],
+    workspace: &mut [u8],
+    answer: &mut [u8],
+    out: &mut [u8],
+) -> usize
+    requires { ⌜ Areas (now workspace) (now answer) (now out) ⌝ }
+    ensures { λ r. ⌜ Reported (now (table .entry)) (now (program .entry)) (now (out .exit)) r ⌝ }
+{
+    let read = table_size(table);
+    match read {
+        TableRead::Refused(refused) => put_refusal(out, refused),
+        TableRead::Table { size } => render_program(table, size, program, workspace, answer, out),
+    }
+}

@@ -1,0 +1,57 @@
+#!/bin/sh
+# Runs the bench reader on the samples and compares what it writes byte for byte. Usage: tests/reader.sh [READER]
+cd "$(dirname "$0")/.." || exit 1
+reader=${1:-target/bin/reader}
+samples=samples
+work=$(mktemp -d) || exit 1
+trap 'rm -rf "$work"' EXIT
+passed=0
+failed=0
+
+# expect LABEL TEXT ARGUMENT..: the reader on these arguments writes exactly TEXT, a printf format
+expect() {
+    label=$1
+    printf "$2" > "$work/expected"
+    shift 2
+    "$reader" "$@" > "$work/written"
+    if cmp -s "$work/expected" "$work/written"; then
+        passed=$((passed + 1))
+    else
+        failed=$((failed + 1))
+        echo "failed: $label; it wrote:"
+        cat "$work/written"
+    fi
+}
+
+# files longer than any image: an image, then bytes up to past what the reader reads
+{ cat $samples/braid3.table; head -c 5000 /dev/zero; } > "$work/long.table"
+{ cat $samples/first.program; head -c 5000 /dev/zero; } > "$work/long.program"
+head -c 4096 "$work/long.program" > "$work/full.program"
+: > "$work/nothing"
+
+five='moves 3\nprogram -3 1 -2 1 2\nnumerator 1 1 2 3\ndenominator 1 3 2\nsteps 5\n'
+expect "the bench sheet's program" "$five" $samples/braid3.table $samples/first.program
+expect "a second program with a denominator" \
+    'moves 3\nprogram -2 -3 -1 1 1 2 3\nnumerator 1 2 3\ndenominator 2 1\nsteps 7\n' \
+    $samples/braid3.table $samples/second.program
+expect "an empty program: labels alone on their lines" \
+    'moves 3\nprogram\nnumerator\ndenominator\nsteps 0\n' \
+    $samples/braid3.table $samples/empty.program
+expect "two digits, and no numerator" \
+    'moves 16\nprogram -16 -9 -10\nnumerator\ndenominator 10 9 16\nsteps 0\n' \
+    $samples/open16.table $samples/letters16.program
+expect "refusal 1: no table file" 'refused 1\n' "$work/missing.table" $samples/first.program
+expect "refusal 1: an empty table file" 'refused 1\n' "$work/nothing" $samples/first.program
+expect "refusal 1: a table that cannot be read" 'refused 1\n' "$work" $samples/first.program
+expect "refusal 1: no arguments" 'refused 1\n'
+expect "refusal 3: a table file longer than 4,096 bytes" 'refused 3\n' "$work/long.table" $samples/first.program
+expect "refusal 4: no program file" 'refused 4\n' $samples/braid3.table "$work/missing.program"
+expect "refusal 4: one argument" 'refused 4\n' $samples/braid3.table
+expect "refusal 6: a byte follows the program" 'refused 6\n' $samples/braid3.table $samples/tail.program
+expect "refusal 6: a program file of 4,096 bytes" 'refused 6\n' $samples/braid3.table "$work/full.program"
+expect "refusal 6: a program file longer than 4,096 bytes" 'refused 6\n' $samples/braid3.table "$work/long.program"
+expect "refusal 10 with its pair" 'refused 10 1 2\n' $samples/open2.table $samples/open2.program
+expect "refusal 12: a program that never ends" 'refused 12\n' $samples/endless3.table $samples/endless.program
+
+echo "$passed passed, $failed failed"
+[ "$failed" -eq 0 ]
