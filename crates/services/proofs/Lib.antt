@@ -9,3 +9,4 @@ pub mod ClearService
 pub mod Pairs
 pub mod Comparing
 pub mod ChainService
+pub mod CheckService

@@ -4,3 +4,4 @@ pub mod Reverse
 pub mod Clear
 pub mod Compare
 pub mod Chain
+pub mod Check

@@ -1,0 +1,168 @@
+-- `swaps::follow::follow` meets its contract. The loop's invariant: what is left is to follow the entries from i on, from the word in the area.
+use mathlib.Core.Path.{_≡_, refl, sym, ap, subst, _∙_}
+use mathlib.Core.List.{List}
+use Prim.Native.Nat.{ℕ, _+_, _-_, _≤_, _<_}
+use native.Mathlib.Omega.{arith}
+use borrow.Author.Needs.{needs}
+use lib.ListN.{length, drop, getD}
+use Rattle.model.specs.Word.{Positive}
+use Rattle.model.specs.Presentation.{Presentation}
+use Rattle.model.specs.Equivalence.{Entry}
+use Rattle.model.specs.Outcome.{answered}
+use Rattle.model.specs.Images.{readChain}
+use Rattle.model.specs.Services.{followed}
+use Rattle.checks.specs.Table.{Of}
+use Rattle.swaps.specs.Held.{heldAt, Placed}
+use Rattle.bits.proofs.Width.{width-small}
+use Rattle.images.specs.Chains.{entryOf}
+use Rattle.images.proofs.RoundTrip.{chain-in-range}
+use Rattle.engine.specs.Cells.{InRange}
+use Rattle.swaps.specs.Entry.{AppliedAs}
+use Rattle.swaps.specs.declared.entry.Applied.the-variants.{Word, Breaks, Short}
+use Rattle.swaps.proofs.Applying.{held-length}
+use Rattle.swaps.proofs.Following.{blank, entry-in-range, the-entries, follow-end, follow-breaks, follow-short, follow-on}
+use Rattle.swaps.proofs.follow.follow.Statement.{statement}
+use Rattle.swaps.proofs.follow.follow.Tie as tie
+use Rattle.swaps.proofs.follow.follow.Reads as reads
+use Rattle.swaps.proofs.follow.follow.Lts as lts
+use Rattle.bits.proofs.letter_width.Reads as letter-width-reads
+use Rattle.images.proofs.chains.entry_at.Reads as entry-at-reads
+use Rattle.swaps.proofs.entry.apply.Reads as apply-reads
+
+abbrev Inv-loop : tie.InvT-loop
+Inv-loop cells size chain count bytes₀ width left₀ right₀ i₀ bytes left right i =
+    Placed bytes left right × (length bytes ≡ length bytes₀) × (i ≤ count)
+    × ((T : Presentation) → Of cells size T → (es : List Entry) → readChain size chain ≡ answered es → (v : Positive)
+    → followed T (length bytes₀) 0 (heldAt bytes₀ left₀ right₀) es v ≡ followed T (length bytes₀) i (heldAt bytes left right) (drop i es) v)
+
+abbrev μ-loop : tie.MeasureT-loop
+μ-loop cells size chain count bytes₀ width left₀ right₀ i₀ bytes left right i = count - i
+
+letter-width-requires : tie.Need-letter-width-requires Inv-loop μ-loop
+letter-width-requires c κs =
+    let o = c .before .before .before .pre .sized .1 in
+    (omega (arith, o .sized, o .stands .some), omega (arith, o .sized, o .stands .few))
+
+cast-width : tie.Need-cast-width Inv-loop μ-loop
+cast-width c = search needs
+
+loop-holds : tie.Need-loop-holds Inv-loop μ-loop
+loop-holds c =
+    let s = c .before .before .before .before in
+    (s .pre .placed, refl, omega arith, λ T o es e v. refl)
+
+cast-entry-at : tie.Need-cast-entry-at Inv-loop μ-loop
+cast-entry-at c = omega arith
+
+entry-at-requires : tie.Need-entry-at-requires Inv-loop μ-loop
+entry-at-requires c κs =
+    let s = c .before .before .before .before .before .before in
+    let o = s .pre .sized .1 in
+    let w = c .before .before .letter-width in
+    record { some = omega (arith, o .sized, o .stands .some); few = omega (arith, o .sized, o .stands .few); narrow = subst (λ n. n ≤ 4) (sym (w .ensures)) (width-small (s .args .size)); width-is = w .ensures; entries = s .pre .entries .entries; read = s .pre .entries .read; inside = omega (arith, s .pre .entries .count-is, c .loop-test .taken) }
+
+apply-requires : tie.Need-apply-requires Inv-loop μ-loop
+apply-requires c κs =
+    let s = c .before .before .before .before .before .before .before .before in
+    let l = c .before .before .before .loop in
+    let o = s .pre .sized .1 in
+    let f = s .pre .entries in
+    let z = c .before .entry-at .ensures (f .entries) (f .read) in
+    let q = entry-in-range (s .args .size) (f .entries) (l .i) (omega (arith, f .count-is, c .before .before .loop-test .taken)) (chain-in-range (s .args .size) (omega (arith, o .sized, o .stands .few)) (s .args .chain .now) (f .entries) (f .read) .entries) in
+    record { placed = l .inv .0; sized = s .pre .sized; a-names = subst (λ e. InRange (s .args .size) (e .a)) (sym z) (record { low = q .a-names .positive; high = q .a-names .small }); b-names = subst (λ e. InRange (s .args .size) (e .b)) (sym z) (record { low = q .b-names .positive; high = q .b-names .small }) }
+
+enum-told : tie.Need-enum-told Inv-loop μ-loop
+enum-told c = search needs
+
+same-length : tie.Need-same-length Inv-loop μ-loop
+same-length c = search needs
+
+returns : tie.Need-returns Inv-loop μ-loop
+returns c =
+    let s = c .before .before .before .before .before .before .before .before .before .before .before .before .before in
+    let l = c .before .before .before .before .before .before .before .before .loop in
+    let z = c .before .before .before .before .apply in
+    let f = s .pre .entries in
+    let y = c .before .before .before .before .before .before .entry-at in
+    (z .ensures .0 ∙ l .inv .1, λ T o es e v. l .inv .3 T o es e v ∙ follow-breaks T _ _ es v (l .i) (omega (arith, ap length (the-entries f es e), f .count-is, c .before .before .before .before .before .before .before .loop-test .taken)) (subst (λ x. AppliedAs T (heldAt (l .bytes) (l .left) (l .right)) x (z .last .1 .1 .0) Breaks) (y .ensures es e) (subst (AppliedAs T (heldAt (l .bytes) (l .left) (l .right)) (entryOf (y .result)) (z .last .1 .1 .0)) (c .enum-told .given .1) (z .ensures .1 T o))))
+
+enum-told-2 : tie.Need-enum-told-2 Inv-loop μ-loop
+enum-told-2 c = search needs
+
+same-length-2 : tie.Need-same-length-2 Inv-loop μ-loop
+same-length-2 c = search needs
+
+returns-2 : tie.Need-returns-2 Inv-loop μ-loop
+returns-2 c =
+    let s = c .before .before .before .before .before .before .before .before .before .before .before .before .before in
+    let l = c .before .before .before .before .before .before .before .before .loop in
+    let z = c .before .before .before .before .apply in
+    let f = s .pre .entries in
+    let y = c .before .before .before .before .before .before .entry-at in (
+      z .ensures .0 ∙ l .inv .1,
+      λ T o es e v.
+          let q : AppliedAs T (heldAt (l .bytes) (l .left) (l .right)) (getD es (l .i) blank) (z .last .1 .1 .0) Short = subst (λ x. AppliedAs T (heldAt (l .bytes) (l .left) (l .right)) x (z .last .1 .1 .0) Short) (y .ensures es e) (subst (AppliedAs T (heldAt (l .bytes) (l .left) (l .right)) (entryOf (y .result)) (z .last .1 .1 .0)) (c .enum-told2 .given .1) (z .ensures .1 T o)) in
+          l .inv .3 T o es e v ∙ follow-short T _ _ es v (l .i) (omega (arith, ap length (the-entries f es e), f .count-is, c .before .before .before .before .before .before .before .loop-test .taken)) (q .longer) (q .leads) (omega (arith, q .long, z .ensures .0, l .inv .1)),
+    )
+
+enum-known-applied : tie.Need-enum-known-applied Inv-loop μ-loop
+enum-known-applied c = search needs
+
+add-i : tie.Need-add-i Inv-loop μ-loop
+add-i c = omega (arith, c .before .before .before .before .before .before .before .before .before .before .before .before .before .before .fits .count)
+
+loop-less : tie.Need-loop-less Inv-loop μ-loop
+loop-less c = omega arith
+
+loop-again : tie.Need-loop-again Inv-loop μ-loop
+loop-again c =
+    let s = c .before .before .before .before .before .before .before .before .before .before .before .before .before .before in
+    let l = c .before .before .before .before .before .before .before .before .before .loop in
+    let z = c .before .before .before .before .before .apply in
+    let f = s .pre .entries in
+    let y = c .before .before .before .before .before .before .before .entry-at in
+    let g = c .before .applied .given .0 .0 in
+    let t = s .pre .sized in
+    let w = let q : AppliedAs (t .0) (heldAt (l .bytes) (l .left) (l .right)) (entryOf (y .result)) (z .last .1 .1 .0) (Word g) = subst (AppliedAs (t .0) (heldAt (l .bytes) (l .left) (l .right)) (entryOf (y .result)) (z .last .1 .1 .0)) (c .before .applied .given .1) (z .ensures .1 (t .0) (t .1)) in q .placed in (
+      w,
+      z .ensures .0 ∙ l .inv .1,
+      omega (arith, c .before .before .before .before .before .before .before .before .loop-test .taken),
+      λ T o es e v.
+          let q : AppliedAs T (heldAt (l .bytes) (l .left) (l .right)) (getD es (l .i) blank) (z .last .1 .1 .0) (Word g) = subst (λ x. AppliedAs T (heldAt (l .bytes) (l .left) (l .right)) x (z .last .1 .1 .0) (Word g)) (y .ensures es e) (subst (AppliedAs T (heldAt (l .bytes) (l .left) (l .right)) (entryOf (y .result)) (z .last .1 .1 .0)) (c .before .applied .given .1) (z .ensures .1 T o)) in
+          l .inv .3 T o es e v ∙ follow-on T _ _ es v (l .i) (omega (arith, ap length (the-entries f es e), f .count-is, c .before .before .before .before .before .before .before .before .loop-test .taken)) _ (q .leads) (omega (arith, held-length (z .last .1 .1 .0) (g .left) (g .right) w, w .ordered, w .inside, z .ensures .0, l .inv .1)),
+    )
+
+same-length-3 : tie.Need-same-length-3 Inv-loop μ-loop
+same-length-3 c = search needs
+
+returns-3 : tie.Need-returns-3 Inv-loop μ-loop
+returns-3 c =
+    let s = c .before .before .before .before .before .before in
+    let l = c .before .loop in
+    let f = s .pre .entries in
+    (l .inv .1, λ T o es e. (l .inv .0, λ v. l .inv .3 T o es e v ∙ follow-end T _ _ es v (l .i) (omega (arith, ap length (the-entries f es e), f .count-is, c .loop-test .left))))
+
+pub follow-spec : {M : Type 1} → statement M
+follow-spec =
+    tie.close
+    (tie.spec
+    Inv-loop
+    μ-loop
+    letter-width-requires
+    cast-width
+    loop-holds
+    cast-entry-at
+    entry-at-requires
+    apply-requires
+    enum-told
+    same-length
+    returns
+    enum-told-2
+    same-length-2
+    returns-2
+    enum-known-applied
+    add-i
+    loop-less
+    loop-again
+    same-length-3
+    returns-3)

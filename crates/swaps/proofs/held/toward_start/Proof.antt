@@ -1,0 +1,63 @@
+-- `swaps::held::toward_start` meets its contract.
+use mathlib.Core.Path.{_≡_, refl, sym, ap, _∙_}
+use Prim.Native.Nat.{ℕ, _+_, _-_, _≤_, _<_}
+use native.Mathlib.Omega.{arith}
+use lib.ListN.{length, length-set}
+use Rattle.swaps.specs.Held.{Carried}
+use Rattle.swaps.proofs.Carrying.{carried-start, carried-left, carried-right, carried-at}
+use Rattle.swaps.proofs.held.toward_start.Statement.{statement}
+use Rattle.swaps.proofs.held.toward_start.Tie as tie
+use Rattle.swaps.proofs.held.toward_start.Reads as reads
+use Rattle.swaps.proofs.held.toward_start.Lts as lts
+
+abbrev Inv-loop : tie.InvT-loop
+Inv-loop bytes₀ to left₀ right₀ bytes left right =
+    Carried bytes₀ left₀ right₀ left bytes right × (to ≤ left)
+
+abbrev μ-loop : tie.MeasureT-loop
+μ-loop bytes₀ to left₀ right₀ bytes left right = left
+
+loop-holds : tie.Need-loop-holds Inv-loop μ-loop
+loop-holds c = (carried-start (c .args .bytes .now) (c .args .gap .left) (c .args .gap .right) (c .pre .0), c .pre .1)
+
+sub-left : tie.Need-sub-left Inv-loop μ-loop
+sub-left c = omega arith
+
+sub-right : tie.Need-sub-right Inv-loop μ-loop
+sub-right c = omega arith
+
+slice-read-bytes : tie.Need-slice-read-bytes Inv-loop μ-loop
+slice-read-bytes c = omega arith
+
+slice-write-bytes : tie.Need-slice-write-bytes Inv-loop μ-loop
+slice-write-bytes c = omega arith
+
+loop-less : tie.Need-loop-less Inv-loop μ-loop
+loop-less c = omega arith
+
+loop-again : tie.Need-loop-again Inv-loop μ-loop
+loop-again c =
+    let l = c .before .before .loop in
+    (carried-right _ _ _ (l .bytes) (l .left) (l .right) (l .inv .0) (omega arith), omega arith)
+
+same-length : tie.Need-same-length Inv-loop μ-loop
+same-length c = c .before .loop .inv .0 .same-length
+
+returns : tie.Need-returns Inv-loop μ-loop
+returns c = carried-at (omega arith) (c .before .loop .inv .0)
+
+pub toward-start-spec : {M : Type 1} → statement M
+toward-start-spec =
+    tie.close
+    (tie.spec
+    Inv-loop
+    μ-loop
+    loop-holds
+    sub-left
+    sub-right
+    slice-read-bytes
+    slice-write-bytes
+    loop-less
+    loop-again
+    same-length
+    returns)

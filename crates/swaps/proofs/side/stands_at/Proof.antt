@@ -1,0 +1,105 @@
+-- `swaps::side::stands_at` meets its contract.
+use mathlib.Core.Path.{_≡_, refl, sym, ap, _∙_}
+use mathlib.Core.List.{_∷_}
+use Prim.Native.Nat.{ℕ, _+_, _-_, _≤_, _<_}
+use native.Mathlib.Omega.{arith}
+use lib.ListN.{length, take, drop, getD, length-take, length-drop}
+use Rattle.model.specs.Equivalence.{equal}
+use Rattle.swaps.proofs.Comparing.{lengths-differ, Rest, rest-start, rest-done, rest-more, rest-fails, whole-more, whole-fails}
+use Rattle.swaps.proofs.side.stands_at.Statement.{statement}
+use Rattle.swaps.proofs.side.stands_at.Tie as tie
+use Rattle.swaps.proofs.side.stands_at.Reads as reads
+use Rattle.swaps.proofs.side.stands_at.Lts as lts
+
+abbrev Inv-loop : tie.InvT-loop
+Inv-loop bytes at a cells from count i₀ i =
+    (i ≤ count) × (at + 1 + count ≤ length bytes) × (equal (take (1 + count) (drop at bytes)) (a ∷ take count (drop from cells)) ≡ Rest bytes cells (at + 1) from count i)
+
+abbrev μ-loop : tie.MeasureT-loop
+μ-loop bytes at a cells from count i₀ i = count - i
+
+sub-if1 : tie.Need-sub-if1 Inv-loop μ-loop
+sub-if1 c = omega arith
+
+add-if1 : tie.Need-add-if1 Inv-loop μ-loop
+add-if1 c = omega arith
+
+returns : tie.Need-returns Inv-loop μ-loop
+returns c =
+    let s = c .before in
+    sym (lengths-differ (take (1 + s .args .count) (drop (s .args .at) (s .args .bytes .now))) (s .args .a ∷ take (s .args .count) (drop (s .args .from) (s .args .cells .now))) (simp (length-take, length-drop) (λ e. omega (arith, c .if1 .taken, s .pre .0, s .pre .1))))
+
+shared-slice-read-if2 : tie.Need-shared-slice-read-if2 Inv-loop μ-loop
+shared-slice-read-if2 c = omega arith
+
+returns-2 : tie.Need-returns-2 Inv-loop μ-loop
+returns-2 c =
+    let s = c .before .before .before in
+    sym (whole-fails (s .args .bytes .now) (s .args .at) (s .args .a) (take (s .args .count) (drop (s .args .from) (s .args .cells .now))) (s .args .count) (omega arith) (c .if2 .taken))
+
+loop-holds : tie.Need-loop-holds Inv-loop μ-loop
+loop-holds c =
+    let s = c .before .before .before in
+    (omega arith, omega arith, whole-more (s .args .bytes .now) (s .args .at) (s .args .a) (take (s .args .count) (drop (s .args .from) (s .args .cells .now))) (s .args .count) (omega arith) (c .if2 .left) ∙ sym (rest-start (s .args .bytes .now) (s .args .cells .now) (s .args .at + 1) (s .args .from) (s .args .count)))
+
+add-if3 : tie.Need-add-if3 Inv-loop μ-loop
+add-if3 c = omega arith
+
+add-if3-2 : tie.Need-add-if3-2 Inv-loop μ-loop
+add-if3-2 c = omega arith
+
+shared-slice-read-if3 : tie.Need-shared-slice-read-if3 Inv-loop μ-loop
+shared-slice-read-if3 c = omega arith
+
+add-if3-3 : tie.Need-add-if3-3 Inv-loop μ-loop
+add-if3-3 c = omega arith
+
+shared-slice-read-if3-2 : tie.Need-shared-slice-read-if3-2 Inv-loop μ-loop
+shared-slice-read-if3-2 c = omega arith
+
+returns-3 : tie.Need-returns-3 Inv-loop μ-loop
+returns-3 c =
+    let s = c .before .before .before .before .before .before .before .before in
+    let l = c .before .before .before .before .loop in
+    sym (l .inv .2 ∙ rest-fails (s .args .bytes .now) (s .args .cells .now) (s .args .at + 1) (s .args .from) (s .args .count) (l .inv .1) (s .pre .1) (l .i) (omega arith) (c .if3 .taken))
+
+add-i : tie.Need-add-i Inv-loop μ-loop
+add-i c = omega arith
+
+loop-less : tie.Need-loop-less Inv-loop μ-loop
+loop-less c = omega arith
+
+loop-again : tie.Need-loop-again Inv-loop μ-loop
+loop-again c =
+    let s = c .before .before .before .before .before .before .before .before in
+    let l = c .before .before .before .before .loop in
+    (omega arith, l .inv .1, l .inv .2 ∙ rest-more (s .args .bytes .now) (s .args .cells .now) (s .args .at + 1) (s .args .from) (s .args .count) (l .inv .1) (s .pre .1) (l .i) (omega arith) (c .if3 .left))
+
+returns-4 : tie.Need-returns-4 Inv-loop μ-loop
+returns-4 c =
+    let s = c .before .before .before .before .before in
+    let l = c .before .loop in
+    sym (l .inv .2 ∙ rest-done (s .args .bytes .now) (s .args .cells .now) (s .args .at + 1) (s .args .from) (s .args .count) (l .i) (omega arith))
+
+pub stands-at-spec : {M : Type 1} → statement M
+stands-at-spec =
+    tie.close
+    (tie.spec
+    Inv-loop
+    μ-loop
+    sub-if1
+    add-if1
+    returns
+    shared-slice-read-if2
+    returns-2
+    loop-holds
+    add-if3
+    add-if3-2
+    shared-slice-read-if3
+    add-if3-3
+    shared-slice-read-if3-2
+    returns-3
+    add-i
+    loop-less
+    loop-again
+    returns-4)

@@ -1,0 +1,49 @@
+-- What an entry of a chain makes of the word in the area.
+use mathlib.Core.List.{List, [], _∷_, _++_}
+use mathlib.Core.Option.{Option, none, some}
+use mathlib.Core.Path.{_≡_}
+use Prim.Native.Nat.{ℕ, _≤_, _<_}
+use lib.ListN.{length, take, drop}
+use Rattle.model.specs.Word.{Positive}
+use Rattle.model.specs.Presentation.{Presentation}
+use Rattle.model.specs.Equivalence.{Entry, applied}
+use Rattle.engine.specs.Cells.{InRange}
+use Rattle.checks.specs.Table.{Of, Sized}
+use Rattle.swaps.specs.Held.{heldAt, Placed}
+use Rattle.swaps.specs.declared.entry.Applied.{Applied}
+use Rattle.swaps.specs.declared.entry.Applied.the-variants.{Word, Breaks, Short}
+
+-- the word is in the area
+pub record Holds (word : Positive) (bytes : List ℕ) (left right : ℕ) : Type 0 where
+  pub placed : Placed bytes left right
+  pub word-is : heldAt bytes left right ≡ word
+
+-- the letters before `left`, then b and a word, then those from `end` on
+abbrev pub ReplaceMeans : List ℕ → ℕ → ℕ → ℕ → Positive → List ℕ → Applied → Type 0
+ReplaceMeans before left end b word after (Word g) = Holds (take left before ++ ((b ∷ word) ++ drop end before)) after (g .left) (g .right)
+ReplaceMeans before left end b word after Breaks = ⊥
+ReplaceMeans before left end b word after Short = length before < length (take left before ++ ((b ∷ word) ++ drop end before))
+
+pub record Applies (cells : List ℕ) (size : ℕ) (bytes : List ℕ) (left right : ℕ) (e : Entry) : Type 0 where
+  pub placed : Placed bytes left right
+  pub sized : Sized cells size
+  pub a-names : InRange size (e .a)
+  pub b-names : InRange size (e .b)
+
+-- the word that the entry leads to is longer than the area
+pub record Outgrows (T : Presentation) (word : Positive) (e : Entry) (width : ℕ) : Type 0 where
+  pub longer : Positive
+  pub leads : applied T word e ≡ some longer
+  pub long : width < length longer
+
+pub record Leads-to (T : Presentation) (word : Positive) (e : Entry) (bytes : List ℕ) (left right : ℕ) : Type 0 where
+  pub placed : Placed bytes left right
+  pub leads : applied T word e ≡ some (heldAt bytes left right)
+
+abbrev pub AppliedAs : Presentation → Positive → Entry → List ℕ → Applied → Type 0
+AppliedAs T word e after (Word g) = Leads-to T word e after (g .left) (g .right)
+AppliedAs T word e after Breaks = applied T word e ≡ none
+AppliedAs T word e after Short = Outgrows T word e (length after)
+
+abbrev pub ApplyMeans : List ℕ → ℕ → List ℕ → ℕ → ℕ → Entry → List ℕ → Applied → Type 0
+ApplyMeans cells size before left right e after r = (T : Presentation) → Of cells size T → AppliedAs T (heldAt before left right) e after r
