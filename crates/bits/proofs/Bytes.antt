@@ -1,4 +1,4 @@
--- The bits of bytes: where they stand, and what a store of one byte changes.
+-- The bits of bytes: where they stand, and what a store of one byte changes. Reading and writing a bit rest on these.
 use mathlib.Core.Path.{_≡_, refl, sym, ap, _∙_}
 use mathlib.Core.List.{List, [], _∷_, _++_, append-assoc, append-nil}
 use Prim.Native.Nat.{ℕ, zero, suc, _+_, _-_, _*_, _/_, _%_, _^_, _≤_, _<_}

@@ -1,4 +1,4 @@
--- Binary digits and the numbers that they write, over any width.
+-- Binary digits and the numbers that they write, over any width. Digits and number are each other's inverse.
 use mathlib.Core.Path.{_≡_, refl, sym, ap, _∙_}
 use mathlib.Core.List.{List, [], _∷_, _++_, append-assoc, append-nil}
 use mathlib.Core.Bool.{Bool, true, false}

@@ -1,4 +1,4 @@
--- One bit more of a field, read and written.
+-- One bit more of a field, read and written. The loops of `read_field` and `write_field` take these steps.
 use mathlib.Core.Path.{_≡_, refl, sym, ap, _∙_}
 use mathlib.Core.List.{List, [], _∷_, _++_, append-assoc, append-nil}
 use Prim.Native.Nat.{ℕ, zero, suc, _+_, _-_, _*_, _/_, _%_, _^_, _≤_, _<_}

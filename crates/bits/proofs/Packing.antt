@@ -1,4 +1,5 @@
--- Packing bits into bytes: the bytes' bits are those bits, then fewer than eight zero bits; and bytes are told by their bits.
+-- Packing bits into bytes: the bytes' bits are those bits, then fewer than eight zero bits. Bytes are told by their bits, so an image is told
+-- by what it holds.
 use mathlib.Core.Path.{_≡_, refl, sym, ap, _∙_}
 use mathlib.Core.Logic.{_⊎_, inl, inr, ⊎-elim}
 use mathlib.Core.List.{List, [], _∷_, _++_, append-assoc, append-nil}

@@ -1,4 +1,4 @@
--- The binary digits of a number, counted from its leading zeros.
+-- The binary digits of a number, counted from its leading zeros. A letter's width is at most four.
 use mathlib.Core.Path.{_≡_, refl, sym, ap, _∙_}
 use Prim.Native.Nat.{ℕ, zero, suc, _+_, _-_, _*_, _/_, _%_, _^_, _≤_, _<_}
 use native.Mathlib.Omega.{arith}

@@ -1,4 +1,4 @@
--- Bits appended after bits; and what an area holds when all bits of an image are written.
+-- Bits appended after bits, one field after the other. Then what an area holds when all bits of an image are written.
 use mathlib.Core.Path.{_≡_, refl, sym, ap, subst, _∙_}
 use mathlib.Core.List.{List, [], _∷_, _++_, append-assoc, append-nil, map}
 use mathlib.Core.Bool.{Bool, true, false, cond, _&&_}
@@ -11,18 +11,20 @@ use lib.Dec.{leb, ltb}
 use lib.ListN.{length, take, drop, set, getD, replicate, length-append, length-take, length-drop, length-map, List·getD-map, take-append-drop, length-set, length-replicate}
 use lib.Seq.{take-at, drop-at, drop-drop, length-take-le, take-append-add, drop-append-add, take-suc, take-all, drop-append-le, set-split, drop-set-lt}
 use Rattle.model.specs.Word.{Letter, forward, back, letter}
+use Rattle.model.specs.Presentation.{Presentation, Complement}
 use Rattle.model.specs.Enumeration.{concatMap}
 use Rattle.model.specs.Bits.{bitsOf, digits, bytesFor, pack, letterWidth}
-use Rattle.model.specs.Images.{letterBits, signedBits, programImage}
+use Rattle.model.specs.Images.{letterBits, signedBits, programImage, pairBits, tableImage}
 use Rattle.model.specs.Plain.{namesLetter}
 use Rattle.model.specs.Areas.{begins}
 use Rattle.bits.specs.Fields.{Written}
 use Rattle.bits.proofs.Digits.{AreBits, length-digits, digits-are-bits, bits-append}
 use Rattle.bits.proofs.Bytes.{length-bits, bits-of-append, bits-store}
 use Rattle.bits.proofs.Packing.{AreBytes, pack-bits, packed-bytes, length-packed, bits-injective, and-first, and-second}
+use Rattle.images.specs.Programs.{written}
 use Rattle.images.specs.Written.{Appended, programBits}
 use Rattle.images.proofs.Placed.{length-signed}
-use Rattle.images.proofs.RoundTrip.{concat-bits, signed-are-bits}
+use Rattle.images.proofs.RoundTrip.{concat-bits, signed-are-bits, pair-are-bits}
 
 pub appended-field : (before : List ℕ) (at width v : ℕ) (after : List ℕ) → Written before at width v after → Appended before at (digits width v) after
 appended-field before at width v after w =
@@ -38,30 +40,32 @@ appended-none before at =
       bits = sym (ap (λ n. take at (bitsOf before) ++ drop n (bitsOf before)) {x = at + 0} {y = at} (omega arith) ∙ take-append-drop at (bitsOf before));
     }
 
+pub written-more : (old : List ℕ) (at : ℕ) (xs ys : List ℕ) → at + length xs ≤ length old → written (written old at xs) (at + length xs) ys ≡ written old at (xs ++ ys)
+written-more old at xs ys h =
+    let front : length (take at old) ≡ at = length-take-le at old (omega arith) in
+    let both : length (take at old ++ xs) ≡ at + length xs = length-append (take at old) xs ∙ ap (λ n. n + length xs) front in
+    let m : written old at xs ≡ (take at old ++ xs) ++ drop (at + length xs) old = sym (append-assoc (take at old) xs (drop (at + length xs) old)) in
+    let t : take (at + length xs) (written old at xs) ≡ take at old ++ xs =
+    ap (take (at + length xs)) m ∙ take-at (take at old ++ xs) (drop (at + length xs) old) (at + length xs) both in
+    let d : drop (at + length xs + length ys) (written old at xs) ≡ drop (at + length (xs ++ ys)) old =
+    sym (drop-drop (length ys) (at + length xs) (written old at xs))
+    ∙ (ap (λ l. drop (length ys) (drop (at + length xs) l)) m
+    ∙ (ap (drop (length ys)) (drop-at (take at old ++ xs) (drop (at + length xs) old) (at + length xs) both)
+    ∙ (drop-drop (length ys) (at + length xs) old
+    ∙ ap (λ n. drop n old) {x = at + length xs + length ys} {y = at + length (xs ++ ys)} (omega (arith, length-append xs ys))))) in
+    ap (λ l. l ++ (ys ++ drop (at + length xs + length ys) (written old at xs))) t
+    ∙ (ap (λ l. (take at old ++ xs) ++ (ys ++ l)) d
+    ∙ (append-assoc (take at old) xs (ys ++ drop (at + length (xs ++ ys)) old)
+    ∙ ap (λ l. take at old ++ l) (sym (append-assoc xs ys (drop (at + length (xs ++ ys)) old)))))
+
 pub appended-more : (before : List ℕ) (at : ℕ) (xs mid ys after : List ℕ) → at + length xs ≤ 8 * length before
     → Appended before at xs mid → Appended mid (at + length xs) ys after → Appended before at (xs ++ ys) after
 appended-more before at xs mid ys after h p q =
-    let old = bitsOf before in
-    let front : length (take at (bitsOf before)) ≡ at = length-take-le at (bitsOf before) (omega (arith, length-bits before)) in
-    let both : length (take at (bitsOf before) ++ xs) ≡ at + length xs = length-append (take at (bitsOf before)) xs ∙ ap (λ n. n + length xs) front in
-    let m : bitsOf mid ≡ (take at (bitsOf before) ++ xs) ++ drop (at + length xs) (bitsOf before) =
-    p .bits ∙ sym (append-assoc (take at (bitsOf before)) xs (drop (at + length xs) (bitsOf before))) in
-    let t : take (at + length xs) (bitsOf mid) ≡ take at (bitsOf before) ++ xs =
-    ap (take (at + length xs)) m ∙ take-at (take at (bitsOf before) ++ xs) (drop (at + length xs) (bitsOf before)) (at + length xs) both in
-    let d : drop (at + length xs + length ys) (bitsOf mid) ≡ drop (at + length (xs ++ ys)) (bitsOf before) =
-    sym (drop-drop (length ys) (at + length xs) (bitsOf mid))
-    ∙ (ap (λ l. drop (length ys) (drop (at + length xs) l)) m
-    ∙ (ap (drop (length ys)) (drop-at (take at (bitsOf before) ++ xs) (drop (at + length xs) (bitsOf before)) (at + length xs) both)
-    ∙ (drop-drop (length ys) (at + length xs) (bitsOf before)
-    ∙ ap (λ n. drop n (bitsOf before)) {x = at + length xs + length ys} {y = at + length (xs ++ ys)} (omega (arith, length-append xs ys))))) in
     record {
       same-length = q .same-length ∙ p .same-length;
       bits =
           q .bits
-          ∙ (ap (λ l. l ++ (ys ++ drop (at + length xs + length ys) (bitsOf mid))) t
-          ∙ (ap (λ l. (take at (bitsOf before) ++ xs) ++ (ys ++ l)) d
-          ∙ (append-assoc (take at (bitsOf before)) xs (ys ++ drop (at + length (xs ++ ys)) (bitsOf before))
-          ∙ ap (λ l. take at (bitsOf before) ++ l) (sym (append-assoc xs ys (drop (at + length (xs ++ ys)) (bitsOf before)))))));
+          ∙ (ap (λ bits. written bits (at + length xs) ys) (p .bits) ∙ written-more (bitsOf before) at xs ys (omega (arith, length-bits before)));
     }
 
 -- a sign and a number are a letter's bits
@@ -83,11 +87,11 @@ pub named-small : (size x : ℕ) → namesLetter size x ≡ true → x % 128 ≤
 named-small size x e = leb-true (x % 128) size (and-second (leb 1 (x % 128)) (leb (x % 128) size) e)
 
 -- the letters of a program, one more at a time
-concat-append : {A : Type 0} (f : A → List ℕ) (xs ys : List A) → concatMap f (xs ++ ys) ≡ concatMap f xs ++ concatMap f ys
+pub concat-append : {A : Type 0} (f : A → List ℕ) (xs ys : List A) → concatMap f (xs ++ ys) ≡ concatMap f xs ++ concatMap f ys
 concat-append f [] ys = refl
 concat-append f (x ∷ xs) ys = ap (λ l. f x ++ l) (concat-append f xs ys) ∙ sym (append-assoc (f x) (concatMap f xs) (concatMap f ys))
 
-length-concat : {A : Type 0} (f : A → List ℕ) (size : ℕ) → ((x : A) → length (f x) ≡ size) → (xs : List A) → length (concatMap f xs) ≡ length xs * size
+pub length-concat : {A : Type 0} (f : A → List ℕ) (size : ℕ) → ((x : A) → length (f x) ≡ size) → (xs : List A) → length (concatMap f xs) ≡ length xs * size
 length-concat f size h [] = sym (native.Mathlib.Nat.zero-mul size)
 length-concat f size h (x ∷ xs) = length-append (f x) (concatMap f xs) ∙ omega (arith, h x, length-concat f size h xs, suc-mul (length xs) size)
 
@@ -183,3 +187,50 @@ image-written before after bits ob nb r some fits w =
     bytes-drop zero xs h i = h i
     bytes-drop (suc n) [] h i = h i
     bytes-drop (suc n) (x ∷ xs) h i = bytes-drop n xs (λ i. h (suc i)) i
+
+-- AN AREA OF ZERO BYTES
+
+zero-area : (n : ℕ) → bitsOf (replicate n 0) ≡ replicate (8 * n) 0
+zero-area zero = refl
+zero-area (suc n) =
+    ap (λ l. replicate 8 0 ++ l) (zero-area n) ∙ ap (λ m. replicate {A = ℕ} m 0) {x = suc (suc (suc (suc (suc (suc (suc (suc (8 * n))))))))} {y = 8 * suc n} (omega arith)
+
+take-zeros : (m n : ℕ) → m ≤ n → take {A = ℕ} m (replicate n 0) ≡ replicate m 0
+take-zeros zero n h = refl
+take-zeros (suc m) zero h = absurd (omega arith)
+take-zeros (suc m) (suc n) h = ap (λ l. 0 ∷ l) (take-zeros m n (omega arith))
+
+bits-of-take : (k : ℕ) (xs : List ℕ) → k ≤ length xs → bitsOf (take k xs) ≡ take (8 * k) (bitsOf xs)
+bits-of-take k xs h =
+    sym (ap (λ l. take (8 * k) (bitsOf l)) (sym (take-append-drop k xs))
+    ∙ (ap (take (8 * k)) (bits-of-append (take k xs) (drop k xs))
+    ∙ take-at (bitsOf (take k xs)) (bitsOf (drop k xs)) (8 * k) (length-bits (take k xs) ∙ ap (λ n. 8 * n) (length-take-le k xs h))))
+
+-- bytes that stand first among bytes are bytes
+pub bytes-first : (xs ys : List ℕ) → AreBytes (xs ++ ys) → AreBytes xs
+bytes-first [] ys h i = omega arith
+bytes-first (x ∷ xs) ys h zero = h 0
+bytes-first (x ∷ xs) ys h (suc i) = bytes-first xs ys (λ i. h (suc i)) i
+
+-- it begins with the image whose bits were written
+pub zero-image : (n : ℕ) (after bits : List ℕ) → AreBits bits → bytesFor (length bits) ≤ n → AreBytes (take (bytesFor (length bits)) after) → Appended (replicate n 0) 0 bits after
+    → take (bytesFor (length bits)) after ≡ pack bits
+zero-image n after bits r fits bs w =
+    let l : length after ≡ n = w .same-length ∙ length-replicate {A = ℕ} n 0 in
+    let m : 8 * bytesFor (length bits) - length bits ≤ 8 * n - (0 + length bits) = omega arith in
+    bits-injective (take (bytesFor (length bits)) after) (pack bits) bs (packed-bytes (bytesFor (length bits)) bits r)
+    (bits-of-take (bytesFor (length bits)) after (omega arith)
+    ∙ (ap (take (8 * bytesFor (length bits))) (w .bits ∙ ap (λ l. bits ++ l) (ap (drop (0 + length bits)) (zero-area n) ∙ drop-zeros (0 + length bits) (8 * n)))
+    ∙ (ap (λ k. take k (bits ++ replicate (8 * n - (0 + length bits)) 0)) {x = 8 * bytesFor (length bits)} {y = length bits + (8 * bytesFor (length bits) - length bits)} (omega arith)
+    ∙ (take-append-add bits (replicate (8 * n - (0 + length bits)) 0) (8 * bytesFor (length bits) - length bits)
+    ∙ (ap (λ l. bits ++ l) (take-zeros (8 * bytesFor (length bits) - length bits) (8 * n - (0 + length bits)) m)
+    ∙ sym (pack-bits bits r))))))
+
+-- the bits of a table
+pub table-bits : (size : ℕ) (rows : List (List Complement)) → AreBits (digits 4 (size - 1) ++ concatMap (concatMap (pairBits size)) rows)
+table-bits size rows =
+    bits-append (digits 4 (size - 1)) (concatMap (concatMap (pairBits size)) rows) (digits-are-bits 4 (size - 1)) (concat-bits (concatMap (pairBits size)) (concat-bits (pairBits size) (pair-are-bits size)) rows)
+
+pub table-image : (T : Presentation) (size : ℕ) → T .size ≡ size → tableImage T ≡ pack (digits 4 (size - 1) ++ concatMap (concatMap (pairBits size)) (T .rows))
+unfolding tableImage
+table-image T size e = ap (λ n. pack (digits 4 (n - 1) ++ concatMap (concatMap (pairBits n)) (T .rows))) e

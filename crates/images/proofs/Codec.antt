@@ -1,4 +1,5 @@
--- A reader and a writer of the same thing: what is written is read back, and what was read is what stood there.
+-- A reader and a writer of the same thing: what is written is read back, and what was read is what stood there. A reader that is taken several
+-- times, or in rows, is one again.
 use mathlib.Core.Path.{_≡_, refl, sym, ap, subst, _∙_}
 use mathlib.Core.List.{List, [], _∷_, _++_, append-assoc, append-nil}
 use mathlib.Core.Bool.{Bool, true, false, cond}

@@ -1,4 +1,4 @@
--- A chain's next entry, and the entries of an accepted chain one by one.
+-- A chain's next entry, and the entries of an accepted chain one by one. Each stands where its number says.
 use mathlib.Core.Path.{_≡_, refl, sym, ap, subst, _∙_}
 use mathlib.Core.List.{List, [], _∷_, _++_}
 use Prim.Native.Nat.{ℕ, zero, suc, _+_, _-_, _*_, _^_, _≤_, _<_}

@@ -1,4 +1,4 @@
--- A program without back letters is read as its numbers.
+-- A program without back letters is read as its numbers. One with a back letter is refused with 7.
 use mathlib.Core.Path.{_≡_, refl, sym, ap, subst, _∙_}
 use mathlib.Core.List.{List, [], _∷_, _++_, map}
 use mathlib.Core.Bool.{Bool, true, false, not}

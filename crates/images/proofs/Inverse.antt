@@ -1,4 +1,4 @@
--- The codecs of the fields of images: letters, signed letters, words, pairs and entries.
+-- The codecs of the fields of images: letters, signed letters, words, pairs and entries. The round trips are made of these.
 use mathlib.Core.Path.{_≡_, refl, sym, ap, subst, _∙_}
 use mathlib.Core.List.{List, [], _∷_, _++_, append-assoc, append-nil}
 use mathlib.Core.Bool.{Bool, true, false, cond}

@@ -1,4 +1,4 @@
--- The letters of an accepted program, one by one.
+-- The letters of an accepted program, one by one. What the forward test and the unpacking of a program make of them.
 use mathlib.Core.Path.{_≡_, refl, sym, ap, subst, _∙_}
 use mathlib.Core.List.{List, [], _∷_, _++_, append-assoc, map}
 use mathlib.Core.Bool.{Bool, true, false}

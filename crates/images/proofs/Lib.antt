@@ -15,3 +15,6 @@ pub mod Entries
 pub mod Forward
 pub mod Appending
 pub mod Naming
+pub mod PlainTrip
+pub mod Plainly
+pub mod Packwise

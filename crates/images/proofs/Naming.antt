@@ -1,4 +1,4 @@
--- A plain program is accepted where every byte names a letter, and refused at the first that does not.
+-- A plain program is accepted where every byte names a letter, and refused at the first that does not. The count is tested before the letters.
 use mathlib.Core.Path.{_≡_, refl, sym, ap, subst, _∙_}
 use mathlib.Core.List.{List, [], _∷_, map}
 use mathlib.Core.Bool.{Bool, true, false, not}

@@ -1,4 +1,5 @@
--- Where the letters of a program and the entries of a chain stand in an image that was accepted.
+-- Where the letters of a program and the entries of a chain stand in an image that was accepted. Each has the same width, so its number gives
+-- its place.
 use mathlib.Core.Path.{_≡_, refl, sym, ap, subst, _∙_}
 use mathlib.Core.List.{List, [], _∷_, _++_, append-assoc}
 use mathlib.Core.Bool.{Bool, true, false, cond}

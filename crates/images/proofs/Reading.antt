@@ -1,4 +1,4 @@
--- The next field, the next letter and the end of an image, from what was read of its bits.
+-- The next field, the next letter and the end of an image, from what was read of its bits. Each gives the model's answer or refusal.
 use mathlib.Core.Path.{_≡_, refl, sym, ap, _∙_}
 use mathlib.Core.List.{List, [], _∷_, _++_}
 use mathlib.Core.Bool.{Bool, true, false, _&&_, cond}

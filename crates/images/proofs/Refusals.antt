@@ -1,4 +1,4 @@
--- A refusal stands, whatever would follow.
+-- A refusal stands, whatever would follow. So the first refusal met is the outcome's.
 use mathlib.Core.Path.{_≡_, refl, ap, _∙_}
 use Rattle.model.specs.declared.answers.Refusal.{Refusal}
 use Rattle.model.specs.declared.answers.Refusal.the-variants.{TableEnds, TableField, TableTail, ImageEnds, ImageField, ImageTail, BackMove, UnequalLengths, CubeFails, OpenPair, AllowanceUsed, WorkspaceShort, AnswerShort, UnequalEnds}

@@ -1,25 +1,28 @@
--- Reading the rows of a table into its cells: the pairs and rows read so far, what is left to read, and what the cells hold.
+-- Reading the rows of a table into its cells: the pairs and rows read so far, what is left to read, and what the cells hold. The laws are for
+-- any reader of a pair; then come those of a table image and of a plain form.
 use mathlib.Core.Path.{_≡_, refl, sym, ap, subst, _∙_}
 use mathlib.Core.Logic.{_⊎_, inl, inr, ⊎-elim}
-use mathlib.Core.Bool.{Bool, true, false, _&&_, cond}
+use mathlib.Core.Bool.{Bool, true, false, _&&_, _||_, cond}
 use mathlib.Core.List.{List, [], _∷_, _++_}
 use Prim.Native.Nat.{ℕ, zero, suc, _+_, _-_, _*_, _^_, _≤_, _<_}
 use native.Mathlib.Omega.{arith}
 use borrow.Author.Tests.{ne-eqb, lt-ltb, le-ltb, le-leb}
 use lib.Dec.{eqb, ltb, leb}
-use lib.ListN.{length, getD, length-append, List·getD-append}
+use lib.ListN.{length, getD, length-append, length-drop, List·getD-append}
 use lib.Seq.{getD-at}
 use Rattle.model.specs.Presentation.{Presentation, Complement, undefined, complement, swapped, listed, complete}
-use Rattle.model.specs.Outcome.{Outcome, answered, refused, _>>=_}
+use Rattle.model.specs.Outcome.{Outcome, answered, refused, _>>=_, unless}
 use Rattle.model.specs.Bits.{Read, field, finish, filling}
 use Rattle.model.specs.Images.{pairField, several, rowsOf, readTable}
+use Rattle.model.specs.Plain.{plainPairAt, readPlainTable}
 use Rattle.bits.proofs.Packing.{below-or}
 use Rattle.images.specs.Fields.{FieldAt, from}
 use Rattle.images.specs.Cells.{Letters, cellAt, Holds, Stands}
-use Rattle.images.specs.Tables.{After, SameCell, HoldsPair, HoldsRow, PairAt, RowAt, TableOf, TableDone, SizeDone}
+use Rattle.images.specs.Tables.{SameCell, HoldsPair, HoldsRow, PairFrom, RowFrom, RowAt, Listed, TableOf, TableDone, SizeDone, bytesFrom, PlainTableOf}
 use Rattle.images.specs.declared.tables.TableRead.{TableRead}
 use Rattle.images.specs.declared.tables.TableRead.the-variants.{Table, Refused}
 use Rattle.images.proofs.Several.{after, after-none, several-step, several-refused, several-done, several-length, rows-step, rows-refused, rows-done}
+use Rattle.images.proofs.Words.{byte-ends, byte-at}
 use Rattle.images.proofs.Pairs.{holds-kept, same-cell-after, swap-letters}
 
 -- what holds of each index before the last and of the last holds of each
@@ -37,20 +40,20 @@ pub holds-pair-kept : (size : ℕ) (before after : List ℕ) (a b : ℕ) (c : Co
 holds-pair-kept size before after a b c there back h =
     record { there = holds-kept size before after a b c there (h .there); back = holds-kept size before after b a (swapped c) back (h .back) }
 
-pub record RowFilled (image : List ℕ) (at size : ℕ) (before : List ℕ) (a : ℕ) (cells : List ℕ) (next b : ℕ) : Type 0 where
+pub record RowFilled (reader : List ℕ → Outcome (Read Complement)) (source : ℕ → List ℕ) (limit at size : ℕ) (before : List ℕ) (a : ℕ) (cells : List ℕ) (next b : ℕ) : Type 0 where
   pub above : a < b
   pub some-left : b ≤ size + 1
-  pub inside : next ≤ 8 * length image
+  pub inside : next ≤ limit
   pub near : next + 129 * (a + 1) ≤ at + 129 * b
   pub same-length : length cells ≡ length before
   pub done : List Complement
   pub done-length : a + 1 + length done ≡ b
-  pub resumed : several (pairField size) (size - a) (from image at) ≡ after done (several (pairField size) (size + 1 - b) (from image next))
+  pub resumed : several reader (size - a) (source at) ≡ after done (several reader (size + 1 - b) (source next))
   pub holds : HoldsRow size cells a done
   pub kept : (p q : ℕ) → Letters p q → (p < a) ⊎ (q < a) → SameCell before cells p q
 
-module _ (image : List ℕ) (at size : ℕ) (before : List ℕ) (a : ℕ) (inside : at ≤ 8 * length image) (positive : 1 ≤ a) (small : a ≤ size) (few : size ≤ 16) where
-  pub row-none : RowFilled image at size before a before at (a + 1)
+module _ (reader : List ℕ → Outcome (Read Complement)) (source : ℕ → List ℕ) (limit at size : ℕ) (before : List ℕ) (a : ℕ) (inside : at ≤ limit) (positive : 1 ≤ a) (small : a ≤ size) (few : size ≤ 16) where
+  pub row-none : RowFilled reader source limit at size before a before at (a + 1)
   row-none =
       record {
         above = omega arith;
@@ -60,19 +63,19 @@ module _ (image : List ℕ) (at size : ℕ) (before : List ℕ) (a : ℕ) (insid
         same-length = refl;
         done = [];
         done-length = omega arith;
-        resumed = sym (after-none (several (pairField size) (size + 1 - (a + 1)) (from image at)) ∙ ap (λ k. several (pairField size) k (from image at)) {x = size + 1 - (a + 1)} {y = size - a} (omega arith));
+        resumed = sym (after-none (several reader (size + 1 - (a + 1)) (source at)) ∙ ap (λ k. several reader k (source at)) {x = size + 1 - (a + 1)} {y = size - a} (omega arith));
         holds = λ j h. absurd (omega arith);
         kept = λ p q l o k h. refl;
       }
 
-  module _ (cells : List ℕ) (next b : ℕ) (f : RowFilled image at size before a cells next b) where
+  module _ (cells : List ℕ) (next b : ℕ) (f : RowFilled reader source limit at size before a cells next b) where
     left : b ≤ size → size + 1 - b ≡ suc (size + 1 - (b + 1))
     left h = omega arith
 
     pub pair-letters : b ≤ size → Letters a b
     pair-letters h = record { a-positive = positive; a-small = omega arith; b-positive = omega (arith, f .above); b-small = omega arith }
 
-    pub row-more : b ≤ size → (cells' : List ℕ) (next' : ℕ) → length cells' ≡ length cells → PairAt image next size cells a b cells' next' → RowFilled image at size before a cells' next' (b + 1)
+    pub row-more : b ≤ size → (cells' : List ℕ) (next' : ℕ) → length cells' ≡ length cells → PairFrom reader source limit next size cells a b cells' next' → RowFilled reader source limit at size before a cells' next' (b + 1)
     row-more h cells' next' same p =
         let n : a + 1 + length (f .done) ≡ b = f .done-length in
         record {
@@ -85,8 +88,8 @@ module _ (image : List ℕ) (at size : ℕ) (before : List ℕ) (a : ℕ) (insid
           done-length = omega (arith, length-append (f .done) (p .pair ∷ []));
           resumed =
               f .resumed
-              ∙ (ap (λ k. after (f .done) (several (pairField size) k (from image next))) (left h)
-              ∙ several-step (pairField size) (f .done) (size + 1 - (b + 1)) (from image next) (record { value = p .pair; rest = from image next' }) (p .read));
+              ∙ (ap (λ k. after (f .done) (several reader k (source next))) (left h)
+              ∙ several-step reader (f .done) (size + 1 - (b + 1)) (source next) (record { value = p .pair; rest = source next' }) (p .read));
           holds =
               one-more (λ j c. HoldsPair size cells' a (a + 1 + j) c) (f .done) (p .pair) undefined
               (λ j l.
@@ -103,20 +106,20 @@ module _ (image : List ℕ) (at size : ℕ) (before : List ℕ) (a : ℕ) (insid
               (λ e. ⊎-elim (λ (x : u < a). let y = e .0 in omega (arith, f .above)) (λ (x : v < a). let y = e .1 in omega arith) o));
         }
 
-    pub pair-refused : (n : ℕ) → b ≤ size → pairField size (from image next) ≡ refused n [] → several (pairField size) (size - a) (from image at) ≡ refused n []
+    pub pair-refused : (n : ℕ) → b ≤ size → reader (source next) ≡ refused n [] → several reader (size - a) (source at) ≡ refused n []
     pair-refused n h e =
         f .resumed
-        ∙ (ap (λ k. after (f .done) (several (pairField size) k (from image next))) (left h)
-        ∙ several-refused (pairField size) (f .done) (size + 1 - (b + 1)) (from image next) n [] e)
+        ∙ (ap (λ k. after (f .done) (several reader k (source next))) (left h)
+        ∙ several-refused reader (f .done) (size + 1 - (b + 1)) (source next) n [] e)
 
-    pub row-answered : size < b → RowAt image at size before a cells next
+    pub row-answered : size < b → RowFrom reader source limit at size before a cells next
     row-answered h =
         record {
           row = f .done;
           read =
               f .resumed
-              ∙ (ap (λ k. after (f .done) (several (pairField size) k (from image next))) {x = size + 1 - b} {y = 0} (omega arith)
-              ∙ several-done (pairField size) (f .done) (from image next));
+              ∙ (ap (λ k. after (f .done) (several reader k (source next))) {x = size + 1 - b} {y = 0} (omega arith)
+              ∙ several-done reader (f .done) (source next));
           position = record { inside = f .inside; near = omega (arith, f .near, f .some-left) };
           holds = f .holds;
           kept = f .kept;
@@ -124,29 +127,17 @@ module _ (image : List ℕ) (at size : ℕ) (before : List ℕ) (a : ℕ) (insid
 
 -- ROWS
 
-pub record RowsFilled (image : List ℕ) (size : ℕ) (cells : List ℕ) (at a : ℕ) : Type 0 where
+pub record RowsFilled (reader : List ℕ → Outcome (Read Complement)) (source : ℕ → List ℕ) (limit begin size : ℕ) (cells : List ℕ) (at a : ℕ) : Type 0 where
   pub positive : 1 ≤ a
   pub some-left : a ≤ size + 1
-  pub inside : at ≤ 8 * length image
-  pub near : at + 2064 ≤ 4 + 2064 * a
+  pub inside : at ≤ limit
+  pub near : at + 2064 ≤ begin + 2064 * a
   pub full : length cells ≡ 4096
   pub done : List (List Complement)
   pub done-length : 1 + length done ≡ a
-  pub resumed : rowsOf (pairField size) size (from image 4) ≡ after done (rowsOf (pairField size) (size + 1 - a) (from image at))
+  pub resumed : rowsOf reader size (source begin) ≡ after done (rowsOf reader (size + 1 - a) (source at))
   pub widths : (i : ℕ) → i < length done → length (getD done i []) ≡ size - (1 + i)
   pub holds : (i : ℕ) → i < length done → HoldsRow size cells (1 + i) (getD done i [])
-
-unfoldable afterHead : Read ℕ → Outcome Presentation
-afterHead head =
-    rowsOf (pairField (head .value + 1)) (head .value + 1) (head .rest) >>= λ rs.
-    finish 3 (record { value = record { size = head .value + 1; rows = rs .value }; rest = rs .rest })
-
-unfoldable afterRows : ℕ → Outcome (Read (List (List Complement))) → Outcome Presentation
-afterRows size o = o >>= λ rs. finish 3 (record { value = record { size = size; rows = rs .value }; rest = rs .rest })
-
-pub head-ends : (image : List ℕ) → ((early : ℕ) → field early 4 (from image 0) ≡ refused early []) → readTable image ≡ refused 1 []
-unfolding readTable afterHead
-head-ends image e = ap (λ o. o >>= afterHead) (e 1)
 
 -- the pair a, b, whichever way round, from its row
 module _ (cells : List ℕ) (size : ℕ) (rows : List (List Complement)) (few : size ≤ 16)
@@ -183,38 +174,30 @@ module _ (cells : List ℕ) (size : ℕ) (rows : List (List Complement)) (few : 
       differ : b ≤ a → b < a
       differ h = ⊎-elim (λ (x : b < a). x) (λ (x : a ≤ b). let e : a ≡ b = omega arith in absurd (d e)) (below-or b a)
 
-module _ (image : List ℕ) (m size : ℕ) (head : FieldAt image 0 4 m) (size-is : m + 1 ≡ size) where
-  table-is : readTable image ≡ afterRows size (rowsOf (pairField size) size (from image 4))
-  unfolding readTable afterHead afterRows
-  table-is = ap (λ o. o >>= afterHead) (head .read 1) ∙ ap (λ k. afterRows k (rowsOf (pairField k) k (from image 4))) size-is
-
-  pub size-few : size ≤ 16
-  size-few = omega (arith, head .small)
-
-  pub rows-none : (cells : List ℕ) → length cells ≡ 4096 → RowsFilled image size cells 4 1
-  rows-none cells full =
+module _ (reader : List ℕ → Outcome (Read Complement)) (source : ℕ → List ℕ) (limit begin size : ℕ) (some : 1 ≤ size) (few : size ≤ 16) where
+  pub rows-none : (cells : List ℕ) → begin ≤ limit → length cells ≡ 4096 → RowsFilled reader source limit begin size cells begin 1
+  rows-none cells inside full =
       record {
         positive = omega arith;
         some-left = omega arith;
-        inside = head .inside;
+        inside = inside;
         near = omega arith;
         full = full;
         done = [];
         done-length = refl;
-        resumed = sym (after-none (rowsOf (pairField size) (size + 1 - 1) (from image 4)) ∙ ap (λ k. rowsOf (pairField size) k (from image 4)) {x = size + 1 - 1} {y = size} (omega arith));
+        resumed = sym (after-none (rowsOf reader (size + 1 - 1) (source begin)) ∙ ap (λ k. rowsOf reader k (source begin)) {x = size + 1 - 1} {y = size} (omega arith));
         widths = λ i h. absurd (omega arith);
         holds = λ i h. absurd (omega arith);
       }
 
-  module _ (cells : List ℕ) (at a : ℕ) (f : RowsFilled image size cells at a) where
+  module _ (cells : List ℕ) (at a : ℕ) (f : RowsFilled reader source limit begin size cells at a) where
     rows-left : a ≤ size → size + 1 - a ≡ suc (size - a)
     rows-left h = omega arith
 
-    pub rows-more : a ≤ size → (cells' : List ℕ) (next : ℕ) → length cells' ≡ length cells → RowAt image at size cells a cells' next → RowsFilled image size cells' next (a + 1)
+    pub rows-more : a ≤ size → (cells' : List ℕ) (next : ℕ) → length cells' ≡ length cells → RowFrom reader source limit at size cells a cells' next → RowsFilled reader source limit begin size cells' next (a + 1)
     rows-more h cells' next same r =
         let n : 1 + length (f .done) ≡ a = f .done-length in
-        let few : size ≤ 16 = size-few in
-        let wide : length (r .row) ≡ size - a = several-length (pairField size) (size - a) (from image at) (record { value = r .row; rest = from image next }) (r .read) in
+        let wide : length (r .row) ≡ size - a = several-length reader (size - a) (source at) (record { value = r .row; rest = source next }) (r .read) in
         record {
           positive = omega arith;
           some-left = omega arith;
@@ -225,9 +208,9 @@ module _ (image : List ℕ) (m size : ℕ) (head : FieldAt image 0 4 m) (size-is
           done-length = omega (arith, length-append (f .done) (r .row ∷ []));
           resumed =
               f .resumed
-              ∙ (ap (λ k. after (f .done) (rowsOf (pairField size) k (from image at))) (rows-left h)
-              ∙ (rows-step (pairField size) (f .done) (size - a) (from image at) (record { value = r .row; rest = from image next }) (r .read)
-              ∙ ap (λ k. after (f .done ++ (r .row ∷ [])) (rowsOf (pairField size) k (from image next))) {x = size - a} {y = size + 1 - (a + 1)} (omega arith)));
+              ∙ (ap (λ k. after (f .done) (rowsOf reader k (source at))) (rows-left h)
+              ∙ (rows-step reader (f .done) (size - a) (source at) (record { value = r .row; rest = source next }) (r .read)
+              ∙ ap (λ k. after (f .done ++ (r .row ∷ [])) (rowsOf reader k (source next))) {x = size - a} {y = size + 1 - (a + 1)} (omega arith)));
           widths = one-more (λ i row. length row ≡ size - (1 + i)) (f .done) (r .row) [] (f .widths) (wide ∙ omega arith);
           holds =
               one-more (λ i row. HoldsRow size cells' (1 + i) row) (f .done) (r .row) []
@@ -241,23 +224,69 @@ module _ (image : List ℕ) (m size : ℕ) (head : FieldAt image 0 4 m) (size-is
               (subst (λ a. HoldsRow size cells' a (r .row)) (sym n) (r .holds));
         }
 
+    pub rows-row-refused : (n : ℕ) → a ≤ size → several reader (size - a) (source at) ≡ refused n [] → rowsOf reader size (source begin) ≡ refused n []
+    rows-row-refused n h e =
+        f .resumed
+        ∙ (ap (λ k. after (f .done) (rowsOf reader k (source at))) (rows-left h)
+        ∙ rows-refused reader (f .done) (size - a) (source at) n [] e)
+
+    pub rows-ended : size < a → rowsOf reader size (source begin) ≡ answered (record { value = f .done; rest = source at })
+    rows-ended h =
+        f .resumed
+        ∙ (ap (λ k. after (f .done) (rowsOf reader k (source at))) {x = size + 1 - a} {y = 0} (omega arith)
+        ∙ rows-done reader (f .done) (source at))
+
+    pub rows-listed : size < a → Listed size cells (f .done)
+    rows-listed h = record { many = omega (arith, f .done-length, f .some-left); widths = f .widths; holds = f .holds }
+
+    pub rows-stand : size < a → Stands cells (record { size = size; rows = f .done })
+    rows-stand h =
+        record {
+          full = f .full;
+          some = some;
+          few = few;
+          holds = complete-holds cells size (f .done) few (f .holds) (omega (arith, f .done-length, f .some-left)) (f .widths);
+        }
+
+-- FROM A TABLE IMAGE
+
+unfoldable afterHead : Read ℕ → Outcome Presentation
+afterHead head =
+    rowsOf (pairField (head .value + 1)) (head .value + 1) (head .rest) >>= λ rs.
+    finish 3 (record { value = record { size = head .value + 1; rows = rs .value }; rest = rs .rest })
+
+unfoldable afterRows : ℕ → Outcome (Read (List (List Complement))) → Outcome Presentation
+afterRows size o = o >>= λ rs. finish 3 (record { value = record { size = size; rows = rs .value }; rest = rs .rest })
+
+pub head-ends : (image : List ℕ) → ((early : ℕ) → field early 4 (from image 0) ≡ refused early []) → readTable image ≡ refused 1 []
+unfolding readTable afterHead
+head-ends image e = ap (λ o. o >>= afterHead) (e 1)
+
+module _ (image : List ℕ) (m size : ℕ) (head : FieldAt image 0 4 m) (size-is : m + 1 ≡ size) where
+  table-is : readTable image ≡ afterRows size (rowsOf (pairField size) size (from image 4))
+  unfolding readTable afterHead afterRows
+  table-is = ap (λ o. o >>= afterHead) (head .read 1) ∙ ap (λ k. afterRows k (rowsOf (pairField k) k (from image 4))) size-is
+
+  size-some : 1 ≤ size
+  size-some = omega arith
+
+  size-few : size ≤ 16
+  size-few = omega (arith, head .small)
+
+  pub image-rows-none : (cells : List ℕ) → length cells ≡ 4096 → RowsFilled (pairField size) (from image) (8 * length image) 4 size cells 4 1
+  image-rows-none cells full = rows-none (pairField size) (from image) (8 * length image) 4 size size-some size-few cells (head .inside) full
+
+  module _ (cells : List ℕ) (at a : ℕ) (f : RowsFilled (pairField size) (from image) (8 * length image) 4 size cells at a) where
+    pub image-rows-more : a ≤ size → (cells' : List ℕ) (next : ℕ) → length cells' ≡ length cells → RowAt image at size cells a cells' next → RowsFilled (pairField size) (from image) (8 * length image) 4 size cells' next (a + 1)
+    image-rows-more h cells' next same r = rows-more (pairField size) (from image) (8 * length image) 4 size size-some size-few cells at a f h cells' next same r
+
     pub row-refused : (n : ℕ) → a ≤ size → several (pairField size) (size - a) (from image at) ≡ refused n [] → readTable image ≡ refused n []
     unfolding afterRows
-    row-refused n h e =
-        table-is
-        ∙ ap (afterRows size)
-        (f .resumed
-        ∙ (ap (λ k. after (f .done) (rowsOf (pairField size) k (from image at))) (rows-left h)
-        ∙ rows-refused (pairField size) (f .done) (size - a) (from image at) n [] e))
+    row-refused n h e = table-is ∙ ap (afterRows size) (rows-row-refused (pairField size) (from image) (8 * length image) 4 size size-some size-few cells at a f n h e)
 
     ended : size < a → readTable image ≡ finish 3 (record { value = record { size = size; rows = f .done }; rest = from image at })
     unfolding afterRows
-    ended h =
-        table-is
-        ∙ ap (afterRows size)
-        (f .resumed
-        ∙ (ap (λ k. after (f .done) (rowsOf (pairField size) k (from image at))) {x = size + 1 - a} {y = 0} (omega arith)
-        ∙ rows-done (pairField size) (f .done) (from image at)))
+    ended h = table-is ∙ ap (afterRows size) (rows-ended (pairField size) (from image) (8 * length image) 4 size size-some size-few cells at a f h)
 
     pub table-answered : size < a → filling (from image at) ≡ true → TableOf image cells size
     unfolding finish
@@ -266,13 +295,8 @@ module _ (image : List ℕ) (m size : ℕ) (head : FieldAt image 0 4 m) (size-is
           table = record { size = size; rows = f .done };
           read = ended h ∙ ap (λ t. cond t (answered (record { size = size; rows = f .done })) (refused 3 [])) t;
           size-is = refl;
-          stands =
-              record {
-                full = f .full;
-                some = omega arith;
-                few = size-few;
-                holds = complete-holds cells size (f .done) size-few (f .holds) (omega (arith, f .done-length, f .some-left)) (f .widths);
-              };
+          listed = rows-listed (pairField size) (from image) (8 * length image) 4 size size-some size-few cells at a f h;
+          stands = rows-stand (pairField size) (from image) (8 * length image) 4 size size-some size-few cells at a f h;
         }
 
     pub table-tail : size < a → filling (from image at) ≡ false → readTable image ≡ refused 3 []
@@ -290,3 +314,67 @@ size-done image cells (Table size) t =
       few = subst (λ n. n ≤ 16) (t .size-is) (t .stands .few);
     }
 size-done image cells (Refused r) e = e
+
+-- FROM A PLAIN FORM
+
+unfoldable plainRows : ℕ → Outcome (Read (List (List Complement))) → Outcome Presentation
+plainRows size o = o >>= λ rs. unless (ltb 0 (length (rs .rest))) 3 (record { size = size; rows = rs .value })
+
+unfoldable plainSized : Read ℕ → Outcome Presentation
+unfolding plainRows
+plainSized n = plainRows (n .value) (rowsOf (plainPairAt (n .value)) (n .value) (n .rest))
+
+unfoldable plainSize : Read ℕ → Outcome Presentation
+unfolding plainSized plainRows
+plainSize n = unless (ltb (n .value) 1 || ltb 16 (n .value)) 2 n >>= plainSized
+
+pub plain-ends : (plain : List ℕ) → length plain ≤ 0 → readPlainTable plain ≡ refused 1 []
+unfolding readPlainTable plainSize plainSized plainRows
+plain-ends plain h = ap (λ o. o >>= plainSize) (byte-ends plain 0 h)
+
+module _ (plain : List ℕ) (inside : 0 < length plain) where
+  plain-size-is : readPlainTable plain ≡ plainSize (record { value = getD plain 0 0; rest = bytesFrom plain 1 })
+  unfolding readPlainTable plainSize plainSized plainRows
+  plain-size-is = ap (λ o. o >>= plainSize) (byte-at plain 0 inside)
+
+  pub plain-no-letters : getD plain 0 0 < 1 → readPlainTable plain ≡ refused 2 []
+  unfolding plainSize
+  plain-no-letters h = plain-size-is ∙ ap (λ t. unless (t || ltb 16 (getD plain 0 0)) 2 (record { value = getD plain 0 0; rest = bytesFrom plain 1 }) >>= plainSized) (lt-ltb (getD plain 0 0) 1 h)
+
+  pub plain-many-letters : 1 ≤ getD plain 0 0 → 16 < getD plain 0 0 → readPlainTable plain ≡ refused 2 []
+  unfolding plainSize
+  plain-many-letters l h =
+      plain-size-is
+      ∙ (ap (λ t. unless (t || ltb 16 (getD plain 0 0)) 2 (record { value = getD plain 0 0; rest = bytesFrom plain 1 }) >>= plainSized) (le-ltb (getD plain 0 0) 1 l)
+      ∙ ap (λ t. unless t 2 (record { value = getD plain 0 0; rest = bytesFrom plain 1 }) >>= plainSized) (lt-ltb 16 (getD plain 0 0) h))
+
+  module _ (size : ℕ) (size-is : getD plain 0 0 ≡ size) (some : 1 ≤ size) (few : size ≤ 16) where
+    plain-is : readPlainTable plain ≡ plainRows size (rowsOf (plainPairAt size) size (bytesFrom plain 1))
+    unfolding plainSize plainSized
+    plain-is =
+        plain-size-is
+        ∙ (ap (λ n. unless (ltb n 1 || ltb 16 n) 2 (record { value = n; rest = bytesFrom plain 1 }) >>= plainSized) size-is
+        ∙ (ap (λ t. unless (t || ltb 16 size) 2 (record { value = size; rest = bytesFrom plain 1 }) >>= plainSized) (le-ltb size 1 some)
+        ∙ ap (λ t. unless t 2 (record { value = size; rest = bytesFrom plain 1 }) >>= plainSized) (le-ltb 16 size few)))
+
+    module _ (cells : List ℕ) (at a : ℕ) (f : RowsFilled (plainPairAt size) (bytesFrom plain) (length plain) 1 size cells at a) where
+      pub plain-row-refused : (n : ℕ) → a ≤ size → several (plainPairAt size) (size - a) (bytesFrom plain at) ≡ refused n [] → readPlainTable plain ≡ refused n []
+      unfolding plainRows
+      plain-row-refused n h e = plain-is ∙ ap (plainRows size) (rows-row-refused (plainPairAt size) (bytesFrom plain) (length plain) 1 size some few cells at a f n h e)
+
+      plain-ended : size < a → readPlainTable plain ≡ unless (ltb 0 (length (bytesFrom plain at))) 3 (record { size = size; rows = f .done })
+      unfolding plainRows
+      plain-ended h = plain-is ∙ ap (plainRows size) (rows-ended (plainPairAt size) (bytesFrom plain) (length plain) 1 size some few cells at a f h)
+
+      pub plain-answered : size < a → length plain ≤ at → PlainTableOf plain cells size
+      plain-answered h l =
+          record {
+            table = record { size = size; rows = f .done };
+            read = plain-ended h ∙ ap (λ t. unless t 3 (record { size = size; rows = f .done })) (le-ltb 0 (length (bytesFrom plain at)) (omega (arith, length-drop at plain)));
+            size-is = refl;
+            listed = rows-listed (plainPairAt size) (bytesFrom plain) (length plain) 1 size some few cells at a f h;
+            stands = rows-stand (plainPairAt size) (bytesFrom plain) (length plain) 1 size some few cells at a f h;
+          }
+
+      pub plain-tail : size < a → at < length plain → readPlainTable plain ≡ refused 3 []
+      plain-tail h l = plain-ended h ∙ ap (λ t. unless t 3 (record { size = size; rows = f .done })) (lt-ltb 0 (length (bytesFrom plain at)) (omega (arith, length-drop at plain)))

@@ -1,4 +1,4 @@
--- A reader taken as often as said: one turn more, a refusal, the end; and where each value stands when every one has the same size.
+-- A reader taken as often as said: one turn more, a refusal, the end. Where every value has the same size, its number gives its place.
 use mathlib.Core.Path.{_≡_, refl, sym, ap, _∙_}
 use mathlib.Core.List.{List, [], _∷_, _++_, append-assoc, append-nil}
 use Prim.Native.Nat.{ℕ, zero, suc, _+_, _-_, _*_, _≤_, _<_}

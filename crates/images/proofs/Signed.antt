@@ -1,4 +1,4 @@
--- A program's next letter: its sign, then its number.
+-- A program's next letter: its sign, then its number. The byte that the code makes of them is the letter's.
 use mathlib.Core.Path.{_≡_, refl, sym, ap, _∙_}
 use mathlib.Core.List.{List, [], _∷_, _++_}
 use mathlib.Core.Bool.{Bool, true, false, cond}

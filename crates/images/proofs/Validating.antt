@@ -1,4 +1,4 @@
--- Validating an image of a count and as many values: the values read so far, and what is left to read.
+-- Validating an image of a count and as many values: the values read so far, and what is left to read. Programs and chains are such images.
 use mathlib.Core.Path.{_≡_, refl, sym, ap, _∙_}
 use mathlib.Core.List.{List, [], _∷_, _++_}
 use mathlib.Core.Bool.{Bool, true, false, cond}

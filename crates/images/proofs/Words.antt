@@ -1,30 +1,37 @@
--- Reading a word of a table into its cell: the letters read so far, what is left to read, and what the cell holds.
+-- Reading a word of a table into its cell: the letters read so far, what is left to read, and what the cell holds. The laws are for any
+-- reader of a letter; then come those of a table image and of a plain form.
 use mathlib.Core.Path.{_≡_, refl, sym, ap, subst, _∙_}
 use mathlib.Core.Logic.{_⊎_, inl, inr, ⊎-elim}
 use mathlib.Core.List.{List, [], _∷_, _++_}
+use mathlib.Core.Bool.{Bool, true, false, _||_}
 use Prim.Native.Nat.{ℕ, zero, suc, _+_, _-_, _*_, _^_, _≤_, _<_}
 use native.Mathlib.Omega.{arith}
-use lib.ListN.{length, set, getD, length-append, length-set, List·getD-append}
-use lib.Seq.{getD-set-same, getD-set-other, getD-at}
+use native.Mathlib.Numerals.{add-one}
+use borrow.Author.Tests.{lt-ltb, le-ltb}
+use lib.Dec.{ltb}
+use lib.ListN.{length, set, getD, drop, length-append, length-set, List·getD-append, drop-of-length-le}
+use lib.Seq.{getD-set-same, getD-set-other, getD-at, drop-cons}
 use Rattle.model.specs.Word.{Positive}
-use Rattle.model.specs.Outcome.{Outcome, answered, refused, _>>=_}
+use Rattle.model.specs.Outcome.{Outcome, answered, refused, _>>=_, unless}
 use Rattle.model.specs.Bits.{Read, field}
 use Rattle.model.specs.Images.{letterField, wordField, several}
+use Rattle.model.specs.Plain.{nextByte, plainLetter, plainLetters}
 use Rattle.bits.proofs.Packing.{below-or}
-use Rattle.images.specs.Fields.{FieldAt, LetterAt, from}
+use Rattle.images.specs.Fields.{FieldAt, from}
 use Rattle.images.specs.Range.{All, GeneratorInRange, WordInRange}
 use Rattle.images.specs.Cells.{HoldsWord}
-use Rattle.images.specs.Tables.{After, KeptOutside, WordAt}
+use Rattle.images.specs.Tables.{KeptOutside, WordFrom, bytesFrom}
 use Rattle.images.proofs.Several.{after, after-none, several-step, several-refused, several-done}
 
-pub record Filled (image : List ℕ) (at size : ℕ) (before : List ℕ) (cell count : ℕ) (cells : List ℕ) (next k : ℕ) : Type 0 where
+-- the letters of a word whose length was read and stored; `begin` is the position after it
+pub record Filled (reader : List ℕ → Outcome (Read ℕ)) (source : ℕ → List ℕ) (limit begin size : ℕ) (before : List ℕ) (cell count : ℕ) (cells : List ℕ) (next k : ℕ) : Type 0 where
   pub some-left : k ≤ count
-  pub inside : next ≤ 8 * length image
-  pub near : next ≤ at + 4 + 4 * k
+  pub inside : next ≤ limit
+  pub near : next ≤ begin + 4 * k
   pub same-length : length cells ≡ length before
   pub done : Positive
   pub done-length : length done ≡ k
-  pub resumed : several (letterField 1 2 size) count (from image (at + 4)) ≡ after done (several (letterField 1 2 size) (count - k) (from image next))
+  pub resumed : several reader count (source begin) ≡ after done (several reader (count - k) (source next))
   pub first : getD cells cell 0 ≡ count
   pub letters : (j : ℕ) → j < length done → getD cells (cell + 1 + j) 0 ≡ getD done j 0
   pub in-range : All (GeneratorInRange size) done
@@ -54,78 +61,67 @@ pub kept-store : (before : List ℕ) (cell : ℕ) (cells : List ℕ) (i v : ℕ)
 kept-store before cell cells i v k low high j o =
     getD-set-other cells i j v 0 (λ e. ⊎-elim (λ (h : j < cell). omega arith) (λ (h : cell + 16 ≤ j). omega arith) o) ∙ k j o
 
-unfoldable afterLength : ℕ → Outcome (Read ℕ) → Outcome (Read Positive)
-afterLength size o = o >>= λ k. several (letterField 1 2 size) (k .value) (k .rest)
-
-pub length-ends : (image : List ℕ) (at size : ℕ) → ((early : ℕ) → field early 4 (from image at) ≡ refused early []) → wordField size (from image at) ≡ refused 1 []
-unfolding afterLength
-length-ends image at size e = ap (afterLength size) (e 1)
-
-module _ (image : List ℕ) (at size : ℕ) (before : List ℕ) (cell count : ℕ) (room : cell + 16 ≤ length before) (head : FieldAt image at 4 count) where
-  word-is : wordField size (from image at) ≡ several (letterField 1 2 size) count (from image (at + 4))
-  unfolding afterLength
-  word-is = ap (afterLength size) (head .read 1)
-
-  pub filled-none : Filled image at size (set before cell count) cell count (set before cell count) (at + 4) 0
-  filled-none =
+module _ (reader : List ℕ → Outcome (Read ℕ)) (source : ℕ → List ℕ) (limit begin size : ℕ) (before : List ℕ) (cell count : ℕ) (room : cell + 16 ≤ length before) (small : count < 16) where
+  pub letters-none : begin ≤ limit → Filled reader source limit begin size (set before cell count) cell count (set before cell count) begin 0
+  letters-none inside =
       record {
         some-left = omega arith;
-        inside = head .inside;
+        inside = inside;
         near = omega arith;
         same-length = refl;
         done = [];
         done-length = refl;
-        resumed = sym (after-none (several (letterField 1 2 size) (count - 0) (from image (at + 4))) ∙ ap (λ k. several (letterField 1 2 size) k (from image (at + 4))) {x = count - 0} {y = count} (omega arith));
+        resumed = sym (after-none (several reader (count - 0) (source begin)) ∙ ap (λ k. several reader k (source begin)) {x = count - 0} {y = count} (omega arith));
         first = getD-set-same before cell count 0 (omega arith);
         letters = λ j h. absurd (omega arith);
         in-range = tt;
         kept = λ i o. refl;
       }
 
-  module _ (cells : List ℕ) (next k : ℕ) (f : Filled image at size (set before cell count) cell count cells next k) where
+  module _ (cells : List ℕ) (next k : ℕ) (f : Filled reader source limit begin size (set before cell count) cell count cells next k) where
     left : k < count → count - k ≡ suc (count - (k + 1))
     left h = omega arith
 
-    pub filled-more : (width a : ℕ) → width ≤ 4 → k < count → LetterAt image next size width a → Filled image at size (set before cell count) cell count (set cells (cell + 1 + k) a) (next + width) (k + 1)
-    filled-more width a narrow h l =
+    pub letters-more : (a next' : ℕ) → k < count → next' ≤ next + 4 → next' ≤ limit → GeneratorInRange size a → reader (source next) ≡ answered (record { value = a; rest = source next' })
+        → Filled reader source limit begin size (set before cell count) cell count (set cells (cell + 1 + k) a) next' (k + 1)
+    letters-more a next' h step inside range e =
         let n : length (f .done) ≡ k = f .done-length in
-        let small : count < 16 = head .small in
         record {
           some-left = omega arith;
-          inside = l .inside;
+          inside = inside;
           near = omega (arith, f .near);
           same-length = length-set cells (cell + 1 + k) a ∙ f .same-length;
           done = f .done ++ (a ∷ []);
           done-length = length-append (f .done) (a ∷ []) ∙ omega arith;
           resumed =
               f .resumed
-              ∙ (ap (λ m. after (f .done) (several (letterField 1 2 size) m (from image next))) (left h)
-              ∙ several-step (letterField 1 2 size) (f .done) (count - (k + 1)) (from image next) (record { value = a; rest = from image (next + width) }) (l .read 1 2));
+              ∙ (ap (λ m. after (f .done) (several reader m (source next))) (left h)
+              ∙ several-step reader (f .done) (count - (k + 1)) (source next) (record { value = a; rest = source next' }) e);
           first = getD-set-other cells (cell + 1 + k) cell a 0 (λ e. omega arith) ∙ f .first;
           letters =
               subst (λ m. (j : ℕ) → j < length (f .done ++ (a ∷ [])) → getD (set cells (cell + 1 + m) a) (cell + 1 + j) 0 ≡ getD (f .done ++ (a ∷ [])) j 0) n
               (stored-letters cells (cell + 1) (f .done) a (omega (arith, f .same-length, length-set before cell count)) (f .letters));
-          in-range = all-more (GeneratorInRange size) (f .done) a (f .in-range) (record { positive = l .positive; small = l .small });
+          in-range = all-more (GeneratorInRange size) (f .done) a (f .in-range) range;
           kept = kept-store (set before cell count) cell cells (cell + 1 + k) a (f .kept) (omega arith) (omega arith);
         }
 
-    pub letter-refused : (n : ℕ) → k < count → letterField 1 2 size (from image next) ≡ refused n [] → wordField size (from image at) ≡ refused n []
-    letter-refused n h e =
-        word-is
-        ∙ (f .resumed
-        ∙ (ap (λ m. after (f .done) (several (letterField 1 2 size) m (from image next))) (left h)
-        ∙ several-refused (letterField 1 2 size) (f .done) (count - (k + 1)) (from image next) n [] e))
+    pub letters-refused : (n : ℕ) → k < count → reader (source next) ≡ refused n [] → several reader count (source begin) ≡ refused n []
+    letters-refused n h e =
+        f .resumed
+        ∙ (ap (λ m. after (f .done) (several reader m (source next))) (left h)
+        ∙ several-refused reader (f .done) (count - (k + 1)) (source next) n [] e)
 
-    pub word-answered : count ≤ k → WordAt image at size before cell cells next
-    word-answered h =
-        let small : count < 16 = head .small in
+    -- the word that a reader of its letters reads
+    pub word-from : (word : List ℕ → Outcome (Read Positive)) (most at : ℕ) → word (source at) ≡ several reader count (source begin) → begin + 60 ≤ at + most → count ≤ k
+        → WordFrom word source limit most at size before cell cells next
+    word-from word most at is step h =
         record {
           word = f .done;
           read =
-              word-is
+              is
               ∙ (f .resumed
-              ∙ (ap (λ m. after (f .done) (several (letterField 1 2 size) m (from image next))) {x = count - k} {y = 0} (omega arith)
-              ∙ several-done (letterField 1 2 size) (f .done) (from image next)));
+              ∙ (ap (λ m. after (f .done) (several reader m (source next))) {x = count - k} {y = 0} (omega arith)
+              ∙ several-done reader (f .done) (source next)));
           position = record { inside = f .inside; near = omega (arith, f .near, f .some-left) };
           holds =
               record {
@@ -135,3 +131,66 @@ module _ (image : List ℕ) (at size : ℕ) (before : List ℕ) (cell count : �
               };
           kept = λ i o. f .kept i o ∙ kept-store before cell before cell count (λ i o. refl) (omega arith) (omega arith) i o;
         }
+
+-- FROM A TABLE IMAGE
+
+unfoldable afterLength : ℕ → Outcome (Read ℕ) → Outcome (Read Positive)
+afterLength size o = o >>= λ k. several (letterField 1 2 size) (k .value) (k .rest)
+
+pub length-ends : (image : List ℕ) (at size : ℕ) → ((early : ℕ) → field early 4 (from image at) ≡ refused early []) → wordField size (from image at) ≡ refused 1 []
+unfolding afterLength
+length-ends image at size e = ap (afterLength size) (e 1)
+
+pub word-is : (image : List ℕ) (at size count : ℕ) → FieldAt image at 4 count → wordField size (from image at) ≡ several (letterField 1 2 size) count (from image (at + 4))
+unfolding afterLength
+word-is image at size count head = ap (afterLength size) (head .read 1)
+
+-- FROM A PLAIN FORM
+
+letters-of : ℕ → List ℕ → ℕ → Outcome (Read Positive)
+letters-of size input k = several (plainLetter size) k input
+
+pub length-wrong : (size count : ℕ) (input : List ℕ) → 15 < count → plainLetters size count input ≡ refused 2 []
+unfolding letters-of
+length-wrong size count input h = ap (λ t. unless t 2 count >>= letters-of size input) (lt-ltb 15 count h)
+
+pub plain-word-is : (size count : ℕ) (input : List ℕ) → count ≤ 15 → plainLetters size count input ≡ several (plainLetter size) count input
+unfolding letters-of
+plain-word-is size count input h = ap (λ t. unless t 2 count >>= letters-of size input) (le-ltb 15 count h)
+
+pub byte-ends : (plain : List ℕ) (at : ℕ) → length plain ≤ at → nextByte (bytesFrom plain at) ≡ refused 1 []
+byte-ends plain at h = ap nextByte (drop-of-length-le plain h)
+
+pub byte-at : (plain : List ℕ) (at : ℕ) → at < length plain → nextByte (bytesFrom plain at) ≡ answered (record { value = getD plain at 0; rest = bytesFrom plain (at + 1) })
+byte-at plain at h = ap nextByte (drop-cons plain at 0 h) ∙ ap (λ n. answered (record { value = getD plain at 0; rest = drop n plain })) (sym (add-one at))
+
+named : ℕ → Read ℕ → Outcome (Read ℕ)
+named size r = unless (ltb (r .value) 1 || ltb size (r .value)) 2 r
+
+module _ (plain : List ℕ) (at size : ℕ) where
+  pub letter-ends : length plain ≤ at → plainLetter size (bytesFrom plain at) ≡ refused 1 []
+  unfolding named
+  letter-ends h = ap (λ o. o >>= named size) (byte-ends plain at h)
+
+  module _ (h : at < length plain) where
+    letter-is : plainLetter size (bytesFrom plain at) ≡ named size (record { value = getD plain at 0; rest = bytesFrom plain (at + 1) })
+    unfolding named
+    letter-is = ap (λ o. o >>= named size) (byte-at plain at h)
+
+    pub letter-none : getD plain at 0 < 1 → plainLetter size (bytesFrom plain at) ≡ refused 2 []
+    unfolding named
+    letter-none l = letter-is ∙ ap (λ t. unless (t || ltb size (getD plain at 0)) 2 (record { value = getD plain at 0; rest = bytesFrom plain (at + 1) })) (lt-ltb (getD plain at 0) 1 l)
+
+    pub letter-large : 1 ≤ getD plain at 0 → size < getD plain at 0 → plainLetter size (bytesFrom plain at) ≡ refused 2 []
+    unfolding named
+    letter-large l m =
+        letter-is
+        ∙ (ap (λ t. unless (t || ltb size (getD plain at 0)) 2 (record { value = getD plain at 0; rest = bytesFrom plain (at + 1) })) (le-ltb (getD plain at 0) 1 l)
+        ∙ ap (λ t. unless t 2 (record { value = getD plain at 0; rest = bytesFrom plain (at + 1) })) (lt-ltb size (getD plain at 0) m))
+
+    pub letter-read : 1 ≤ getD plain at 0 → getD plain at 0 ≤ size → plainLetter size (bytesFrom plain at) ≡ answered (record { value = getD plain at 0; rest = bytesFrom plain (at + 1) })
+    unfolding named
+    letter-read l m =
+        letter-is
+        ∙ (ap (λ t. unless (t || ltb size (getD plain at 0)) 2 (record { value = getD plain at 0; rest = bytesFrom plain (at + 1) })) (le-ltb (getD plain at 0) 1 l)
+        ∙ ap (λ t. unless t 2 (record { value = getD plain at 0; rest = bytesFrom plain (at + 1) })) (le-ltb size (getD plain at 0) m))

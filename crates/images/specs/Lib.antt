@@ -6,3 +6,4 @@ pub mod Tables
 pub mod Chains
 pub mod Written
 pub mod Bytewise
+pub mod Bitwise

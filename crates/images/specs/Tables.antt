@@ -1,14 +1,15 @@
--- What reading the parts of a table image gives: the words, pairs and rows that the model's readers give, in their cells.
+-- What reading the parts of a table, packed or plain, gives: the words, pairs and rows that the model's readers give, in their cells.
 use mathlib.Core.List.{List, [], _∷_, _++_}
 use mathlib.Core.Path.{_≡_}
 use mathlib.Core.Logic.{_⊎_}
 use Prim.Native.Nat.{ℕ, _+_, _-_, _*_, _≤_, _<_}
-use lib.ListN.{length, getD}
+use lib.ListN.{length, getD, drop}
 use Rattle.model.specs.Word.{Positive}
 use Rattle.model.specs.Presentation.{Presentation, Complement, undefined, complement, swapped}
 use Rattle.model.specs.Outcome.{Outcome, answered, refused}
 use Rattle.model.specs.Bits.{Read}
 use Rattle.model.specs.Images.{wordField, pairField, several, readTable}
+use Rattle.model.specs.Plain.{plainLetters, plainPairAt, readPlainTable}
 use Rattle.model.specs.Stated.{refusal}
 use Rattle.images.specs.Fields.{from}
 use Rattle.images.specs.Cells.{Letters, cellAt, HoldsWord, Holds, Stands}
@@ -17,26 +18,28 @@ use Rattle.images.specs.declared.tables.TablePart.the-variants.{Next, En
 use Rattle.images.specs.declared.tables.TableRead.{TableRead}
 use Rattle.images.specs.declared.tables.TableRead.the-variants.{Table, Refused}
 
--- the position after a part of at most `most` bits
-pub record After (image : List ℕ) (at most next : ℕ) : Type 0 where
-  pub inside : next ≤ 8 * length image
+-- the position after a part of at most `most` fields, none of them past the limit
+pub record After (limit at most next : ℕ) : Type 0 where
+  pub inside : next ≤ limit
   pub near : next ≤ at + most
 
 -- every byte outside the cell that begins at a place is as it was
 abbrev pub KeptOutside : List ℕ → ℕ → List ℕ → Type 0
 KeptOutside before cell after = (i : ℕ) → (i < cell) ⊎ (cell + 16 ≤ i) → getD after i 0 ≡ getD before i 0
 
-pub record WordAt (image : List ℕ) (at size : ℕ) (before : List ℕ) (cell : ℕ) (after : List ℕ) (next : ℕ) : Type 0 where
+-- WORDS, PAIRS AND ROWS, whatever they are read from: `source` is what is left to read from a position on
+
+pub record WordFrom (reader : List ℕ → Outcome (Read Positive)) (source : ℕ → List ℕ) (limit most at size : ℕ) (before : List ℕ) (cell : ℕ) (after : List ℕ) (next : ℕ) : Type 0 where
   pub word : Positive
-  pub read : wordField size (from image at) ≡ answered (record { value = word; rest = from image next })
-  pub position : After image at 64 next
+  pub read : reader (source at) ≡ answered (record { value = word; rest = source next })
+  pub position : After limit at most next
   pub holds : HoldsWord size after cell word
   pub kept : KeptOutside before cell after
 
-abbrev pub WordDone : List ℕ → ℕ → ℕ → List ℕ → ℕ → List ℕ → TablePart → Type 0
-WordDone image at size before cell after (Next next) = WordAt image at size before cell after next
-WordDone image at size before cell after Ends = wordField size (from image at) ≡ refused 1 []
-WordDone image at size before cell after Wrong = wordField size (from image at) ≡ refused 2 []
+abbrev pub WordDoneFrom : (List ℕ → Outcome (Read Positive)) → (ℕ → List ℕ) → ℕ → ℕ → ℕ → ℕ → List ℕ → ℕ → List ℕ → TablePart → Type 0
+WordDoneFrom reader source limit most at size before cell after (Next next) = WordFrom reader source limit most at size before cell after next
+WordDoneFrom reader source limit most at size before cell after Ends = reader (source at) ≡ refused 1 []
+WordDoneFrom reader source limit most at size before cell after Wrong = reader (source at) ≡ refused 2 []
 
 -- the cell of two letters is as it was
 abbrev pub SameCell : List ℕ → List ℕ → ℕ → ℕ → Type 0
@@ -47,33 +50,81 @@ pub record HoldsPair (size : ℕ) (cells : List ℕ) (a b : ℕ) (pair : Complem
   pub there : Holds size cells (cellAt a b) pair
   pub back : Holds size cells (cellAt b a) (swapped pair)
 
-pub record PairAt (image : List ℕ) (at size : ℕ) (before : List ℕ) (a b : ℕ) (after : List ℕ) (next : ℕ) : Type 0 where
-  pub pair : Complement
-  pub read : pairField size (from image at) ≡ answered (record { value = pair; rest = from image next })
-  pub position : After image at 129 next
-  pub holds : HoldsPair size after a b pair
-  pub kept : (p q : ℕ) → Letters p q → ((p ≡ a) × (q ≡ b) → ⊥) → ((p ≡ b) × (q ≡ a) → ⊥) → SameCell before after p q
+-- every cell but those of a, b and of b, a is as it was
+abbrev pub KeptPair : List ℕ → ℕ → ℕ → List ℕ → Type 0
+KeptPair before a b after = (p q : ℕ) → Letters p q → ((p ≡ a) × (q ≡ b) → ⊥) → ((p ≡ b) × (q ≡ a) → ⊥) → SameCell before after p q
 
-abbrev pub PairDone : List ℕ → ℕ → ℕ → List ℕ → ℕ → ℕ → List ℕ → TablePart → Type 0
-PairDone image at size before a b after (Next next) = PairAt image at size before a b after next
-PairDone image at size before a b after Ends = pairField size (from image at) ≡ refused 1 []
-PairDone image at size before a b after Wrong = pairField size (from image at) ≡ refused 2 []
+pub record PairFrom (reader : List ℕ → Outcome (Read Complement)) (source : ℕ → List ℕ) (limit at size : ℕ) (before : List ℕ) (a b : ℕ) (after : List ℕ) (next : ℕ) : Type 0 where
+  pub pair : Complement
+  pub read : reader (source at) ≡ answered (record { value = pair; rest = source next })
+  pub position : After limit at 129 next
+  pub holds : HoldsPair size after a b pair
+  pub kept : KeptPair before a b after
+
+abbrev pub PairDoneFrom : (List ℕ → Outcome (Read Complement)) → (ℕ → List ℕ) → ℕ → ℕ → ℕ → List ℕ → ℕ → ℕ → List ℕ → TablePart → Type 0
+PairDoneFrom reader source limit at size before a b after (Next next) = PairFrom reader source limit at size before a b after next
+PairDoneFrom reader source limit at size before a b after Ends = reader (source at) ≡ refused 1 []
+PairDoneFrom reader source limit at size before a b after Wrong = reader (source at) ≡ refused 2 []
 
 -- the pairs of a with a + 1, a + 2, .. stand in their cells
 abbrev pub HoldsRow : ℕ → List ℕ → ℕ → List Complement → Type 0
 HoldsRow size cells a row = (j : ℕ) → j < length row → HoldsPair size cells a (a + 1 + j) (getD row j undefined)
 
-pub record RowAt (image : List ℕ) (at size : ℕ) (before : List ℕ) (a : ℕ) (after : List ℕ) (next : ℕ) : Type 0 where
+pub record RowFrom (reader : List ℕ → Outcome (Read Complement)) (source : ℕ → List ℕ) (limit at size : ℕ) (before : List ℕ) (a : ℕ) (after : List ℕ) (next : ℕ) : Type 0 where
   pub row : List Complement
-  pub read : several (pairField size) (size - a) (from image at) ≡ answered (record { value = row; rest = from image next })
-  pub position : After image at 2064 next
+  pub read : several reader (size - a) (source at) ≡ answered (record { value = row; rest = source next })
+  pub position : After limit at 2064 next
   pub holds : HoldsRow size after a row
   pub kept : (p q : ℕ) → Letters p q → (p < a) ⊎ (q < a) → SameCell before after p q
 
+abbrev pub RowDoneFrom : (List ℕ → Outcome (Read Complement)) → (ℕ → List ℕ) → ℕ → ℕ → ℕ → List ℕ → ℕ → List ℕ → TablePart → Type 0
+RowDoneFrom reader source limit at size before a after (Next next) = RowFrom reader source limit at size before a after next
+RowDoneFrom reader source limit at size before a after Ends = several reader (size - a) (source at) ≡ refused 1 []
+RowDoneFrom reader source limit at size before a after Wrong = several reader (size - a) (source at) ≡ refused 2 []
+
+-- .. from a table image, whose positions are those of its bits
+abbrev pub WordAt : List ℕ → ℕ → ℕ → List ℕ → ℕ → List ℕ → ℕ → Type 0
+WordAt image at size before cell after next = WordFrom (wordField size) (from image) (8 * length image) 64 at size before cell after next
+
+abbrev pub WordDone : List ℕ → ℕ → ℕ → List ℕ → ℕ → List ℕ → TablePart → Type 0
+WordDone image at size before cell after r = WordDoneFrom (wordField size) (from image) (8 * length image) 64 at size before cell after r
+
+abbrev pub PairAt : List ℕ → ℕ → ℕ → List ℕ → ℕ → ℕ → List ℕ → ℕ → Type 0
+PairAt image at size before a b after next = PairFrom (pairField size) (from image) (8 * length image) at size before a b after next
+
+abbrev pub PairDone : List ℕ → ℕ → ℕ → List ℕ → ℕ → ℕ → List ℕ → TablePart → Type 0
+PairDone image at size before a b after r = PairDoneFrom (pairField size) (from image) (8 * length image) at size before a b after r
+
+abbrev pub RowAt : List ℕ → ℕ → ℕ → List ℕ → ℕ → List ℕ → ℕ → Type 0
+RowAt image at size before a after next = RowFrom (pairField size) (from image) (8 * length image) at size before a after next
+
 abbrev pub RowDone : List ℕ → ℕ → ℕ → List ℕ → ℕ → List ℕ → TablePart → Type 0
-RowDone image at size before a after (Next next) = RowAt image at size before a after next
-RowDone image at size before a after Ends = several (pairField size) (size - a) (from image at) ≡ refused 1 []
-RowDone image at size before a after Wrong = several (pairField size) (size - a) (from image at) ≡ refused 2 []
+RowDone image at size before a after r = RowDoneFrom (pairField size) (from image) (8 * length image) at size before a after r
+
+-- .. from a plain form, whose positions are those of its bytes; of a word the length byte was read
+abbrev pub bytesFrom : List ℕ → ℕ → List ℕ
+bytesFrom plain at = drop at plain
+
+abbrev pub PlainWordDone : List ℕ → ℕ → ℕ → ℕ → List ℕ → ℕ → List ℕ → TablePart → Type 0
+PlainWordDone plain at count size before cell after r = WordDoneFrom (plainLetters size count) (bytesFrom plain) (length plain) 60 at size before cell after r
+
+abbrev pub PlainPairDone : List ℕ → ℕ → ℕ → List ℕ → ℕ → ℕ → List ℕ → TablePart → Type 0
+PlainPairDone plain at size before a b after r = PairDoneFrom (plainPairAt size) (bytesFrom plain) (length plain) at size before a b after r
+
+abbrev pub PlainRowDone : List ℕ → ℕ → ℕ → List ℕ → ℕ → List ℕ → TablePart → Type 0
+PlainRowDone plain at size before a after r = RowDoneFrom (plainPairAt size) (bytesFrom plain) (length plain) at size before a after r
+
+-- a place inside a plain form, under a number of letters that a table can have
+pub record PlainBefore (plain : List ℕ) (at size : ℕ) : Type 0 where
+  pub inside : at ≤ length plain
+  pub some : 1 ≤ size
+  pub few : size ≤ 16
+
+-- the rows of a table stand in the cells
+pub record Listed (size : ℕ) (cells : List ℕ) (rows : List (List Complement)) : Type 0 where
+  pub many : length rows ≡ size
+  pub widths : (i : ℕ) → i < length rows → length (getD rows i []) ≡ size - (1 + i)
+  pub holds : (i : ℕ) → i < length rows → HoldsRow size cells (1 + i) (getD rows i [])
 
 -- the cells stand for the table that the image holds
 pub record TableOf (image cells : List ℕ) (size : ℕ) : Type 0 where
@@ -81,6 +132,19 @@ pub record TableOf (image cells : List ℕ) (size : ℕ) : Type 0 where
   pub read : readTable image ≡ answered table
   pub size-is : table .size ≡ size
   pub stands : Stands cells table
+  pub listed : Listed size cells (table .rows)
+
+-- the cells stand for the table that the plain form says
+pub record PlainTableOf (plain cells : List ℕ) (size : ℕ) : Type 0 where
+  pub table : Presentation
+  pub read : readPlainTable plain ≡ answered table
+  pub size-is : table .size ≡ size
+  pub stands : Stands cells table
+  pub listed : Listed size cells (table .rows)
+
+abbrev pub PlainTableDone : List ℕ → List ℕ → TableRead → Type 0
+PlainTableDone plain cells (Table size) = PlainTableOf plain cells size
+PlainTableDone plain cells (Refused r) = readPlainTable plain ≡ refusal r
 
 abbrev pub TableDone : List ℕ → List ℕ → TableRead → Type 0
 TableDone image cells (Table size) = TableOf image cells size

@@ -10,3 +10,4 @@ pub mod Pairs
 pub mod Comparing
 pub mod ChainService
 pub mod CheckService
+pub mod Packing

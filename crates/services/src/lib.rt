@@ -5,4 +5,8 @@ pub mod check;
 pub mod clear;
 pub mod compare;
 pub mod loading;
+pub mod pack_program;
+pub mod pack_table;
 pub mod reverse;
+pub mod unpack_program;
+pub mod unpack_table;

@@ -5,22 +5,16 @@ use Rattle.bits.proofs.Width.{width-is}
 use borrow.Author.Needs.{needs}
 use Rattle.bits.proofs.letter_width.Statement.{statement}
 use Rattle.bits.proofs.letter_width.Tie as tie
-use Rattle.bits.proofs.letter_width.Reads as reads
-use Rattle.bits.proofs.letter_width.Lts as lts
 
--- src/lib.rt:12:28
 sub-result : tie.Need-sub-result
 sub-result c = search needs
 
--- src/lib.rt:12:6
 sub-result-2 : tie.Need-sub-result-2
 sub-result-2 c = leading-le 8 (c .args .n - 1)
 
--- src/lib.rt:12:5
 cast-result : tie.Need-cast-result
 cast-result c = search needs
 
--- src/lib.rt:8:1
 returns : tie.Need-returns
 returns c = width-is (c .args .n) (c .pre .0) (c .pre .1)
 

@@ -4,26 +4,19 @@ use Rattle.bits.proofs.Bytes.{bit-at}
 use borrow.Author.Needs.{needs}
 use Rattle.bits.proofs.read_bit.Statement.{statement}
 use Rattle.bits.proofs.read_bit.Tie as tie
-use Rattle.bits.proofs.read_bit.Reads as reads
-use Rattle.bits.proofs.read_bit.Lts as lts
 
--- src/lib.rt:20:6
 shared-slice-read-result : tie.Need-shared-slice-read-result
 shared-slice-read-result c = search needs
 
--- src/lib.rt:20:24
 sub-result : tie.Need-sub-result
 sub-result c = search needs
 
--- src/lib.rt:20:24
 cast-result : tie.Need-cast-result
 cast-result c = search needs
 
--- src/lib.rt:20:6
 shr-result : tie.Need-shr-result
 shr-result c = search needs
 
--- src/lib.rt:16:1
 returns : tie.Need-returns
 returns c = sym (bit-at (c .before .args .bytes .now) (c .before .args .at) (c .before .pre))
 

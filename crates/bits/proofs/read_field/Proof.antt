@@ -8,9 +8,6 @@ use Rattle.bits.specs.Fields.{Inside}
 use Rattle.bits.proofs.Fields.{field-more, step-fits, bit-small}
 use Rattle.bits.proofs.read_field.Statement.{statement}
 use Rattle.bits.proofs.read_field.Tie as tie
-use Rattle.bits.proofs.read_field.Reads as reads
-use Rattle.bits.proofs.read_field.Lts as lts
-use Rattle.bits.proofs.read_bit.Reads as read-bit-reads
 
 abbrev Inv-loop : tie.InvT-loop
 Inv-loop bytes at width value₀ i₀ value i = (i ≤ width) × (value ≡ number 0 (take i (drop at (bitsOf bytes))))
@@ -18,19 +15,15 @@ Inv-loop bytes at width value₀ i₀ value i = (i ≤ width) × (value ≡ numb
 abbrev μ-loop : tie.MeasureT-loop
 μ-loop bytes at width value₀ i₀ value i = width - i
 
--- src/lib.rt:30:5
 loop-holds : tie.Need-loop-holds Inv-loop μ-loop
 loop-holds c = (omega arith, refl)
 
--- src/lib.rt:31:35
 add-read-bit : tie.Need-add-read-bit Inv-loop μ-loop
 add-read-bit c = omega (arith, c .before .before .before .pre .small)
 
--- src/lib.rt:31:13
 read-bit-requires : tie.Need-read-bit-requires Inv-loop μ-loop
 read-bit-requires c κs = omega (arith, c .before .before .before .pre .inside)
 
--- src/lib.rt:32:17
 mul-value : tie.Need-mul-value Inv-loop μ-loop
 mul-value c =
     let s = c .before .before .before .before in
@@ -40,11 +33,9 @@ mul-value c =
     step-fits (s .args .bytes .now) (s .args .at) (s .args .width) (s .pre) (l .i) i in
     omega (arith, l .inv .1, c .read-bit .ensures)
 
--- src/lib.rt:32:30
 cast-value : tie.Need-cast-value Inv-loop μ-loop
 cast-value c = omega (arith, c .read-bit .ensures, bit-small (c .before .before .before .before .args .bytes .now) (c .before .before .before .before .args .at) (c .before .before .before .before .args .width) (c .before .before .before .before .pre) (c .before .before .loop .i))
 
--- src/lib.rt:32:17
 add-value : tie.Need-add-value Inv-loop μ-loop
 add-value c =
     let s = c .before .before .before .before in
@@ -54,15 +45,12 @@ add-value c =
     step-fits (s .args .bytes .now) (s .args .at) (s .args .width) (s .pre) (l .i) i in
     omega (arith, l .inv .1, c .read-bit .ensures)
 
--- src/lib.rt:33:9
 add-i : tie.Need-add-i Inv-loop μ-loop
 add-i c = omega (arith, c .before .before .before .before .pre .narrow)
 
--- src/lib.rt:30:5
 loop-less : tie.Need-loop-less Inv-loop μ-loop
 loop-less c = omega arith
 
--- src/lib.rt:30:5
 loop-again : tie.Need-loop-again Inv-loop μ-loop
 loop-again c =
     let s = c .before .before .before .before in
@@ -73,7 +61,6 @@ loop-again c =
           ∙ omega (arith, l .inv .1, c .read-bit .ensures)),
     )
 
--- src/lib.rt:24:1
 returns : tie.Need-returns Inv-loop μ-loop
 returns c =
     let l = c .before .loop in

@@ -6,61 +6,46 @@ use Rattle.bits.proofs.Bytes.{old-below, stored-below, stored-bits}
 use borrow.Author.Needs.{needs}
 use Rattle.bits.proofs.write_bit.Statement.{statement}
 use Rattle.bits.proofs.write_bit.Tie as tie
-use Rattle.bits.proofs.write_bit.Reads as reads
-use Rattle.bits.proofs.write_bit.Lts as lts
 
 byte : (c : tie.After-slice-known) → getD (c .before .args .bytes .now) (c .before .args .at / 8) 0 < 2 ^ 8
 byte c = omega (arith, c .slice-known .given (c .before .args .at / 8))
 
--- src/lib.rt:45:17
 sub-shift : tie.Need-sub-shift
 sub-shift c = search needs
 
--- src/lib.rt:46:27
 cast-weight : tie.Need-cast-weight
 cast-weight c = search needs
 
--- src/lib.rt:46:22
 shl-weight : tie.Need-shl-weight
 shl-weight c = search needs
 
--- src/lib.rt:47:15
 slice-read-old : tie.Need-slice-read-old
 slice-read-old c = search needs
 
--- src/lib.rt:48:23
 cast-was : tie.Need-cast-was
 cast-was c = search needs
 
--- src/lib.rt:48:16
 shr-was : tie.Need-shr-was
 shr-was c = search needs
 
--- src/lib.rt:49:26
 mul-bytes : tie.Need-mul-bytes
 mul-bytes c = omega (arith, byte c, old-below (c .before .args .bytes .now) (c .before .args .at) (c .before .args .bit) (c .before .pre .0) (byte c) (c .before .pre .1))
 
--- src/lib.rt:49:20
 sub-bytes : tie.Need-sub-bytes
 sub-bytes c = old-below (c .before .args .bytes .now) (c .before .args .at) (c .before .args .bit) (c .before .pre .0) (byte c) (c .before .pre .1)
 
--- src/lib.rt:49:41
 mul-bytes-2 : tie.Need-mul-bytes-2
 mul-bytes-2 c = omega (arith, stored-below (c .before .args .bytes .now) (c .before .args .at) (c .before .args .bit) (c .before .pre .0) (byte c) (c .before .pre .1))
 
--- src/lib.rt:49:20
 add-bytes : tie.Need-add-bytes
 add-bytes c = omega (arith, stored-below (c .before .args .bytes .now) (c .before .args .at) (c .before .args .bit) (c .before .pre .0) (byte c) (c .before .pre .1))
 
--- src/lib.rt:49:5
 slice-write-bytes : tie.Need-slice-write-bytes
 slice-write-bytes c = search needs
 
--- src/lib.rt:39:1
 same-length : tie.Need-same-length
 same-length c = search needs
 
--- src/lib.rt:39:1
 returns : tie.Need-returns
 returns c = (simp length-set, stored-bits (c .before .args .bytes .now) (c .before .args .at) (c .before .args .bit) (c .before .pre .0) (byte c) (c .before .pre .1))
 

@@ -10,9 +10,6 @@ use Rattle.bits.proofs.Bytes.{length-bits}
 use Rattle.bits.proofs.Fields.{digits-more, digits-done}
 use Rattle.bits.proofs.write_field.Statement.{statement}
 use Rattle.bits.proofs.write_field.Tie as tie
-use Rattle.bits.proofs.write_field.Reads as reads
-use Rattle.bits.proofs.write_field.Lts as lts
-use Rattle.bits.proofs.write_bit.Reads as write-bit-reads
 
 abbrev Inv-loop : tie.InvT-loop
 Inv-loop bytes₀ at width value i₀ bytes i =
@@ -21,50 +18,39 @@ Inv-loop bytes₀ at width value i₀ bytes i =
 abbrev μ-loop : tie.MeasureT-loop
 μ-loop bytes₀ at width value i₀ bytes i = width - i
 
--- src/lib.rt:58:5
 loop-holds : tie.Need-loop-holds Inv-loop μ-loop
 loop-holds c = (omega arith, refl, paste-zero (bitsOf (c .before .args .bytes .now)) (c .before .args .at) (digits (c .before .args .width) (c .before .args .value)))
 
--- src/lib.rt:59:30
 sub-bit : tie.Need-sub-bit Inv-loop μ-loop
 sub-bit c = omega arith
 
--- src/lib.rt:59:30
 sub-bit-2 : tie.Need-sub-bit-2 Inv-loop μ-loop
 sub-bit-2 c = omega arith
 
--- src/lib.rt:59:30
 cast-bit : tie.Need-cast-bit Inv-loop μ-loop
 cast-bit c = omega (arith, c .before .before .before .pre .narrow)
 
--- src/lib.rt:59:20
 shr-bit : tie.Need-shr-bit Inv-loop μ-loop
 shr-bit c = omega (arith, c .before .before .before .pre .narrow)
 
--- src/lib.rt:60:26
 add-write-bit : tie.Need-add-write-bit Inv-loop μ-loop
 add-write-bit c = omega (arith, c .before .before .before .before .pre .small)
 
--- src/lib.rt:60:34
 cast-write-bit : tie.Need-cast-write-bit Inv-loop μ-loop
 cast-write-bit c = omega arith
 
--- src/lib.rt:60:9
 write-bit-requires : tie.Need-write-bit-requires Inv-loop μ-loop
 write-bit-requires c κs =
     let s = c .before .before .before .before in
     let l = c .before .before .loop in
     (omega (arith, s .pre .inside, l .inv .1), omega arith)
 
--- src/lib.rt:61:9
 add-i : tie.Need-add-i Inv-loop μ-loop
 add-i c = omega (arith, c .before .before .before .before .before .before .before .pre .narrow)
 
--- src/lib.rt:58:5
 loop-less : tie.Need-loop-less Inv-loop μ-loop
 loop-less c = omega arith
 
--- src/lib.rt:58:5
 loop-again : tie.Need-loop-again Inv-loop μ-loop
 loop-again c =
     let s = c .before .before .before .before .before .before .before in
@@ -78,11 +64,9 @@ loop-again c =
           ∙ digits-more (bitsOf (s .args .bytes .now)) (s .args .at) (s .args .width) (s .args .value) (l .i) (omega (arith, s .pre .inside, length-bits (s .args .bytes .now))) i),
     )
 
--- src/lib.rt:53:1
 same-length : tie.Need-same-length Inv-loop μ-loop
 same-length c = c .before .loop .inv .1
 
--- src/lib.rt:53:1
 returns : tie.Need-returns Inv-loop μ-loop
 returns c =
     let s = c .before .before .before in

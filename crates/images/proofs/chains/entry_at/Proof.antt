@@ -7,58 +7,44 @@ use Rattle.images.proofs.Entries.{near, index-small, entry-before, entr
 use borrow.Author.Needs.{needs}
 use Rattle.images.proofs.chains.entry_at.Statement.{statement}
 use Rattle.images.proofs.chains.entry_at.Tie as tie
-use Rattle.images.proofs.chains.entry_at.Reads as reads
-use Rattle.images.proofs.chains.entry_at.Lts as lts
-use Rattle.images.proofs.chains.next_entry.Reads as next-entry-reads
 
 bound : (c : tie.Start) → c .args .i * (12 + (c .args .width + c .args .width)) ≤ 1310720
 bound c = near (c .args .i) (c .args .width) (index-small (c .args .image .now) (c .args .size) (c .args .width) (c .args .i) (c .pre)) (c .pre .narrow)
 
--- src/chains.rt:90:45
 add-next-entry : tie.Need-add-next-entry
 add-next-entry c = search needs
 
--- src/chains.rt:90:39
 add-next-entry-2 : tie.Need-add-next-entry-2
 add-next-entry-2 c = search needs
 
--- src/chains.rt:90:34
 mul-next-entry : tie.Need-mul-next-entry
 mul-next-entry c = omega (arith, bound (c .before))
 
--- src/chains.rt:90:29
 add-next-entry-3 : tie.Need-add-next-entry-3
 add-next-entry-3 c = omega (arith, bound (c .before))
 
--- src/chains.rt:90:11
 next-entry-requires : tie.Need-next-entry-requires
 next-entry-requires c κs = entry-before (c .before .args .image .now) (c .before .args .size) (c .before .args .width) (c .before .args .i) (c .before .pre)
 
--- src/chains.rt:91:27
 enum-known-e : tie.Need-enum-known-e
 enum-known-e c = search needs
 
--- src/chains.rt:92:29
 enum-told : tie.Need-enum-told
 enum-told c = search needs
 
--- src/chains.rt:93:30
 enum-told-2 : tie.Need-enum-told-2
 enum-told-2 c = search needs
 
--- src/chains.rt:86:1
 returns : tie.Need-returns
 returns c =
     let s = c .before .before .before .before .before in
     entry-answer (s .args .image .now) (s .args .size) (s .args .width) (s .args .i) (s .pre) (c .before .e .given .0 .0) (subst (EntryDone (s .args .image .now) (16 + s .args .i * (12 + (s .args .width + s .args .width))) (s .args .size) (s .args .width)) (c .before .e .given .1) (c .before .before .before .next-entry .ensures))
 
--- src/chains.rt:86:1
 returns-2 : tie.Need-returns-2
 returns-2 c =
     let s = c .before .before .before .before in
     absurd (entry-stands (s .args .image .now) (s .args .size) (s .args .width) (s .args .i) (s .pre) 4 (subst (EntryDone (s .args .image .now) (16 + s .args .i * (12 + (s .args .width + s .args .width))) (s .args .size) (s .args .width)) (c .enum-told .given .1) (c .before .before .next-entry .ensures)))
 
--- src/chains.rt:86:1
 returns-3 : tie.Need-returns-3
 returns-3 c =
     let s = c .before .before .before .before in

@@ -7,10 +7,6 @@ use Rattle.images.proofs.Entries.{offset-ends, first-refused, second-re
 use borrow.Author.Needs.{needs}
 use Rattle.images.proofs.chains.next_entry.Statement.{statement}
 use Rattle.images.proofs.chains.next_entry.Tie as tie
-use Rattle.images.proofs.chains.next_entry.Reads as reads
-use Rattle.images.proofs.chains.next_entry.Lts as lts
-use Rattle.images.proofs.fields.next_field.Reads as next-field-reads
-use Rattle.images.proofs.fields.next_letter.Reads as next-letter-reads
 
 abbrev start : tie.After-known-told → tie.Start
 start c = c .before .before .before .before .before
@@ -24,87 +20,69 @@ a-at c =
     let s = start (c .before .before .before) in
     subst (LetterDone (s .args .image .now) (s .args .at + 12) (s .args .size) (s .args .width)) (c .a .given .1) (c .before .before .next-letter .ensures)
 
--- src/chains.rt:41:32
 next-field-requires : tie.Need-next-field-requires
 next-field-requires c κs = search needs
 
--- src/chains.rt:41:22
 enum-known-offset : tie.Need-enum-known-offset
 enum-known-offset c = search needs
 
--- src/chains.rt:42:9
 enum-told : tie.Need-enum-told
 enum-told c = search needs
 
--- src/chains.rt:42:9
 returns : tie.Need-returns
 returns c =
     let s = c .before .before .before .before in
     offset-ends (s .args .image .now) (s .args .at) (s .args .size) (s .args .width) (subst (FieldDone (s .args .image .now) (s .args .at) 12) (c .enum-told .given .1) (c .before .before .next-field .ensures))
 
--- src/chains.rt:44:38
 add-next-letter : tie.Need-add-next-letter
 add-next-letter c = search needs
 
--- src/chains.rt:44:11
 next-letter-requires : tie.Need-next-letter-requires
 next-letter-requires c κs =
     let p = start c .pre in
     (record { narrow = omega (arith, p .narrow); inside = offset-at c .inside; small = omega (arith, p .small, p .narrow) }, p .width-is, p .few)
 
--- src/chains.rt:45:30
 enum-told-2 : tie.Need-enum-told-2
 enum-told-2 c = search needs
 
--- src/chains.rt:46:31
 enum-told-3 : tie.Need-enum-told-3
 enum-told-3 c = search needs
 
--- src/chains.rt:47:29
 enum-known-a : tie.Need-enum-known-a
 enum-known-a c = search needs
 
--- src/chains.rt:48:46
 add-next-letter-2 : tie.Need-add-next-letter-2
 add-next-letter-2 c = search needs
 
--- src/chains.rt:48:46
 add-next-letter-3 : tie.Need-add-next-letter-3
 add-next-letter-3 c = search needs
 
--- src/chains.rt:48:19
 next-letter-requires-2 : tie.Need-next-letter-requires-2
 next-letter-requires-2 c κs =
     let p = start (c .before .before .before .before) .pre in
     (record { narrow = omega (arith, p .narrow); inside = a-at (c .before) .inside; small = omega (arith, p .small, p .narrow) }, p .width-is, p .few)
 
--- src/chains.rt:49:38
 enum-told-4 : tie.Need-enum-told-4
 enum-told-4 c = search needs
 
--- src/chains.rt:50:39
 enum-told-5 : tie.Need-enum-told-5
 enum-told-5 c = search needs
 
--- src/chains.rt:51:37
 enum-known-b : tie.Need-enum-known-b
 enum-known-b c = search needs
 
--- src/chains.rt:37:1
 returns-2 : tie.Need-returns-2
 returns-2 c =
     let k = c .before .before .before in
     let s = start k in
     first-refused (s .args .image .now) (s .args .at) (s .args .size) (s .args .width) _ (offset-at k) 4 (subst (LetterDone (s .args .image .now) (s .args .at + 12) (s .args .size) (s .args .width)) (c .enum-told2 .given .1) (c .before .before .next-letter .ensures) 4 5)
 
--- src/chains.rt:37:1
 returns-3 : tie.Need-returns-3
 returns-3 c =
     let k = c .before .before .before in
     let s = start k in
     first-refused (s .args .image .now) (s .args .at) (s .args .size) (s .args .width) _ (offset-at k) 5 (subst (LetterDone (s .args .image .now) (s .args .at + 12) (s .args .size) (s .args .width)) (c .enum-told3 .given .1) (c .before .before .next-letter .ensures) 4 5)
 
--- src/chains.rt:37:1
 returns-4 : tie.Need-returns-4
 returns-4 c =
     let x = c .before .before .before .before in
@@ -112,7 +90,6 @@ returns-4 c =
     let s = start k in
     second-refused (s .args .image .now) (s .args .at) (s .args .size) (s .args .width) _ (offset-at k) _ (a-at x) 4 (subst (LetterDone (s .args .image .now) (s .args .at + 12 + s .args .width) (s .args .size) (s .args .width)) (c .enum-told4 .given .1) (c .before .before .next-letter2 .ensures) 4 5)
 
--- src/chains.rt:37:1
 returns-5 : tie.Need-returns-5
 returns-5 c =
     let x = c .before .before .before .before in
@@ -120,7 +97,6 @@ returns-5 c =
     let s = start k in
     second-refused (s .args .image .now) (s .args .at) (s .args .size) (s .args .width) _ (offset-at k) _ (a-at x) 5 (subst (LetterDone (s .args .image .now) (s .args .at + 12 + s .args .width) (s .args .size) (s .args .width)) (c .enum-told5 .given .1) (c .before .before .next-letter2 .ensures) 4 5)
 
--- src/chains.rt:37:1
 returns-6 : tie.Need-returns-6
 returns-6 c =
     let x = c .before .before .before .before .before in

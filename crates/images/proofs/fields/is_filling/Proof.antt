@@ -6,31 +6,22 @@ use Rattle.images.proofs.Reading.{filling-long, filling-short}
 use borrow.Author.Needs.{needs}
 use Rattle.images.proofs.fields.is_filling.Statement.{statement}
 use Rattle.images.proofs.fields.is_filling.Tie as tie
-use Rattle.images.proofs.fields.is_filling.Reads as reads
-use Rattle.images.proofs.fields.is_filling.Lts as lts
-use Rattle.bits.proofs.read_field.Reads as read-field-reads
 
--- src/fields.rt:53:9
 add-if1 : tie.Need-add-if1
 add-if1 c = search needs
 
--- src/fields.rt:54:9
 returns : tie.Need-returns
 returns c = sym (filling-long (c .before .before .args .image .now) (c .before .before .args .at) (omega arith))
 
--- src/fields.rt:56:17
 mul-width : tie.Need-mul-width
 mul-width c = search needs
 
--- src/fields.rt:56:17
 sub-width : tie.Need-sub-width
 sub-width c = search needs
 
--- src/fields.rt:57:5
 read-field-requires : tie.Need-read-field-requires
 read-field-requires c κs = search needs
 
--- src/fields.rt:49:1
 returns-2 : tie.Need-returns-2
 returns-2 c =
     let s = c .before .before .before in

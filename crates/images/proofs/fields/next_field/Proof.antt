@@ -4,27 +4,19 @@ use Rattle.images.proofs.Reading.{field-answered, field-ends}
 use borrow.Author.Needs.{needs}
 use Rattle.images.proofs.fields.next_field.Statement.{statement}
 use Rattle.images.proofs.fields.next_field.Tie as tie
-use Rattle.images.proofs.fields.next_field.Reads as reads
-use Rattle.images.proofs.fields.next_field.Lts as lts
-use Rattle.bits.proofs.read_field.Reads as read-field-reads
 
--- src/fields.rt:26:23
 add-if1 : tie.Need-add-if1
 add-if1 c = search needs
 
--- src/fields.rt:26:23
 add-if1-2 : tie.Need-add-if1-2
 add-if1-2 c = search needs
 
--- src/fields.rt:27:9
 returns : tie.Need-returns
 returns c = field-ends (c .before .before .args .image .now) (c .before .before .args .at) (c .before .before .args .width) (c .before .before .pre .inside) (omega arith)
 
--- src/fields.rt:29:18
 read-field-requires : tie.Need-read-field-requires
 read-field-requires c κs = search needs
 
--- src/fields.rt:22:1
 returns-2 : tie.Need-returns-2
 returns-2 c =
     let s = c .before .before .before in

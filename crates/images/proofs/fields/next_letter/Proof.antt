@@ -7,23 +7,16 @@ use Rattle.images.proofs.Reading.{letter-answered, letter-wrong, letter
 use borrow.Author.Needs.{needs}
 use Rattle.images.proofs.fields.next_letter.Statement.{statement}
 use Rattle.images.proofs.fields.next_letter.Tie as tie
-use Rattle.images.proofs.fields.next_letter.Reads as reads
-use Rattle.images.proofs.fields.next_letter.Lts as lts
-use Rattle.images.proofs.fields.next_field.Reads as next-field-reads
 
--- src/fields.rt:37:11
 next-field-requires : tie.Need-next-field-requires
 next-field-requires c κs = search needs
 
--- src/fields.rt:38:24
 enum-told : tie.Need-enum-told
 enum-told c = search needs
 
--- src/fields.rt:39:22
 enum-known-value : tie.Need-enum-known-value
 enum-known-value c = search needs
 
--- src/fields.rt:41:17
 returns : tie.Need-returns
 returns c =
     let s = c .before .before .before .before .before .before in
@@ -31,22 +24,18 @@ returns c =
     subst (FieldDone (s .args .image .now) (s .args .at) (s .args .width)) (c .before .before .value .given .1) (c .before .before .before .before .next-field .ensures) in
     letter-wrong (s .args .image .now) (s .args .at) (s .args .size) (s .args .width) (c .before .before .value .given .0 .0) (s .pre .1) f (c .if1 .taken)
 
--- src/fields.rt:43:34
 add-t8 : tie.Need-add-t8
 add-t8 c = search needs
 
--- src/fields.rt:43:33
 cast-t10 : tie.Need-cast-t10
 cast-t10 c = search needs
 
--- src/fields.rt:33:1
 returns-2 : tie.Need-returns-2
 returns-2 c =
     let s = c .before .before .before .before in
     letter-ends (s .args .image .now) (s .args .at) (s .args .size) (s .args .width) (s .pre .1)
     (subst (FieldDone (s .args .image .now) (s .args .at) (s .args .width)) (c .enum-told .given .1) (c .before .before .next-field .ensures))
 
--- src/fields.rt:33:1
 returns-3 : tie.Need-returns-3
 returns-3 c =
     let s = c .before .before .before .before .before .before in

@@ -11,9 +11,6 @@ use Rattle.model.specs.Plain.{namesLetter}
 use Rattle.images.proofs.Naming.{too-many, plain-accepted, plain-refused}
 use Rattle.images.proofs.plain.read_plain_program.Statement.{statement}
 use Rattle.images.proofs.plain.read_plain_program.Tie as tie
-use Rattle.images.proofs.plain.read_plain_program.Reads as reads
-use Rattle.images.proofs.plain.read_plain_program.Lts as lts
-use Rattle.images.proofs.writing.names_letter.Reads as names-letter-reads
 
 abbrev Inv-loop : tie.InvT-loop
 Inv-loop plain size i₀ i = (i ≤ length plain) × ((j : ℕ) → j < i → namesLetter size (getD plain j 0) ≡ true)
@@ -21,23 +18,18 @@ Inv-loop plain size i₀ i = (i ≤ length plain) × ((j : ℕ) → j < i → na
 abbrev μ-loop : tie.MeasureT-loop
 μ-loop plain size i₀ i = length plain - i
 
--- src/plain.rt:19:9
 returns : tie.Need-returns Inv-loop μ-loop
 returns c = too-many (c .before .before .args .plain .now) (c .before .before .args .size) (c .if1 .taken)
 
--- src/plain.rt:22:5
 loop-holds : tie.Need-loop-holds Inv-loop μ-loop
 loop-holds c = (omega arith, λ j h. absurd (omega arith))
 
--- src/plain.rt:23:35
 shared-slice-read-names-letter : tie.Need-shared-slice-read-names-letter Inv-loop μ-loop
 shared-slice-read-names-letter c = omega (arith, c .before .loop-test .taken)
 
--- src/plain.rt:23:13
 names-letter-requires : tie.Need-names-letter-requires Inv-loop μ-loop
 names-letter-requires c κs = search needs
 
--- src/plain.rt:24:13
 returns-2 : tie.Need-returns-2 Inv-loop μ-loop
 returns-2 c =
     let n = c .before in
@@ -45,22 +37,18 @@ returns-2 c =
     let s = l .before .before .before in
     plain-refused (s .args .plain .now) (s .args .size) (l .before .if1 .left) (l .loop .i) (n .before .before .loop-test .taken) (l .loop .inv .1) (sym (n .names-letter .ensures) ∙ not-true (n .names-letter .result) (c .if2 .taken))
 
--- src/plain.rt:26:9
 add-i : tie.Need-add-i Inv-loop μ-loop
 add-i c = omega (arith, c .before .before .before .loop-test .taken)
 
--- src/plain.rt:22:5
 loop-less : tie.Need-loop-less Inv-loop μ-loop
 loop-less c = omega (arith, c .before .before .before .loop-test .taken)
 
--- src/plain.rt:22:5
 loop-again : tie.Need-loop-again Inv-loop μ-loop
 loop-again c =
     let n = c .before in
     let l = n .before .before .before in
     (omega (arith, n .before .before .loop-test .taken), below-more _ _ (l .loop .inv .1) (sym (n .names-letter .ensures) ∙ not-false (n .names-letter .result) (c .if2 .left)))
 
--- src/plain.rt:15:1
 returns-3 : tie.Need-returns-3 Inv-loop μ-loop
 returns-3 c =
     let l = c .before in

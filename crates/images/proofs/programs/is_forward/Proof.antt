@@ -11,10 +11,6 @@ use Rattle.model.specs.Services.{isForward}
 use Rattle.images.proofs.Letters.{has-letter, count-small, count-of, forward-more, back-found, forward-all}
 use Rattle.images.proofs.programs.is_forward.Statement.{statement}
 use Rattle.images.proofs.programs.is_forward.Tie as tie
-use Rattle.images.proofs.programs.is_forward.Reads as reads
-use Rattle.images.proofs.programs.is_forward.Lts as lts
-use Rattle.bits.proofs.letter_width.Reads as letter-width-reads
-use Rattle.images.proofs.programs.letter_at.Reads as letter-at-reads
 
 abbrev Inv-loop : tie.InvT-loop
 Inv-loop image size count width i₀ i =
@@ -28,29 +24,23 @@ inside c w e =
     let s = c .before .before .before .before in
     omega (arith, c .loop-test .taken, count-of (s .args .image .now) (s .args .size) (s .args .count) (s .pre) w e)
 
--- src/programs.rt:95:17
 letter-width-requires : tie.Need-letter-width-requires Inv-loop μ-loop
 letter-width-requires c κs = (c .before .pre .some, c .before .pre .few)
 
--- src/programs.rt:95:17
 cast-width : tie.Need-cast-width Inv-loop μ-loop
 cast-width c = search needs
 
--- src/programs.rt:97:5
 loop-holds : tie.Need-loop-holds Inv-loop μ-loop
 loop-holds c = (omega arith, λ w e. refl)
 
--- src/programs.rt:98:42
 cast-letter-at : tie.Need-cast-letter-at Inv-loop μ-loop
 cast-letter-at c = omega (arith, c .loop-test .taken, c .before .before .before .before .fits .count)
 
--- src/programs.rt:98:12
 letter-at-requires : tie.Need-letter-at-requires Inv-loop μ-loop
 letter-at-requires c κs =
     let s = c .before .before .before .before in
     has-letter (s .args .image .now) (s .args .size) (s .args .count) (c .before .before .letter-width .result) (c .before .loop .i) (s .pre) (c .before .before .letter-width .ensures) (c .loop-test .taken)
 
--- src/programs.rt:99:13
 returns : tie.Need-returns Inv-loop μ-loop
 returns c = λ w e.
     let l = c .before .before .before in
@@ -58,15 +48,12 @@ returns c = λ w e.
     sym (back-found (s .args .image .now) (s .args .size) (s .pre .few) w e (l .loop .i) (inside (c .before .before) w e)
     (subst (λ x. 128 ≤ x) (c .before .letter-at .ensures w e) (c .if1 .taken)) (l .loop .inv .1 w e))
 
--- src/programs.rt:101:9
 add-i : tie.Need-add-i Inv-loop μ-loop
 add-i c = omega (arith, c .before .before .loop-test .taken, count-small (c .before .before .before .before .before .before .args .image .now) (c .before .before .before .before .before .before .args .size) (c .before .before .before .before .before .before .args .count) (c .before .before .before .before .before .before .pre))
 
--- src/programs.rt:97:5
 loop-less : tie.Need-loop-less Inv-loop μ-loop
 loop-less c = omega (arith, c .before .before .loop-test .taken)
 
--- src/programs.rt:97:5
 loop-again : tie.Need-loop-again Inv-loop μ-loop
 loop-again c =
     let l = c .before .before .before in
@@ -77,7 +64,6 @@ loop-again c =
           (subst (λ x. x < 128) (c .before .letter-at .ensures w e) (c .if1 .left)) (l .loop .inv .1 w e),
     )
 
--- src/programs.rt:91:1
 returns-2 : tie.Need-returns-2 Inv-loop μ-loop
 returns-2 c = λ w e.
     let l = c .before in

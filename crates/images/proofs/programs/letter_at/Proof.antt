@@ -7,56 +7,43 @@ use Rattle.images.proofs.Letters.{near, index-small, letter-before, let
 use borrow.Author.Needs.{needs}
 use Rattle.images.proofs.programs.letter_at.Statement.{statement}
 use Rattle.images.proofs.programs.letter_at.Tie as tie
-use Rattle.images.proofs.programs.letter_at.Reads as reads
-use Rattle.images.proofs.programs.letter_at.Lts as lts
-use Rattle.images.proofs.programs.next_signed.Reads as next-signed-reads
 
 bound : (c : tie.Start) → c .args .i * (1 + c .args .width) ≤ 20480
 bound c = near (c .args .i) (c .args .width) (index-small (c .args .image .now) (c .args .size) (c .args .width) (c .args .i) (c .pre)) (c .pre .narrow)
 
--- src/programs.rt:83:40
 add-next-signed : tie.Need-add-next-signed
 add-next-signed c = search needs
 
--- src/programs.rt:83:35
 mul-next-signed : tie.Need-mul-next-signed
 mul-next-signed c = omega (arith, bound (c .before))
 
--- src/programs.rt:83:30
 add-next-signed-2 : tie.Need-add-next-signed-2
 add-next-signed-2 c = omega (arith, bound (c .before))
 
--- src/programs.rt:83:11
 next-signed-requires : tie.Need-next-signed-requires
 next-signed-requires c κs = letter-before (c .before .args .image .now) (c .before .args .size) (c .before .args .width) (c .before .args .i) (c .before .pre)
 
--- src/programs.rt:84:27
 enum-known-x : tie.Need-enum-known-x
 enum-known-x c = search needs
 
--- src/programs.rt:85:30
 enum-told : tie.Need-enum-told
 enum-told c = search needs
 
--- src/programs.rt:86:31
 enum-told-2 : tie.Need-enum-told-2
 enum-told-2 c = search needs
 
--- src/programs.rt:79:1
 returns : tie.Need-returns
 returns c =
     let s = c .before .before .before .before .before in
     letter-answer (s .args .image .now) (s .args .size) (s .args .width) (s .args .i) (s .pre) (c .before .x .given .0 .0)
     (subst (SignedDone (s .args .image .now) (12 + s .args .i * (1 + s .args .width)) (s .args .size) (s .args .width)) (c .before .x .given .1) (c .before .before .before .next-signed .ensures))
 
--- src/programs.rt:79:1
 returns-2 : tie.Need-returns-2
 returns-2 c =
     let s = c .before .before .before .before in
     absurd (letter-stands (s .args .image .now) (s .args .size) (s .args .width) (s .args .i) (s .pre) 4
     (subst (SignedDone (s .args .image .now) (12 + s .args .i * (1 + s .args .width)) (s .args .size) (s .args .width)) (c .enum-told .given .1) (c .before .before .next-signed .ensures)))
 
--- src/programs.rt:79:1
 returns-3 : tie.Need-returns-3
 returns-3 c =
     let s = c .before .before .before .before in

@@ -7,10 +7,6 @@ use Rattle.images.proofs.Signed.{sign-ends, number-refused, signed-forw
 use borrow.Author.Needs.{needs}
 use Rattle.images.proofs.programs.next_signed.Statement.{statement}
 use Rattle.images.proofs.programs.next_signed.Tie as tie
-use Rattle.images.proofs.programs.next_signed.Reads as reads
-use Rattle.images.proofs.programs.next_signed.Lts as lts
-use Rattle.images.proofs.fields.next_field.Reads as next-field-reads
-use Rattle.images.proofs.fields.next_letter.Reads as next-letter-reads
 
 abbrev start : tie.After-known-told → tie.Start
 start c = c .before .before .before .before .before
@@ -25,72 +21,58 @@ letter-at c =
     let s = start (c .before .before .before) in
     subst (LetterDone (s .args .image .now) (s .args .at + 1) (s .args .size) (s .args .width)) (c .a .given .1) (c .before .before .next-letter .ensures)
 
--- src/programs.rt:31:30
 next-field-requires : tie.Need-next-field-requires
 next-field-requires c κs = search needs
 
--- src/programs.rt:31:22
 enum-known-sign : tie.Need-enum-known-sign
 enum-known-sign c = search needs
 
--- src/programs.rt:32:9
 enum-told : tie.Need-enum-told
 enum-told c = search needs
 
--- src/programs.rt:32:9
 returns : tie.Need-returns
 returns c =
     let s = c .before .before .before .before in
     sign-ends (s .args .image .now) (s .args .at) (s .args .size) (s .args .width)
     (subst (FieldDone (s .args .image .now) (s .args .at) 1) (c .enum-told .given .1) (c .before .before .next-field .ensures))
 
--- src/programs.rt:34:38
 add-next-letter : tie.Need-add-next-letter
 add-next-letter c = search needs
 
--- src/programs.rt:34:11
 next-letter-requires : tie.Need-next-letter-requires
 next-letter-requires c κs =
     let p = start c .pre in
     (record { narrow = omega (arith, p .narrow); inside = sign-at c .inside; small = omega (arith, p .small, p .narrow) }, p .width-is, p .few)
 
--- src/programs.rt:35:30
 enum-told-2 : tie.Need-enum-told-2
 enum-told-2 c = search needs
 
--- src/programs.rt:36:31
 enum-told-3 : tie.Need-enum-told-3
 enum-told-3 c = search needs
 
--- src/programs.rt:37:29
 enum-known-a : tie.Need-enum-known-a
 enum-known-a c = search needs
 
--- src/programs.rt:39:17
 returns-2 : tie.Need-returns-2
 returns-2 c =
     let s = start (c .before .before .before .before .before) in
     signed-forward (s .args .image .now) (s .args .at) (s .args .size) (s .args .width) _ (sign-at (c .before .before .before .before .before)) _ (letter-at (c .before .before)) (c .if1 .taken)
 
--- src/programs.rt:41:31
 add-t12 : tie.Need-add-t12
 add-t12 c = omega (arith, letter-at (c .before .before) .small, start (c .before .before .before .before .before) .pre .few)
 
--- src/programs.rt:27:1
 returns-3 : tie.Need-returns-3
 returns-3 c =
     let s = start (c .before .before .before) in
     number-refused (s .args .image .now) (s .args .at) (s .args .size) (s .args .width) _ (sign-at (c .before .before .before)) 4
     (subst (LetterDone (s .args .image .now) (s .args .at + 1) (s .args .size) (s .args .width)) (c .enum-told2 .given .1) (c .before .before .next-letter .ensures) 4 5)
 
--- src/programs.rt:27:1
 returns-4 : tie.Need-returns-4
 returns-4 c =
     let s = start (c .before .before .before) in
     number-refused (s .args .image .now) (s .args .at) (s .args .size) (s .args .width) _ (sign-at (c .before .before .before)) 5
     (subst (LetterDone (s .args .image .now) (s .args .at + 1) (s .args .size) (s .args .width)) (c .enum-told3 .given .1) (c .before .before .next-letter .ensures) 4 5)
 
--- src/programs.rt:27:1
 returns-5 : tie.Need-returns-5
 returns-5 c =
     let s = start (c .before .before .before .before .before) in

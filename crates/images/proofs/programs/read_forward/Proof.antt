@@ -5,10 +5,6 @@ use Rattle.images.proofs.Forward.{forward-refused, forward-read, back-r
 use borrow.Author.Needs.{needs}
 use Rattle.images.proofs.programs.read_forward.Statement.{statement}
 use Rattle.images.proofs.programs.read_forward.Tie as tie
-use Rattle.images.proofs.programs.read_forward.Reads as reads
-use Rattle.images.proofs.programs.read_forward.Lts as lts
-use Rattle.images.proofs.programs.is_forward.Reads as is-forward-reads
-use Rattle.images.proofs.programs.read_program.Reads as read-program-reads
 
 abbrev start : tie.After-known-told2 → tie.Start
 start c = c .before .before .before .before .before
@@ -16,35 +12,28 @@ start c = c .before .before .before .before .before
 program-of : (c : tie.After-known-told2) → ProgramOf (start c .args .image .now) (start c .args .size) (c .before .count .given .0 .0)
 program-of c = subst (ProgramDone (start c .args .image .now) (start c .args .size)) (c .before .count .given .1) (c .before .before .before .read-program .ensures)
 
--- src/programs.rt:125:11
 read-program-requires : tie.Need-read-program-requires
 read-program-requires c κs = search needs
 
--- src/programs.rt:126:30
 enum-known-refusal : tie.Need-enum-known-refusal
 enum-known-refusal c = search needs
 
--- src/programs.rt:127:32
 enum-known-count : tie.Need-enum-known-count
 enum-known-count c = search needs
 
--- src/programs.rt:128:16
 is-forward-requires : tie.Need-is-forward-requires
 is-forward-requires c κs = record { some = start c .pre .0; few = start c .pre .1; program = program-of c }
 
--- src/programs.rt:129:17
 returns : tie.Need-returns
 returns c =
     let k = c .before .before in
     forward-read (start k .args .image .now) (start k .args .size) (k .before .count .given .0 .0) (program-of k) (sym (c .before .is-forward .ensures (program-of k .word) (program-of k .read)) ∙ c .if1 .taken)
 
--- src/programs.rt:121:1
 returns-2 : tie.Need-returns-2
 returns-2 c =
     let s = c .before .before .before .before .before in
     forward-refused (s .args .image .now) (s .args .size) (c .before .refusal .given .0 .0) (subst (ProgramDone (s .args .image .now) (s .args .size)) (c .before .refusal .given .1) (c .before .before .before .read-program .ensures))
 
--- src/programs.rt:121:1
 returns-3 : tie.Need-returns-3
 returns-3 c =
     let k = c .before .before in

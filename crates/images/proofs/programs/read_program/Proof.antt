@@ -10,12 +10,6 @@ use Rattle.images.specs.Programs.{SignedDone, SignedAt}
 use Rattle.images.proofs.Validating.{Validated, count-ends, validated-none, validated-more, value-refused, whole-answered, whole-count, whole-tail, program-whole}
 use Rattle.images.proofs.programs.read_program.Statement.{statement}
 use Rattle.images.proofs.programs.read_program.Tie as tie
-use Rattle.images.proofs.programs.read_program.Reads as reads
-use Rattle.images.proofs.programs.read_program.Lts as lts
-use Rattle.bits.proofs.letter_width.Reads as letter-width-reads
-use Rattle.images.proofs.fields.is_filling.Reads as is-filling-reads
-use Rattle.images.proofs.fields.next_field.Reads as next-field-reads
-use Rattle.images.proofs.programs.next_signed.Reads as next-signed-reads
 
 abbrev Inv-loop : tie.InvT-loop
 Inv-loop image size count width at₀ i₀ at i = Validated (signedField size) 12 image count at i
@@ -35,37 +29,29 @@ narrow c = subst (λ n. n ≤ 4) (sym (c .letter-width .ensures)) (width-small (
 near : (c : tie.At-loop Inv-loop μ-loop) → c .loop .at ≤ 81912
 near c = omega (arith, c .loop .inv .near, c .loop .inv .some-left, count-at (c .before .before) .small)
 
--- src/programs.rt:50:31
 next-field-requires : tie.Need-next-field-requires Inv-loop μ-loop
 next-field-requires c κs = record { narrow = omega arith; inside = omega arith; small = omega arith }
 
--- src/programs.rt:50:22
 enum-known-count : tie.Need-enum-known-count Inv-loop μ-loop
 enum-known-count c = search needs
 
--- src/programs.rt:51:37
 enum-told : tie.Need-enum-told Inv-loop μ-loop
 enum-told c = search needs
 
--- src/programs.rt:51:9
 returns : tie.Need-returns Inv-loop μ-loop
 returns c =
     let s = c .before .before .before .before in
     program-whole (s .args .size) (s .args .image .now) ∙ count-ends (signedField (s .args .size)) 12 (s .args .image .now) (subst (FieldDone (s .args .image .now) 0 12) (c .enum-told .given .1) (c .before .before .next-field .ensures))
 
--- src/programs.rt:53:17
 letter-width-requires : tie.Need-letter-width-requires Inv-loop μ-loop
 letter-width-requires c κs = start c .pre
 
--- src/programs.rt:53:17
 cast-width : tie.Need-cast-width Inv-loop μ-loop
 cast-width c = search needs
 
--- src/programs.rt:56:5
 loop-holds : tie.Need-loop-holds Inv-loop μ-loop
 loop-holds c = validated-none (signedField (start (c .before) .args .size)) 12 (start (c .before) .args .image .now) (c .before .before .count .given .0 .0) (count-at (c .before))
 
--- src/programs.rt:57:15
 next-signed-requires : tie.Need-next-signed-requires Inv-loop μ-loop
 next-signed-requires c κs =
     let b = c .before .before in
@@ -80,11 +66,9 @@ next-signed-requires c κs =
       width-is = b .letter-width .ensures;
     }
 
--- src/programs.rt:58:62
 enum-told-2 : tie.Need-enum-told-2 Inv-loop μ-loop
 enum-told-2 c = search needs
 
--- src/programs.rt:58:34
 returns-2 : tie.Need-returns-2 Inv-loop μ-loop
 returns-2 c =
     let l = c .before .before .before .before in
@@ -92,11 +76,9 @@ returns-2 c =
     program-whole (s .args .size) (s .args .image .now) ∙ value-refused (signedField (s .args .size)) 12 (s .args .image .now) (l .before .before .before .count .given .0 .0) (count-at (l .before .before)) (l .loop .at) (l .loop .i) (l .loop .inv) 4 (c .before .before .before .loop-test .taken)
     (subst (SignedDone (s .args .image .now) (l .loop .at) (s .args .size) (l .before .letter-width .result)) (c .enum-told2 .given .1) (c .before .before .next-signed .ensures))
 
--- src/programs.rt:59:63
 enum-told-3 : tie.Need-enum-told-3 Inv-loop μ-loop
 enum-told-3 c = search needs
 
--- src/programs.rt:59:35
 returns-3 : tie.Need-returns-3 Inv-loop μ-loop
 returns-3 c =
     let l = c .before .before .before .before in
@@ -104,27 +86,21 @@ returns-3 c =
     program-whole (s .args .size) (s .args .image .now) ∙ value-refused (signedField (s .args .size)) 12 (s .args .image .now) (l .before .before .before .count .given .0 .0) (count-at (l .before .before)) (l .loop .at) (l .loop .i) (l .loop .inv) 5 (c .before .before .before .loop-test .taken)
     (subst (SignedDone (s .args .image .now) (l .loop .at) (s .args .size) (l .before .letter-width .result)) (c .enum-told3 .given .1) (c .before .before .next-signed .ensures))
 
--- src/programs.rt:61:22
 enum-told-4 : tie.Need-enum-told-4 Inv-loop μ-loop
 enum-told-4 c = search needs
 
--- src/programs.rt:61:22
 add-at : tie.Need-add-at Inv-loop μ-loop
 add-at c = omega (arith, near (c .before .before .before .before))
 
--- src/programs.rt:61:22
 add-at-2 : tie.Need-add-at-2 Inv-loop μ-loop
 add-at-2 c = omega (arith, near (c .before .before .before .before), narrow (c .before .before .before .before .before))
 
--- src/programs.rt:62:17
 add-i : tie.Need-add-i Inv-loop μ-loop
 add-i c = omega (arith, c .before .before .before .loop-test .taken, count-at (c .before .before .before .before .before .before) .small)
 
--- src/programs.rt:56:5
 loop-less : tie.Need-loop-less Inv-loop μ-loop
 loop-less c = omega (arith, c .before .before .before .loop-test .taken)
 
--- src/programs.rt:56:5
 loop-again : tie.Need-loop-again Inv-loop μ-loop
 loop-again c =
     let l = c .before .before .before .before in
@@ -134,11 +110,9 @@ loop-again c =
     validated-more (signedField (s .args .size)) 12 (s .args .image .now) (l .before .before .before .count .given .0 .0) (count-at (l .before .before)) (l .loop .at) (l .loop .i) (l .loop .inv) (x .letter) (l .loop .at + 1 + l .before .letter-width .result)
     (omega (arith, narrow (l .before))) (x .inside) (c .before .before .before .loop-test .taken) (x .read)
 
--- src/programs.rt:66:8
 is-filling-requires : tie.Need-is-filling-requires Inv-loop μ-loop
 is-filling-requires c κs = record { narrow = omega arith; inside = c .before .loop .inv .inside; small = omega (arith, near (c .before)) }
 
--- src/programs.rt:46:1
 returns-4 : tie.Need-returns-4 Inv-loop μ-loop
 returns-4 c =
     let l = c .before .before .before in
@@ -149,7 +123,6 @@ returns-4 c =
       count-is = whole-count (signedField (s .args .size)) 12 (s .args .image .now) (l .before .before .before .count .given .0 .0) (count-at (l .before .before)) (l .loop .at) (l .loop .i) (l .loop .inv) (c .before .before .loop-test .left);
     }
 
--- src/programs.rt:46:1
 returns-5 : tie.Need-returns-5 Inv-loop μ-loop
 returns-5 c =
     let l = c .before .before .before in

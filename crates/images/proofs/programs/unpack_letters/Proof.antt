@@ -12,10 +12,6 @@ use Rattle.model.specs.Plain.{plainProgram}
 use Rattle.images.proofs.Letters.{has-letter, count-small, count-of, unpack-more, unpack-all}
 use Rattle.images.proofs.programs.unpack_letters.Statement.{statement}
 use Rattle.images.proofs.programs.unpack_letters.Tie as tie
-use Rattle.images.proofs.programs.unpack_letters.Reads as reads
-use Rattle.images.proofs.programs.unpack_letters.Lts as lts
-use Rattle.bits.proofs.letter_width.Reads as letter-width-reads
-use Rattle.images.proofs.programs.letter_at.Reads as letter-at-reads
 
 abbrev Inv-loop : tie.InvT-loop
 Inv-loop image size count area₀ at width i₀ area i =
@@ -24,51 +20,40 @@ Inv-loop image size count area₀ at width i₀ area i =
 abbrev μ-loop : tie.MeasureT-loop
 μ-loop image size count area₀ at width i₀ area i = count - i
 
--- src/programs.rt:112:17
 letter-width-requires : tie.Need-letter-width-requires Inv-loop μ-loop
 letter-width-requires c κs = (c .before .before .pre .0 .some, c .before .before .pre .0 .few)
 
--- src/programs.rt:112:17
 cast-width : tie.Need-cast-width Inv-loop μ-loop
 cast-width c = search needs
 
--- src/programs.rt:114:5
 loop-holds : tie.Need-loop-holds Inv-loop μ-loop
 loop-holds c = (omega arith, refl, λ w e. paste-zero (c .before .before .before .args .area .now) (c .before .before .before .args .at) (plainProgram w))
 
--- src/programs.rt:115:65
 cast-letter-at : tie.Need-cast-letter-at Inv-loop μ-loop
 cast-letter-at c = omega (arith, c .loop-test .taken, c .before .before .before .before .before .fits .count)
 
--- src/programs.rt:115:35
 letter-at-requires : tie.Need-letter-at-requires Inv-loop μ-loop
 letter-at-requires c κs =
     let s = c .before .before .before .before .before in
     has-letter (s .args .image .now) (s .args .size) (s .args .count) (c .before .before .letter-width .result) (c .before .loop .i) (s .pre .0) (c .before .before .letter-width .ensures) (c .loop-test .taken)
 
--- src/programs.rt:115:20
 cast-area : tie.Need-cast-area Inv-loop μ-loop
 cast-area c = omega (arith, c .before .loop-test .taken, c .before .before .before .before .before .before .fits .count)
 
--- src/programs.rt:115:14
 add-area : tie.Need-add-area Inv-loop μ-loop
 add-area c = omega (arith, c .before .loop-test .taken, c .before .before .before .before .before .before .pre .1, c .before .before .before .before .before .before .good .1)
 
--- src/programs.rt:115:9
 slice-write-area : tie.Need-slice-write-area Inv-loop μ-loop
 slice-write-area c = omega (arith, c .before .loop-test .taken, c .before .before .before .before .before .before .pre .1, c .before .before .loop .inv .1)
 
--- src/programs.rt:116:9
 add-i : tie.Need-add-i Inv-loop μ-loop
 add-i c =
     let s = c .before .before .before .before .before .before in
     omega (arith, c .before .loop-test .taken, count-small (s .args .image .now) (s .args .size) (s .args .count) (s .pre .0))
 
--- src/programs.rt:114:5
 loop-less : tie.Need-loop-less Inv-loop μ-loop
 loop-less c = omega (arith, c .before .loop-test .taken)
 
--- src/programs.rt:114:5
 loop-again : tie.Need-loop-again Inv-loop μ-loop
 loop-again c =
     let l = c .before .before in
@@ -82,11 +67,9 @@ loop-again c =
           ∙ unpack-more (s .args .area .now) (s .args .at) w (l .loop .i) (omega (arith, s .pre .1)) (omega (arith, c .before .loop-test .taken))),
     )
 
--- src/programs.rt:107:1
 same-length : tie.Need-same-length Inv-loop μ-loop
 same-length c = c .before .loop .inv .1
 
--- src/programs.rt:107:1
 returns : tie.Need-returns Inv-loop μ-loop
 returns c =
     let l = c .before in

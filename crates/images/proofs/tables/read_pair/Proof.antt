@@ -10,11 +10,6 @@ use Rattle.images.proofs.Pairs.{bit-ends, cell-inside, back-inside, pai
 use borrow.Author.Needs.{needs}
 use Rattle.images.proofs.tables.read_pair.Statement.{statement}
 use Rattle.images.proofs.tables.read_pair.Tie as tie
-use Rattle.images.proofs.tables.read_pair.Reads as reads
-use Rattle.images.proofs.tables.read_pair.Lts as lts
-use Rattle.images.proofs.fields.next_field.Reads as next-field-reads
-use Rattle.images.proofs.tables.cell_of.Reads as cell-of-reads
-use Rattle.images.proofs.tables.read_word.Reads as read-word-reads
 
 abbrev start : tie.After-known-told → tie.Start
 start c = c .before .before .before .before .before .before
@@ -38,49 +33,38 @@ first-read c =
     subst (WordDone (s .args .image .now) (s .args .at + 1) (s .args .size) (s .args .cells .now) (cellAt (s .args .a) (s .args .b)) (w .read-word .last .1 .1 .1 .1 .0))
     (c .next .given .1) (first-at w)
 
--- src/tables.rt:68:29
 next-field-requires : tie.Need-next-field-requires
 next-field-requires c κs = search needs
 
--- src/tables.rt:68:22
 enum-known-bit : tie.Need-enum-known-bit
 enum-known-bit c = search needs
 
--- src/tables.rt:69:9
 enum-told : tie.Need-enum-told
 enum-told c = search needs
 
--- src/tables.rt:69:9
 returns : tie.Need-returns
 returns c =
     let s = c .before .before .before .before .before in
-    (refl, bit-ends (s .args .image .now) (s .args .at) (s .args .size) (s .args .cells .now) (s .args .a) (s .args .b) (s .pre .1) (s .pre .2) (s .pre .3) (subst (FieldDone (s .args .image .now) (s .args .at) 1) (c .enum-told .given .1) (c .before .before .next-field .ensures)))
+    (refl, bit-ends (s .args .image .now) (s .args .at) (s .args .size) (subst (FieldDone (s .args .image .now) (s .args .at) 1) (c .enum-told .given .1) (c .before .before .next-field .ensures)))
 
--- src/tables.rt:71:9
 cell-of-requires : tie.Need-cell-of-requires
 cell-of-requires c κs = search needs
 
--- src/tables.rt:72:9
 cell-of-requires-2 : tie.Need-cell-of-requires-2
 cell-of-requires-2 c κs = search needs
 
--- src/tables.rt:74:9
 slice-write-cells : tie.Need-slice-write-cells
 slice-write-cells c = search needs
 
--- src/tables.rt:75:9
 slice-write-cells-2 : tie.Need-slice-write-cells-2
 slice-write-cells-2 c = simp length-set (omega (arith, c .before .cell-of2 .ensures, start (c .before .before .before) .pre .1 .a-small, start (c .before .before .before) .pre .1 .b-small, start (c .before .before .before) .pre .3))
 
--- src/tables.rt:76:32
 add-t16 : tie.Need-add-t16
 add-t16 c = search needs
 
--- src/tables.rt:76:9
 same-length : tie.Need-same-length
 same-length c = search needs
 
--- src/tables.rt:76:9
 returns-2 : tie.Need-returns-2
 returns-2 c =
     let s = start (c .before .before .before) in (
@@ -90,33 +74,27 @@ returns-2 c =
           (pair-undefined (s .args .image .now) (s .args .at) (s .args .size) (s .args .cells .now) (s .args .a) (s .args .b) (s .pre .1) (s .pre .2) (s .pre .3) (c .before .before .before .before .bit .given .0 .0) (bit-at (c .before .before .before)) (c .if1 .taken))),
     )
 
--- src/tables.rt:78:28
 add-read-word : tie.Need-add-read-word
 add-read-word c = search needs
 
--- src/tables.rt:78:11
 read-word-requires : tie.Need-read-word-requires
 read-word-requires c κs =
     let e = c .before in
     let s = start (e .before .before .before) in
     let p = s .pre .0 in (
       record { inside = bit-at (e .before .before .before) .inside; small = omega (arith, s .pre .4); some = p .some; few = p .few; narrow = p .narrow; width-is = p .width-is },
-      omega (arith, e .before .before .cell-of .ensures, cell-inside (s .args .image .now) (s .args .at) (s .args .size) (s .args .cells .now) (s .args .a) (s .args .b) (s .pre .1) (s .pre .2) (s .pre .3), s .pre .3),
+      omega (arith, e .before .before .cell-of .ensures, cell-inside (s .args .size) (s .args .cells .now) (s .args .a) (s .args .b) (s .pre .1) (s .pre .2) (s .pre .3), s .pre .3),
     )
 
--- src/tables.rt:79:28
 enum-told-2 : tie.Need-enum-told-2
 enum-told-2 c = search needs
 
--- src/tables.rt:80:29
 enum-told-3 : tie.Need-enum-told-3
 enum-told-3 c = search needs
 
--- src/tables.rt:81:25
 enum-known-next : tie.Need-enum-known-next
 enum-known-next c = search needs
 
--- src/tables.rt:81:34
 read-word-requires-2 : tie.Need-read-word-requires-2
 read-word-requires-2 c κs =
     let n = c .before .before in
@@ -125,14 +103,12 @@ read-word-requires-2 c κs =
     let s = start k in
     let p = s .pre .0 in (
       record { inside = first-read n .position .inside; small = omega (arith, s .pre .4, first-read n .position .near); some = p .some; few = p .few; narrow = p .narrow; width-is = p .width-is },
-      omega (arith, w .before .before .before .cell-of2 .ensures, back-inside (s .args .image .now) (s .args .at) (s .args .size) (s .args .cells .now) (s .args .a) (s .args .b) (s .pre .1) (s .pre .2) (s .pre .3), s .pre .3, w .read-word .ensures .0),
+      omega (arith, w .before .before .before .cell-of2 .ensures, back-inside (s .args .size) (s .args .cells .now) (s .args .a) (s .args .b) (s .pre .1) (s .pre .2) (s .pre .3), s .pre .3, w .read-word .ensures .0),
     )
 
--- src/tables.rt:63:1
 same-length-2 : tie.Need-same-length-2
 same-length-2 c = search needs
 
--- src/tables.rt:63:1
 returns-3 : tie.Need-returns-3
 returns-3 c =
     let w = c .before .before .before .before in
@@ -143,11 +119,9 @@ returns-3 c =
           (subst (WordDone (s .args .image .now) (s .args .at + 1) (s .args .size) (s .args .cells .now) (cellAt (s .args .a) (s .args .b)) (w .read-word .last .1 .1 .1 .1 .0)) (c .enum-told2 .given .1) (first-at w)),
     )
 
--- src/tables.rt:63:1
 same-length-3 : tie.Need-same-length-3
 same-length-3 c = search needs
 
--- src/tables.rt:63:1
 returns-4 : tie.Need-returns-4
 returns-4 c =
     let w = c .before .before .before .before in
@@ -158,11 +132,9 @@ returns-4 c =
           (subst (WordDone (s .args .image .now) (s .args .at + 1) (s .args .size) (s .args .cells .now) (cellAt (s .args .a) (s .args .b)) (w .read-word .last .1 .1 .1 .1 .0)) (c .enum-told3 .given .1) (first-at w)),
     )
 
--- src/tables.rt:63:1
 same-length-4 : tie.Need-same-length-4
 same-length-4 c = search needs
 
--- src/tables.rt:63:1
 returns-5 : tie.Need-returns-5
 returns-5 c =
     let v = c .before .before in

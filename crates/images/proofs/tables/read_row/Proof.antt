@@ -1,19 +1,18 @@
 -- `images::read_row` meets its contract. The loop's invariant: the pairs read stand in their cells, and the rest of the row is left.
 use mathlib.Core.Path.{_≡_, refl, sym, ap, subst, _∙_}
-use Prim.Native.Nat.{ℕ, _+_, _-_, _≤_, _<_}
+use Prim.Native.Nat.{ℕ, _+_, _-_, _*_, _≤_, _<_}
 use native.Mathlib.Omega.{arith}
 use borrow.Author.Needs.{needs}
 use lib.ListN.{length}
+use Rattle.model.specs.Images.{pairField}
+use Rattle.images.specs.Fields.{from}
 use Rattle.images.specs.Tables.{PairDone}
 use Rattle.images.proofs.Rows.{RowFilled, row-none, row-more, pair-letters, pair-refused, row-answered}
 use Rattle.images.proofs.tables.read_row.Statement.{statement}
 use Rattle.images.proofs.tables.read_row.Tie as tie
-use Rattle.images.proofs.tables.read_row.Reads as reads
-use Rattle.images.proofs.tables.read_row.Lts as lts
-use Rattle.images.proofs.tables.read_pair.Reads as read-pair-reads
 
 abbrev Inv-loop : tie.InvT-loop
-Inv-loop image at size width cells₀ a next₀ b₀ cells next b = RowFilled image at size cells₀ a cells next b
+Inv-loop image at size width cells₀ a next₀ b₀ cells next b = RowFilled (pairField size) (from image) (8 * length image) at size cells₀ a cells next b
 
 abbrev μ-loop : tie.MeasureT-loop
 μ-loop image at size width cells₀ a next₀ b₀ cells next b = size + 1 - b
@@ -27,17 +26,14 @@ near c = omega (arith, c .before .loop .inv .near, c .before .loop .inv .above, 
 returned : (c : tie.After-read-pair Inv-loop μ-loop) → length (c .read-pair .last .1 .1 .1 .1 .0) ≡ length (start (c .before .before .before) .args .cells .now)
 returned c = c .read-pair .ensures .0 ∙ c .before .before .before .loop .inv .same-length
 
--- src/tables.rt:92:17
 add-b : tie.Need-add-b Inv-loop μ-loop
 add-b c = omega (arith, c .before .before .pre .2, c .before .before .pre .0 .few)
 
--- src/tables.rt:93:5
 loop-holds : tie.Need-loop-holds Inv-loop μ-loop
 loop-holds c =
     let s = c .before .before in
-    row-none (s .args .image .now) (s .args .at) (s .args .size) (s .args .cells .now) (s .args .a) (s .pre .0 .inside) (s .pre .1) (s .pre .2) (s .pre .0 .few)
+    row-none (pairField (s .args .size)) (from (s .args .image .now)) (8 * length (s .args .image .now)) (s .args .at) (s .args .size) (s .args .cells .now) (s .args .a) (s .pre .0 .inside) (s .pre .1) (s .pre .2) (s .pre .0 .few)
 
--- src/tables.rt:94:15
 read-pair-requires : tie.Need-read-pair-requires Inv-loop μ-loop
 read-pair-requires c κs =
     let l = c .before .before in
@@ -45,79 +41,67 @@ read-pair-requires c κs =
     let p = s .pre .0 in
     let test : l .loop .b ≤ s .args .size = c .before .loop-test .taken in (
       record { inside = l .loop .inv .inside; small = omega (arith, near (c .before), s .pre .4); some = p .some; few = p .few; narrow = p .narrow; width-is = p .width-is },
-      pair-letters (s .args .image .now) (s .args .at) (s .args .size) (s .args .cells .now) (s .args .a) (s .pre .0 .inside) (s .pre .1) (s .pre .2) (s .pre .0 .few) (l .loop .cells) (l .loop .next) (l .loop .b) (l .loop .inv) test,
+      pair-letters (pairField (s .args .size)) (from (s .args .image .now)) (8 * length (s .args .image .now)) (s .args .at) (s .args .size) (s .args .cells .now) (s .args .a) (s .pre .0 .inside) (s .pre .1) (s .pre .2) (s .pre .0 .few) (l .loop .cells) (l .loop .next) (l .loop .b) (l .loop .inv) test,
       l .loop .inv .above,
       l .loop .inv .same-length ∙ s .pre .3,
       omega (arith, near (c .before), s .pre .4),
     )
 
--- src/tables.rt:95:32
 enum-told : tie.Need-enum-told Inv-loop μ-loop
 enum-told c = search needs
 
--- src/tables.rt:95:32
 same-length : tie.Need-same-length Inv-loop μ-loop
 same-length c = returned (c .before .before .before .before)
 
--- src/tables.rt:95:32
 returns : tie.Need-returns Inv-loop μ-loop
 returns c =
     let r = c .before .before .before .before in
     let l = r .before .before .before in
     let s = start l in
-    (returned r, pair-refused (s .args .image .now) (s .args .at) (s .args .size) (s .args .cells .now) (s .args .a) (s .pre .0 .inside) (s .pre .1) (s .pre .2) (s .pre .0 .few) (l .loop .cells) (l .loop .next) (l .loop .b) (l .loop .inv) 1 (r .before .before .loop-test .taken) (subst (PairDone (s .args .image .now) (l .loop .next) (s .args .size) (l .loop .cells) (s .args .a) (l .loop .b) (r .read-pair .last .1 .1 .1 .1 .0)) (c .enum-told .given .1) (r .read-pair .ensures .1)))
+    (returned r, pair-refused (pairField (s .args .size)) (from (s .args .image .now)) (8 * length (s .args .image .now)) (s .args .at) (s .args .size) (s .args .cells .now) (s .args .a) (s .pre .0 .inside) (s .pre .1) (s .pre .2) (s .pre .0 .few) (l .loop .cells) (l .loop .next) (l .loop .b) (l .loop .inv) 1 (r .before .before .loop-test .taken) (subst (PairDone (s .args .image .now) (l .loop .next) (s .args .size) (l .loop .cells) (s .args .a) (l .loop .b) (r .read-pair .last .1 .1 .1 .1 .0)) (c .enum-told .given .1) (r .read-pair .ensures .1)))
 
--- src/tables.rt:96:33
 enum-told-2 : tie.Need-enum-told-2 Inv-loop μ-loop
 enum-told-2 c = search needs
 
--- src/tables.rt:96:33
 same-length-2 : tie.Need-same-length-2 Inv-loop μ-loop
 same-length-2 c = returned (c .before .before .before .before)
 
--- src/tables.rt:96:33
 returns-2 : tie.Need-returns-2 Inv-loop μ-loop
 returns-2 c =
     let r = c .before .before .before .before in
     let l = r .before .before .before in
     let s = start l in
-    (returned r, pair-refused (s .args .image .now) (s .args .at) (s .args .size) (s .args .cells .now) (s .args .a) (s .pre .0 .inside) (s .pre .1) (s .pre .2) (s .pre .0 .few) (l .loop .cells) (l .loop .next) (l .loop .b) (l .loop .inv) 2 (r .before .before .loop-test .taken) (subst (PairDone (s .args .image .now) (l .loop .next) (s .args .size) (l .loop .cells) (s .args .a) (l .loop .b) (r .read-pair .last .1 .1 .1 .1 .0)) (c .enum-told2 .given .1) (r .read-pair .ensures .1)))
+    (returned r, pair-refused (pairField (s .args .size)) (from (s .args .image .now)) (8 * length (s .args .image .now)) (s .args .at) (s .args .size) (s .args .cells .now) (s .args .a) (s .pre .0 .inside) (s .pre .1) (s .pre .2) (s .pre .0 .few) (l .loop .cells) (l .loop .next) (l .loop .b) (l .loop .inv) 2 (r .before .before .loop-test .taken) (subst (PairDone (s .args .image .now) (l .loop .next) (s .args .size) (l .loop .cells) (s .args .a) (l .loop .b) (r .read-pair .last .1 .1 .1 .1 .0)) (c .enum-told2 .given .1) (r .read-pair .ensures .1)))
 
--- src/tables.rt:97:29
 enum-known-after : tie.Need-enum-known-after Inv-loop μ-loop
 enum-known-after c = search needs
 
--- src/tables.rt:99:17
 add-b-2 : tie.Need-add-b-2 Inv-loop μ-loop
 add-b-2 c =
     let r = c .before .before .before .before .before in
     omega (arith, r .before .before .loop-test .taken, start (r .before .before .before) .pre .0 .few)
 
--- src/tables.rt:93:5
 loop-less : tie.Need-loop-less Inv-loop μ-loop
 loop-less c =
     let r = c .before .before .before .before .before in
     omega (arith, r .before .before .loop-test .taken)
 
--- src/tables.rt:93:5
 loop-again : tie.Need-loop-again Inv-loop μ-loop
 loop-again c =
     let r = c .before .before .before .before .before in
     let l = r .before .before .before in
     let s = start l in
-    row-more (s .args .image .now) (s .args .at) (s .args .size) (s .args .cells .now) (s .args .a) (s .pre .0 .inside) (s .pre .1) (s .pre .2) (s .pre .0 .few) (l .loop .cells) (l .loop .next) (l .loop .b) (l .loop .inv) (r .before .before .loop-test .taken) (r .read-pair .last .1 .1 .1 .1 .0) (c .before .after .given .0 .0) (r .read-pair .ensures .0)
+    row-more (pairField (s .args .size)) (from (s .args .image .now)) (8 * length (s .args .image .now)) (s .args .at) (s .args .size) (s .args .cells .now) (s .args .a) (s .pre .0 .inside) (s .pre .1) (s .pre .2) (s .pre .0 .few) (l .loop .cells) (l .loop .next) (l .loop .b) (l .loop .inv) (r .before .before .loop-test .taken) (r .read-pair .last .1 .1 .1 .1 .0) (c .before .after .given .0 .0) (r .read-pair .ensures .0)
     (subst (PairDone (s .args .image .now) (l .loop .next) (s .args .size) (l .loop .cells) (s .args .a) (l .loop .b) (r .read-pair .last .1 .1 .1 .1 .0)) (c .before .after .given .1) (r .read-pair .ensures .1))
 
--- src/tables.rt:86:1
 same-length-3 : tie.Need-same-length-3 Inv-loop μ-loop
 same-length-3 c = c .before .loop .inv .same-length
 
--- src/tables.rt:86:1
 returns-3 : tie.Need-returns-3 Inv-loop μ-loop
 returns-3 c =
     let l = c .before in
     let s = start l in
-    (l .loop .inv .same-length, row-answered (s .args .image .now) (s .args .at) (s .args .size) (s .args .cells .now) (s .args .a) (s .pre .0 .inside) (s .pre .1) (s .pre .2) (s .pre .0 .few) (l .loop .cells) (l .loop .next) (l .loop .b) (l .loop .inv) (c .loop-test .left))
+    (l .loop .inv .same-length, row-answered (pairField (s .args .size)) (from (s .args .image .now)) (8 * length (s .args .image .now)) (s .args .at) (s .args .size) (s .args .cells .now) (s .args .a) (s .pre .0 .inside) (s .pre .1) (s .pre .2) (s .pre .0 .few) (l .loop .cells) (l .loop .next) (l .loop .b) (l .loop .inv) (c .loop-test .left))
 
 pub read-row-spec : {M : Type 1} → statement M
 read-row-spec =

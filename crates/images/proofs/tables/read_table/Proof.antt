@@ -1,24 +1,19 @@
 -- `images::read_table` meets its contract. The loop's invariant: the rows read stand in their cells, and the rest of the table is left.
 use mathlib.Core.Path.{_≡_, refl, sym, ap, subst, _∙_}
-use Prim.Native.Nat.{ℕ, _+_, _-_, _≤_, _<_}
+use Prim.Native.Nat.{ℕ, _+_, _-_, _*_, _≤_, _<_}
 use native.Mathlib.Omega.{arith}
 use borrow.Author.Needs.{needs}
 use lib.ListN.{length}
+use Rattle.model.specs.Images.{pairField}
 use Rattle.bits.proofs.Width.{width-small}
-use Rattle.images.specs.Fields.{FieldDone, FieldAt}
+use Rattle.images.specs.Fields.{FieldDone, FieldAt, from}
 use Rattle.images.specs.Tables.{RowDone}
-use Rattle.images.proofs.Rows.{RowsFilled, head-ends, rows-none, rows-more, row-refused, table-answered, table-tail}
+use Rattle.images.proofs.Rows.{RowsFilled, head-ends, image-rows-none, image-rows-more, row-refused, table-answered, table-tail}
 use Rattle.images.proofs.tables.read_table.Statement.{statement}
 use Rattle.images.proofs.tables.read_table.Tie as tie
-use Rattle.images.proofs.tables.read_table.Reads as reads
-use Rattle.images.proofs.tables.read_table.Lts as lts
-use Rattle.bits.proofs.letter_width.Reads as letter-width-reads
-use Rattle.images.proofs.fields.is_filling.Reads as is-filling-reads
-use Rattle.images.proofs.fields.next_field.Reads as next-field-reads
-use Rattle.images.proofs.tables.read_row.Reads as read-row-reads
 
 abbrev Inv-loop : tie.InvT-loop
-Inv-loop image cells₀ head size width at₀ a₀ cells at a = RowsFilled image size cells at a
+Inv-loop image cells₀ head size width at₀ a₀ cells at a = RowsFilled (pairField size) (from image) (8 * length image) 4 size cells at a
 
 abbrev μ-loop : tie.MeasureT-loop
 μ-loop image cells₀ head size width at₀ a₀ cells at a = size + 1 - a
@@ -38,45 +33,35 @@ kept c = c .loop .inv .full ∙ sym (start (c .before .before) .pre)
 returned : (c : tie.After-read-row Inv-loop μ-loop) → length (c .read-row .last .1 .1 .1 .1 .0) ≡ length (start (c .before .before .before .before .before) .args .cells .now)
 returned c = c .read-row .ensures .0 ∙ kept (c .before .before .before)
 
--- src/tables.rt:112:30
 next-field-requires : tie.Need-next-field-requires Inv-loop μ-loop
 next-field-requires c κs = record { narrow = omega arith; inside = omega arith; small = omega arith }
 
--- src/tables.rt:112:22
 enum-known-head : tie.Need-enum-known-head Inv-loop μ-loop
 enum-known-head c = search needs
 
--- src/tables.rt:113:35
 enum-told : tie.Need-enum-told Inv-loop μ-loop
 enum-told c = search needs
 
--- src/tables.rt:113:9
 returns : tie.Need-returns Inv-loop μ-loop
 returns c =
     let s = c .before .before .before .before .before in
     (refl, head-ends (s .args .image .now) (subst (FieldDone (s .args .image .now) 0 4) (c .enum-told .given .1) (c .before .before .next-field .ensures)))
 
--- src/tables.rt:115:17
 add-size : tie.Need-add-size Inv-loop μ-loop
 add-size c = omega (arith, head-at c .small)
 
--- src/tables.rt:115:16
 cast-size : tie.Need-cast-size Inv-loop μ-loop
 cast-size c = omega (arith, head-at c .small)
 
--- src/tables.rt:116:17
 letter-width-requires : tie.Need-letter-width-requires Inv-loop μ-loop
 letter-width-requires c κs = (omega arith, omega (arith, head-at c .small))
 
--- src/tables.rt:116:17
 cast-width : tie.Need-cast-width Inv-loop μ-loop
 cast-width c = search needs
 
--- src/tables.rt:119:5
 loop-holds : tie.Need-loop-holds Inv-loop μ-loop
-loop-holds c = rows-none (start (c .before) .args .image .now) (c .before .before .head .given .0 .0) (c .before .before .head .given .0 .0 + 1) (head-at (c .before)) refl (start (c .before) .args .cells .now) (start (c .before) .pre)
+loop-holds c = image-rows-none (start (c .before) .args .image .now) (c .before .before .head .given .0 .0) (c .before .before .head .given .0 .0 + 1) (head-at (c .before)) refl (start (c .before) .args .cells .now) (start (c .before) .pre)
 
--- src/tables.rt:120:15
 read-row-requires : tie.Need-read-row-requires Inv-loop μ-loop
 read-row-requires c κs =
     let l = c .before .before in
@@ -95,15 +80,12 @@ read-row-requires c κs =
       omega (arith, near l),
     )
 
--- src/tables.rt:121:58
 enum-told-2 : tie.Need-enum-told-2 Inv-loop μ-loop
 enum-told-2 c = search needs
 
--- src/tables.rt:121:32
 same-length : tie.Need-same-length Inv-loop μ-loop
 same-length c = returned (c .before .before .before .before)
 
--- src/tables.rt:121:32
 returns-2 : tie.Need-returns-2 Inv-loop μ-loop
 returns-2 c =
     let r = c .before .before .before .before in
@@ -111,15 +93,12 @@ returns-2 c =
     let s = start (l .before .before) in
     (returned r, row-refused (s .args .image .now) (l .before .before .before .head .given .0 .0) (l .before .before .before .head .given .0 .0 + 1) (head-at (l .before .before)) refl (l .loop .cells) (l .loop .at) (l .loop .a) (l .loop .inv) 1 (r .before .before .loop-test .taken) (subst (RowDone (s .args .image .now) (l .loop .at) (l .before .before .before .head .given .0 .0 + 1) (l .loop .cells) (l .loop .a) (r .read-row .last .1 .1 .1 .1 .0)) (c .enum-told2 .given .1) (r .read-row .ensures .1)))
 
--- src/tables.rt:122:59
 enum-told-3 : tie.Need-enum-told-3 Inv-loop μ-loop
 enum-told-3 c = search needs
 
--- src/tables.rt:122:33
 same-length-2 : tie.Need-same-length-2 Inv-loop μ-loop
 same-length-2 c = returned (c .before .before .before .before)
 
--- src/tables.rt:122:33
 returns-3 : tie.Need-returns-3 Inv-loop μ-loop
 returns-3 c =
     let r = c .before .before .before .before in
@@ -127,51 +106,42 @@ returns-3 c =
     let s = start (l .before .before) in
     (returned r, row-refused (s .args .image .now) (l .before .before .before .head .given .0 .0) (l .before .before .before .head .given .0 .0 + 1) (head-at (l .before .before)) refl (l .loop .cells) (l .loop .at) (l .loop .a) (l .loop .inv) 2 (r .before .before .loop-test .taken) (subst (RowDone (s .args .image .now) (l .loop .at) (l .before .before .before .head .given .0 .0 + 1) (l .loop .cells) (l .loop .a) (r .read-row .last .1 .1 .1 .1 .0)) (c .enum-told3 .given .1) (r .read-row .ensures .1)))
 
--- src/tables.rt:123:29
 enum-known-next : tie.Need-enum-known-next Inv-loop μ-loop
 enum-known-next c = search needs
 
--- src/tables.rt:125:17
 add-a : tie.Need-add-a Inv-loop μ-loop
 add-a c =
     let r = c .before .before .before .before .before in
     omega (arith, r .before .before .loop-test .taken, head-at (r .before .before .before .before .before) .small)
 
--- src/tables.rt:119:5
 loop-less : tie.Need-loop-less Inv-loop μ-loop
 loop-less c =
     let r = c .before .before .before .before .before in
     omega (arith, r .before .before .loop-test .taken)
 
--- src/tables.rt:119:5
 loop-again : tie.Need-loop-again Inv-loop μ-loop
 loop-again c =
     let r = c .before .before .before .before .before in
     let l = r .before .before .before in
     let s = start (l .before .before) in
-    rows-more (s .args .image .now) (l .before .before .before .head .given .0 .0) (l .before .before .before .head .given .0 .0 + 1) (head-at (l .before .before)) refl (l .loop .cells) (l .loop .at) (l .loop .a) (l .loop .inv) (r .before .before .loop-test .taken) (r .read-row .last .1 .1 .1 .1 .0) (c .before .next .given .0 .0) (r .read-row .ensures .0)
+    image-rows-more (s .args .image .now) (l .before .before .before .head .given .0 .0) (l .before .before .before .head .given .0 .0 + 1) (head-at (l .before .before)) refl (l .loop .cells) (l .loop .at) (l .loop .a) (l .loop .inv) (r .before .before .loop-test .taken) (r .read-row .last .1 .1 .1 .1 .0) (c .before .next .given .0 .0) (r .read-row .ensures .0)
     (subst (RowDone (s .args .image .now) (l .loop .at) (l .before .before .before .head .given .0 .0 + 1) (l .loop .cells) (l .loop .a) (r .read-row .last .1 .1 .1 .1 .0)) (c .before .next .given .1) (r .read-row .ensures .1))
 
--- src/tables.rt:129:8
 is-filling-requires : tie.Need-is-filling-requires Inv-loop μ-loop
 is-filling-requires c κs = record { narrow = omega arith; inside = c .before .loop .inv .inside; small = omega (arith, near (c .before)) }
 
--- src/tables.rt:107:1
 same-length-3 : tie.Need-same-length-3 Inv-loop μ-loop
 same-length-3 c = kept (c .before .before .before)
 
--- src/tables.rt:107:1
 returns-4 : tie.Need-returns-4 Inv-loop μ-loop
 returns-4 c =
     let l = c .before .before .before in
     let s = start (l .before .before) in
     (kept l, table-answered (s .args .image .now) (l .before .before .before .head .given .0 .0) (l .before .before .before .head .given .0 .0 + 1) (head-at (l .before .before)) refl (l .loop .cells) (l .loop .at) (l .loop .a) (l .loop .inv) (c .before .before .loop-test .left) (sym (c .before .is-filling .ensures) ∙ c .if1 .taken))
 
--- src/tables.rt:107:1
 same-length-4 : tie.Need-same-length-4 Inv-loop μ-loop
 same-length-4 c = kept (c .before .before .before)
 
--- src/tables.rt:107:1
 returns-5 : tie.Need-returns-5 Inv-loop μ-loop
 returns-5 c =
     let l = c .before .before .before in

@@ -6,14 +6,10 @@ use lib.Dec.{leb}
 use borrow.Author.Tests.{lt-leb, le-leb}
 use Rattle.images.proofs.writing.names_letter.Statement.{statement}
 use Rattle.images.proofs.writing.names_letter.Tie as tie
-use Rattle.images.proofs.writing.names_letter.Reads as reads
-use Rattle.images.proofs.writing.names_letter.Lts as lts
 
--- src/writing.rt:19:9
 returns : tie.Need-returns
 returns c = sym (ap (λ t. t && leb (c .before .args .x % 128) (c .before .args .size)) (lt-leb 1 (c .before .args .x % 128) (c .if1 .taken)))
 
--- src/writing.rt:14:1
 returns-2 : tie.Need-returns-2
 returns-2 c = sym (ap (λ t. t && leb (c .before .args .x % 128) (c .before .args .size)) (le-leb 1 (c .before .args .x % 128) (c .if1 .left)))
 

@@ -15,11 +15,6 @@ use Rattle.images.proofs.Letters.{near}
 use Rattle.images.proofs.Appending.{appended-field, appended-none, appended-more, firstBits, first-length, first-more, first-none, first-all}
 use Rattle.images.proofs.writing.write_program.Statement.{statement}
 use Rattle.images.proofs.writing.write_program.Tie as tie
-use Rattle.images.proofs.writing.write_program.Reads as reads
-use Rattle.images.proofs.writing.write_program.Lts as lts
-use Rattle.bits.proofs.letter_width.Reads as letter-width-reads
-use Rattle.bits.proofs.write_field.Reads as write-field-reads
-use Rattle.images.proofs.writing.write_signed.Reads as write-signed-reads
 
 abbrev Inv-loop : tie.InvT-loop
 Inv-loop plain size area₀ width i₀ area i = (i ≤ length plain) × Appended area₀ 12 (firstBits size plain i) area
@@ -54,45 +49,35 @@ fits c =
     let m : suc (l .loop .i) * (1 + w .letter-width .result) ≤ length (s .args .plain .now) * (1 + w .letter-width .result) = mul-le-mul-right (1 + w .letter-width .result) more in
     omega (arith, suc-mul (l .loop .i) (1 + w .letter-width .result))
 
--- src/writing.rt:38:17
 letter-width-requires : tie.Need-letter-width-requires Inv-loop μ-loop
 letter-width-requires c κs = (c .before .before .pre .0, c .before .before .pre .1)
 
--- src/writing.rt:38:17
 cast-width : tie.Need-cast-width Inv-loop μ-loop
 cast-width c = search needs
 
--- src/writing.rt:39:36
 cast-write-field : tie.Need-cast-write-field Inv-loop μ-loop
 cast-write-field c = omega (arith, c .before .before .before .before .pre .2 .short)
 
--- src/writing.rt:39:5
 write-field-requires : tie.Need-write-field-requires Inv-loop μ-loop
 write-field-requires c κs = record { narrow = omega arith; inside = omega (arith, c .before .before .before .before .pre .3 .room); small = omega arith }
 
--- src/writing.rt:41:5
 loop-holds : tie.Need-loop-holds Inv-loop μ-loop
 loop-holds c =
     let s = start (c .before .before .before .before) in
     (omega arith, subst (λ bs. Appended (c .before .before .write-field .last .0) 12 bs (c .before .before .write-field .last .0)) (first-none (s .args .size) (c .before .before .before .before .letter-width .result) (c .before .before .before .before .letter-width .ensures) (s .args .plain .now)) (appended-none (c .before .before .write-field .last .0) 12))
 
--- src/writing.rt:42:38
 add-write-signed : tie.Need-add-write-signed Inv-loop μ-loop
 add-write-signed c = omega (arith, narrow (width-at (c .before)))
 
--- src/writing.rt:42:33
 mul-write-signed : tie.Need-mul-write-signed Inv-loop μ-loop
 mul-write-signed c = omega (arith, bound (c .before))
 
--- src/writing.rt:42:28
 add-write-signed-2 : tie.Need-add-write-signed-2 Inv-loop μ-loop
 add-write-signed-2 c = omega (arith, bound (c .before))
 
--- src/writing.rt:42:63
 shared-slice-read-write-signed : tie.Need-shared-slice-read-write-signed Inv-loop μ-loop
 shared-slice-read-write-signed c = omega (arith, c .before .before .loop-test .taken)
 
--- src/writing.rt:42:9
 write-signed-requires : tie.Need-write-signed-requires Inv-loop μ-loop
 write-signed-requires c κs =
     let l = c .before .before .before in
@@ -103,15 +88,12 @@ write-signed-requires c κs =
       omega (arith, bound (c .before .before)),
     )
 
--- src/writing.rt:43:9
 add-i : tie.Need-add-i Inv-loop μ-loop
 add-i c = omega (arith, c .before .before .before .before .before .loop-test .taken)
 
--- src/writing.rt:41:5
 loop-less : tie.Need-loop-less Inv-loop μ-loop
 loop-less c = omega (arith, c .before .before .before .before .before .loop-test .taken)
 
--- src/writing.rt:41:5
 loop-again : tie.Need-loop-again Inv-loop μ-loop
 loop-again c =
     let a = c .before .before in
@@ -130,11 +112,9 @@ loop-again c =
           (subst (λ k. Appended (l .loop .area) (12 + k) (signedBits (s .args .size) (letter (getD (s .args .plain .now) (l .loop .i) 0))) (a .write-signed .last .0)) (sym e) (a .write-signed .ensures))),
     )
 
--- src/writing.rt:34:1
 same-length : tie.Need-same-length Inv-loop μ-loop
 same-length c = c .before .loop .inv .1 .same-length ∙ c .before .before .before .before .write-field .ensures .same-length
 
--- src/writing.rt:34:1
 returns : tie.Need-returns Inv-loop μ-loop
 returns c =
     let l = c .before in

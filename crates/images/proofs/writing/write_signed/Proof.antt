@@ -9,39 +9,28 @@ use Rattle.images.proofs.Appending.{appended-field, appended-more, sign
 use borrow.Author.Needs.{needs}
 use Rattle.images.proofs.writing.write_signed.Statement.{statement}
 use Rattle.images.proofs.writing.write_signed.Tie as tie
-use Rattle.images.proofs.writing.write_signed.Reads as reads
-use Rattle.images.proofs.writing.write_signed.Lts as lts
-use Rattle.bits.proofs.write_field.Reads as write-field-reads
 
--- src/writing.rt:29:36
 cast-write-field : tie.Need-cast-write-field
 cast-write-field c = search needs
 
--- src/writing.rt:29:5
 write-field-requires : tie.Need-write-field-requires
 write-field-requires c κs = search needs
 
--- src/writing.rt:30:29
 add-write-field : tie.Need-add-write-field
 add-write-field c = search needs
 
--- src/writing.rt:30:45
 sub-write-field : tie.Need-sub-write-field
 sub-write-field c = named-positive (c .before .before .before .before .before .before .args .size) (c .before .before .before .before .before .before .args .x) (c .before .before .before .before .before .before .pre .1)
 
--- src/writing.rt:30:44
 cast-write-field-2 : tie.Need-cast-write-field-2
 cast-write-field-2 c = search needs
 
--- src/writing.rt:30:5
 write-field-requires-2 : tie.Need-write-field-requires-2
 write-field-requires-2 c κs = search needs
 
--- src/writing.rt:25:1
 same-length : tie.Need-same-length
 same-length c = search needs
 
--- src/writing.rt:25:1
 returns : tie.Need-returns
 returns c =
     let w = c .before .before in

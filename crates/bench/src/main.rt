@@ -1,0 +1,80 @@
+// Runs the cases of the bench sheet that are not among the thirteen proved of the definitions, one line for each.
+ghost use mathlib.Core.Path.{_≡_};
+ghost use lib.ListN.{length};
+use libc::STDOUT_FILENO;
+use model::answers::Cleared;
+use model::answers::Refusal;
+use model::answers::Reversed;
+use services::clear::clear;
+use services::reverse::reverse;
+
+// Whether a refusal is 11 or 12.
+fn is_stop(refusal: Refusal) -> bool {
+    match refusal {
+        Refusal::AllowanceUsed(_) => true,
+        Refusal::WorkspaceShort(_) => true,
+        _ => false,
+    }
+}
+
+// Three letters, C(a,b) = b a for every pair: whether clearing stops.
+fn endless_stops(allowance: u16, workspace: &mut [u8]) -> bool
+    ensures { λ r. ⌜ length (now (workspace .exit)) ≡ length (now (workspace .entry)) ⌝ }
+{
+    let cleared = clear(b"\x29\x21\x0C\xA0\x8A\x52\x4C", allowance, workspace);
+    match cleared {
+        Cleared::Passed => false,
+        Cleared::Refused(refusal) => is_stop(refusal),
+    }
+}
+
+// At allowances from 0 to 65,535, all of them up to 64, then further and further apart.
+fn endless_always_stops(workspace: &mut [u8]) -> bool {
+    let mut allowance: u16 = 0;
+    while allowance < 60000 {
+        if !endless_stops(allowance, workspace) {
+            return false;
+        }
+        allowance += 1 + allowance / 64;
+    }
+    endless_stops(65535, workspace)
+}
+
+// The bench sheet's first program at allowance 5.
+fn five_finish(workspace: &mut [u8], answer: &mut [u8]) -> bool {
+    let reversed = reverse(
+        b"\x29\x21\x0C\x61\x25\x24\xC0",
+        b"\x00\x5C\x28\x20",
+        5,
+        workspace,
+        answer,
+    );
+    match reversed {
+        Reversed::Refused(_) => false,
+        Reversed::Answer {
+            numerator,
+            denominator,
+            steps,
+        } => numerator == 4 && denominator == 3 && steps == 5,
+    }
+}
+
+fn tell(passed: bool) {
+    if passed {
+        io::write_all(STDOUT_FILENO, b": holds\n");
+    } else {
+        io::write_all(STDOUT_FILENO, b": FAILS\n");
+    }
+}
+
+fn main() {
+    let mut workspace = [0u8; 32768];
+    let mut answer = [0u8; 32768];
+    io::write_all(STDOUT_FILENO, b"allowance 5 finishes the first program");
+    tell(five_finish(&mut workspace, &mut answer));
+    io::write_all(
+        STDOUT_FILENO,
+        b"clearing the endless table stops at every allowance",
+    );
+    tell(endless_always_stops(&mut workspace));
+}

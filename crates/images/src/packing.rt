@@ -1,0 +1,105 @@
+// Table images written from cells.
+
+use crate::tables;
+ghost use mathlib.Core.Path.{_≡_};
+ghost use mathlib.Core.List.{List, _++_};
+ghost use Prim.Native.Nat.{ℕ, _+_, _-_, _*_, _^_, _≤_, _<_};
+ghost use lib.ListN.{length};
+ghost use Rattle.model.specs.Word.{Positive};
+ghost use Rattle.model.specs.Presentation.{Complement};
+ghost use Rattle.model.specs.Enumeration.{concatMap};
+ghost use Rattle.model.specs.Bits.{digits};
+ghost use Rattle.model.specs.Images.{wordBits, pairBits};
+ghost use Rattle.images.specs.Cells.{HoldsWord, Letters};
+ghost use Rattle.images.specs.Tables.{HoldsPair, HoldsRow, Listed};
+ghost use Rattle.images.specs.Written.{WidthOf};
+ghost use Rattle.images.specs.Bitwise.{AppendedTo, WordIn, PairIn, Room};
+ghost use Rattle.images.specs.Bytewise.{HoldsSomeRow, HoldsSomeTable};
+
+// A word of a table image, from its cell; the position after it.
+pub fn pack_word(
+    cells: &[u8],
+    cell: usize,
+    size: u8,
+    width: usize,
+    out: &mut [u8],
+    at: usize,
+) -> usize
+    requires { ⌜ WordIn size (now cells) cell × WidthOf size width × (cell + 16 ≤ length (now cells)) × Room (now out) at 64 ⌝ }
+    ensures word { λ r. ⌜ ((x : Positive) → HoldsWord size (now (cells .entry)) cell x → AppendedTo (now (out .entry)) at (wordBits size x) (now (out .exit)) r) ⌝ }
+    ensures length { λ r. ⌜ length (now (out .exit)) ≡ length (now (out .entry)) ⌝ }
+    ensures near { λ r. ⌜ r ≤ at + 64 ⌝ }
+{
+    let first = cells[cell];
+    let count = first as usize;
+    bits::write_field(out, at, 4, first as u16);
+    let mut next = at + 4;
+    let mut k: usize = 0;
+    while k < count {
+        let a = cells[cell + 1 + k];
+        bits::write_field(out, next, width, (a - 1) as u16);
+        next = next + width;
+        k += 1;
+    }
+    next
+}
+
+// A pair of a table image, from its cells; the position after it.
+pub fn pack_pair(
+    cells: &[u8],
+    a: u8,
+    b: u8,
+    size: u8,
+    width: usize,
+    out: &mut [u8],
+    at: usize,
+) -> usize
+    requires { ⌜ PairIn size (now cells) a b × Letters a b × WidthOf size width × (length (now cells) ≡ 4096) × Room (now out) at 129 ⌝ }
+    ensures pair { λ r. ⌜ ((pair : Complement) → HoldsPair size (now (cells .entry)) a b pair → AppendedTo (now (out .entry)) at (pairBits size pair) (now (out .exit)) r) ⌝ }
+    ensures length { λ r. ⌜ length (now (out .exit)) ≡ length (now (out .entry)) ⌝ }
+    ensures near { λ r. ⌜ r ≤ at + 129 ⌝ }
+{
+    let there = tables::cell_of(a, b);
+    let back = tables::cell_of(b, a);
+    if cells[there] == 255 {
+        bits::write_field(out, at, 1, 0);
+        return at + 1;
+    }
+    bits::write_field(out, at, 1, 1);
+    let next = pack_word(cells, there, size, width, out, at + 1);
+    pack_word(cells, back, size, width, out, next)
+}
+
+// The pairs of a letter with those after it in a table image; the position after them.
+pub fn pack_row(cells: &[u8], size: u8, width: usize, a: u8, out: &mut [u8], at: usize) -> usize
+    requires { ⌜ HoldsSomeRow size (now cells) a × WidthOf size width × (length (now cells) ≡ 4096) × Room (now out) at 1935 ⌝ }
+    ensures row { λ r. ⌜ ((row : List Complement) → HoldsRow size (now (cells .entry)) a row → length row + a ≡ size → AppendedTo (now (out .entry)) at (concatMap (pairBits size) row) (now (out .exit)) r) ⌝ }
+    ensures length { λ r. ⌜ length (now (out .exit)) ≡ length (now (out .entry)) ⌝ }
+    ensures near { λ r. ⌜ r ≤ at + 1935 ⌝ }
+{
+    let mut next = at;
+    let mut b = a + 1;
+    while b <= size {
+        next = pack_pair(cells, a, b, size, width, out, next);
+        b += 1;
+    }
+    next
+}
+
+// A table image, from its cells; how many bits it has.
+pub fn pack_cells(cells: &[u8], size: u8, out: &mut [u8]) -> usize
+    requires { ⌜ HoldsSomeTable size (now cells) × (length (now cells) ≡ 4096) × (length (now out) ≡ 8192) ⌝ }
+    ensures table { λ r. ⌜ ((rows : List (List Complement)) → Listed size (now (cells .entry)) rows → AppendedTo (now (out .entry)) 0 (digits 4 (size - 1) ++ concatMap (concatMap (pairBits size)) rows) (now (out .exit)) r) ⌝ }
+    ensures length { λ r. ⌜ length (now (out .exit)) ≡ length (now (out .entry)) ⌝ }
+    ensures near { λ r. ⌜ r ≤ 65528 ⌝ }
+{
+    let width = bits::letter_width(size) as usize;
+    bits::write_field(out, 0, 4, (size - 1) as u16);
+    let mut next: usize = 4;
+    let mut a: u8 = 1;
+    while a <= size {
+        next = pack_row(cells, size, width, a, out, next);
+        a += 1;
+    }
+    next
+}

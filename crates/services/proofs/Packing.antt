@@ -1,0 +1,112 @@
+-- The two equations of a packing service's promise, from its outcome. Then the outcome of each service, from those of the readers.
+use mathlib.Core.Path.{_≡_, refl, sym, ap, subst, _∙_}
+use mathlib.Core.List.{List, [], _∷_, _++_, map}
+use mathlib.Core.Bool.{Bool, true, false}
+use Prim.Native.Nat.{ℕ, _+_, _≤_, _<_}
+use native.Mathlib.Omega.{arith}
+use borrow.Author.Tests.{lt-ltb, le-ltb}
+use lib.Dec.{ltb}
+use lib.ListN.{length, take, drop, length-map}
+use lib.Seq.{take-at}
+use Rattle.images.specs.Bytewise.{Wrote}
+use Rattle.model.specs.declared.answers.Refusal.{Refusal}
+use Rattle.model.specs.declared.answers.Packed.{Packed}
+use Rattle.model.specs.declared.answers.Packed.the-variants.{Written, Refused}
+use Rattle.model.specs.Presentation.{Presentation}
+use Rattle.model.specs.Word.{Word, letter}
+use Rattle.model.specs.Outcome.{Outcome, answered, refused, _>>=_, unless, mapped}
+use Rattle.model.specs.Areas.{begins, outputAfter}
+use Rattle.model.specs.Stated.{refusal, packedAs}
+use Rattle.model.specs.Images.{readTable, readProgram, programImage, tableImage}
+use Rattle.model.specs.Plain.{plainProgram, readPlainProgram, readPlainTable, plainPair, plainTable}
+use Rattle.model.specs.Enumeration.{concatMap}
+use Rattle.model.specs.Services.{fitted, unpackProgram, packProgram, packTable, unpackTable}
+use Rattle.images.proofs.Refusals.{refused-on}
+use Rattle.services.proofs.Early.{refusal-mapped, refusal-output}
+
+-- the promise: the result is the outcome's, and the area is what the outcome leaves
+abbrev pub Kept : Outcome (List ℕ) → List ℕ → Packed → List ℕ → Type 0
+Kept outcome before r after = (packedAs r ≡ mapped length outcome) × (after ≡ outputAfter (λ b. b) outcome before)
+
+pub refused-keeps : (outcome : Outcome (List ℕ)) (area : List ℕ) (r : Refusal) → outcome ≡ refusal r → Kept outcome area (Refused r) area
+refused-keeps outcome area r e =
+    (sym (refusal-mapped r length) ∙ ap (mapped length) (sym e), sym (refusal-output r (λ b. b) area) ∙ ap (λ o. outputAfter (λ b. b) o area) (sym e))
+
+pub answered-writes : (outcome : Outcome (List ℕ)) (area bytes after : List ℕ) (k : ℕ) → outcome ≡ answered bytes → length bytes ≡ k → after ≡ begins bytes area → Kept outcome area (Written k) after
+answered-writes outcome area bytes after k e n w =
+    (ap answered (sym n) ∙ ap (mapped length) (sym e), w ∙ ap (λ o. outputAfter (λ b. b) o area) (sym e))
+
+-- refusal 13, or not
+pub short-area : (area : ℕ) (bytes : List ℕ) → area < length bytes → fitted area bytes ≡ refused 13 []
+short-area area bytes h = ap (λ t. unless t 13 bytes) (lt-ltb area (length bytes) h)
+
+pub long-area : (area : ℕ) (bytes : List ℕ) → length bytes ≤ area → fitted area bytes ≡ answered bytes
+long-area area bytes h = ap (λ t. unless t 13 bytes) (le-ltb area (length bytes) h)
+
+-- UNPACK A PROGRAM
+module _ (table program : List ℕ) (area : ℕ) where
+  unfoldable unpacked : Presentation → Outcome (List ℕ)
+  unpacked T = readProgram (T .size) program >>= λ w. fitted area (plainProgram w)
+
+  pub unpack-table-refused : (r : Refusal) → readTable table ≡ refusal r → unpackProgram table program area ≡ refusal r
+  unfolding unpackProgram unpacked
+  unpack-table-refused r e = refused-on (readTable table) unpacked r e
+
+  module _ (T : Presentation) (size : ℕ) (e : readTable table ≡ answered T) (s : T .size ≡ size) where
+    unpack-is : unpackProgram table program area ≡ (readProgram size program >>= λ w. fitted area (plainProgram w))
+    unfolding unpackProgram unpacked
+    unpack-is = ap (λ o. o >>= unpacked) e ∙ ap (λ n. readProgram n program >>= λ w. fitted area (plainProgram w)) s
+
+    pub unpack-program-refused : (r : Refusal) → readProgram size program ≡ refusal r → unpackProgram table program area ≡ refusal r
+    unpack-program-refused r p = unpack-is ∙ refused-on (readProgram size program) (λ w. fitted area (plainProgram w)) r p
+
+    pub unpack-read : (w : Word) → readProgram size program ≡ answered w → unpackProgram table program area ≡ fitted area (plainProgram w)
+    unpack-read w p = unpack-is ∙ ap (λ o. o >>= λ w. fitted area (plainProgram w)) p
+
+  -- PACK A PROGRAM
+  unfoldable packedOf : Presentation → Outcome (List ℕ)
+  packedOf T = readPlainProgram (T .size) program >>= λ w. fitted area (programImage (T .size) w)
+
+  pub pack-table-refused : (r : Refusal) → readTable table ≡ refusal r → packProgram table program area ≡ refusal r
+  unfolding packProgram packedOf
+  pack-table-refused r e = refused-on (readTable table) packedOf r e
+
+  module _ (T : Presentation) (size : ℕ) (e : readTable table ≡ answered T) (s : T .size ≡ size) where
+    pack-is : packProgram table program area ≡ (readPlainProgram size program >>= λ w. fitted area (programImage size w))
+    unfolding packProgram packedOf
+    pack-is = ap (λ o. o >>= packedOf) e ∙ ap (λ n. readPlainProgram n program >>= λ w. fitted area (programImage n w)) s
+
+    pub pack-program-refused : (r : Refusal) → readPlainProgram size program ≡ refusal r → packProgram table program area ≡ refusal r
+    pack-program-refused r p = pack-is ∙ refused-on (readPlainProgram size program) (λ w. fitted area (programImage size w)) r p
+
+    pub pack-read : (w : Word) → readPlainProgram size program ≡ answered w → packProgram table program area ≡ fitted area (programImage size w)
+    pack-read w p = pack-is ∙ ap (λ o. o >>= λ w. fitted area (programImage size w)) p
+
+-- UNPACK A TABLE
+module _ (table : List ℕ) (area : ℕ) where
+  pub table-refused : (r : Refusal) → readTable table ≡ refusal r → unpackTable table area ≡ refusal r
+  unfolding unpackTable
+  table-refused r e = refused-on (readTable table) (λ T. fitted area (plainTable T)) r e
+
+  pub table-read : (T : Presentation) → readTable table ≡ answered T → unpackTable table area ≡ fitted area (plainTable T)
+  unfolding unpackTable
+  table-read T e = ap (λ o. o >>= λ T. fitted area (plainTable T)) e
+
+  -- PACK A TABLE
+  pub plain-refused : (r : Refusal) → readPlainTable table ≡ refusal r → packTable table area ≡ refusal r
+  unfolding packTable
+  plain-refused r e = refused-on (readPlainTable table) (λ T. fitted area (tableImage T)) r e
+
+  pub plain-read : (T : Presentation) → readPlainTable table ≡ answered T → packTable table area ≡ fitted area (tableImage T)
+  unfolding packTable
+  plain-read T e = ap (λ o. o >>= λ T. fitted area (tableImage T)) e
+
+-- the bytes of a plain table, as they are written
+pub plain-bytes : (T : Presentation) (size : ℕ) → T .size ≡ size → size ∷ concatMap (concatMap plainPair) (T .rows) ≡ plainTable T
+unfolding plainTable
+plain-bytes T size e = ap (λ n. n ∷ concatMap (concatMap plainPair) (T .rows)) (sym e)
+
+-- what was written first is taken first
+pub taken-first : (old bytes after : List ℕ) (next : ℕ) → Wrote old 0 bytes after next → take next after ≡ bytes
+taken-first old bytes after next w =
+    ap (take next) (w .area) ∙ take-at bytes (drop (0 + length bytes) old) next (omega (arith, w .next-is))

@@ -1,0 +1,35 @@
+// Pack a table: its image in the answer area.
+
+use images::packing;
+use images::plain;
+use images::tables::TableRead;
+use images::writing;
+use model::answers::Packed;
+use model::answers::Refusal;
+ghost use mathlib.Core.Path.{_≡_};
+ghost use lib.ListN.{length};
+ghost use Rattle.model.specs.Outcome.{mapped};
+ghost use Rattle.model.specs.Areas.{outputAfter};
+ghost use Rattle.model.specs.Stated.{packedAs};
+ghost use Rattle.model.specs.Services.{packTable};
+
+// The image is made in a local area first, so that its length is known before anything is written.
+pub fn pack(plain: &[u8], area: &mut [u8]) -> Packed
+    ensures stated { λ r. ⌜ packedAs r ≡ mapped length (packTable (now (plain .entry)) (length (now (area .entry)))) ⌝ }
+    ensures area { λ r. ⌜ now (area .exit) ≡ outputAfter (λ b. b) (packTable (now (plain .entry)) (length (now (area .entry)))) (now (area .entry)) ⌝ }
+{
+    let mut cells = [0u8; 4096];
+    match plain::read_plain_table(plain, &mut cells) {
+        TableRead::Refused(refusal) => Packed::Refused(refusal),
+        TableRead::Table { size } => {
+            let mut out = [0u8; 8192];
+            let fields = packing::pack_cells(&cells, size, &mut out);
+            let bytes = (fields + 7) / 8;
+            if area.len() < bytes {
+                return Packed::Refused(Refusal::AnswerShort);
+            }
+            writing::copy_bytes(&out, bytes, area);
+            Packed::Written { bytes }
+        }
+    }
+}

@@ -1,0 +1,34 @@
+// Unpack a program: its letters, a byte each, in the answer area.
+
+use images::programs;
+use images::programs::ProgramRead;
+use images::tables;
+use images::tables::TableRead;
+use model::answers::Packed;
+use model::answers::Refusal;
+ghost use mathlib.Core.Path.{_≡_};
+ghost use lib.ListN.{length};
+ghost use Rattle.model.specs.Outcome.{mapped};
+ghost use Rattle.model.specs.Areas.{outputAfter};
+ghost use Rattle.model.specs.Stated.{packedAs};
+ghost use Rattle.model.specs.Services.{unpackProgram};
+
+pub fn unpack(table: &[u8], program: &[u8], area: &mut [u8]) -> Packed
+    ensures stated { λ r. ⌜ packedAs r ≡ mapped length (unpackProgram (now (table .entry)) (now (program .entry)) (length (now (area .entry)))) ⌝ }
+    ensures area { λ r. ⌜ now (area .exit) ≡ outputAfter (λ b. b) (unpackProgram (now (table .entry)) (now (program .entry)) (length (now (area .entry)))) (now (area .entry)) ⌝ }
+{
+    match tables::table_size(table) {
+        TableRead::Refused(refusal) => Packed::Refused(refusal),
+        TableRead::Table { size } => match programs::read_program(program, size) {
+            ProgramRead::Refused(refusal) => Packed::Refused(refusal),
+            ProgramRead::Program { count } => {
+                let bytes = count as usize;
+                if area.len() < bytes {
+                    return Packed::Refused(Refusal::AnswerShort);
+                }
+                programs::unpack_letters(program, size, count, area, 0);
+                Packed::Written { bytes }
+            }
+        },
+    }
+}

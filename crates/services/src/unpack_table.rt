@@ -1,0 +1,34 @@
+// Unpack a table: its plain form in the answer area.
+
+use images::plain;
+use images::tables;
+use images::tables::TableRead;
+use images::writing;
+use model::answers::Packed;
+use model::answers::Refusal;
+ghost use mathlib.Core.Path.{_≡_};
+ghost use lib.ListN.{length};
+ghost use Rattle.model.specs.Outcome.{mapped};
+ghost use Rattle.model.specs.Areas.{outputAfter};
+ghost use Rattle.model.specs.Stated.{packedAs};
+ghost use Rattle.model.specs.Services.{unpackTable};
+
+// The plain form is made in a local area first, so that its length is known before anything is written.
+pub fn unpack(table: &[u8], area: &mut [u8]) -> Packed
+    ensures stated { λ r. ⌜ packedAs r ≡ mapped length (unpackTable (now (table .entry)) (length (now (area .entry)))) ⌝ }
+    ensures area { λ r. ⌜ now (area .exit) ≡ outputAfter (λ b. b) (unpackTable (now (table .entry)) (length (now (area .entry)))) (now (area .entry)) ⌝ }
+{
+    let mut cells = [0u8; 4096];
+    match tables::read_table(table, &mut cells) {
+        TableRead::Refused(refusal) => Packed::Refused(refusal),
+        TableRead::Table { size } => {
+            let mut out = [0u8; 8192];
+            let bytes = plain::write_plain_table(&cells, size, &mut out);
+            if area.len() < bytes {
+                return Packed::Refused(Refusal::AnswerShort);
+            }
+            writing::copy_bytes(&out, bytes, area);
+            Packed::Written { bytes }
+        }
+    }
+}
