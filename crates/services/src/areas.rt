@@ -6,7 +6,7 @@ use engine::step::push_inverse;
 use engine::step::push_word;
 
 // Leaves an area all zero.
-pub fn wipe(area: &mut [u8])
+pub(crate) fn wipe(area: &mut [u8])
     ensures { λ r. ⌜ now (area .exit) ≡ replicate (length (now (area .entry))) 0 ⌝ }
 {
     let mut i: usize = 0;
@@ -17,7 +17,7 @@ pub fn wipe(area: &mut [u8])
 }
 
 // Writes the numerator and the denominator of a finished word, which lie in it as the numerator and the inverse of the denominator.
-pub fn write_fraction(word: &[u8], numerator: usize, denominator: usize, answer: &mut [u8])
+pub(crate) fn write_fraction(word: &[u8], numerator: usize, denominator: usize, answer: &mut [u8])
     requires { ⌜ (numerator + denominator ≤ length (now word)) × (numerator + denominator ≤ length (now answer)) ⌝ }
     ensures { λ r. ⌜ FractionWritten (now (word .entry)) numerator denominator (now (answer .entry)) (now (answer .exit)) ⌝ }
 {

@@ -23,7 +23,7 @@ use model::answers::Compared;
 use model::answers::Refusal;
 
 // The bytes of a chain image with so many entries.
-pub fn chain_bytes(size: u8, entries: u16) -> usize
+pub(crate) fn chain_bytes(size: u8, entries: u16) -> usize
     requires { ⌜ (1 ≤ size) × (size ≤ 16) ⌝ }
     ensures { λ r. ⌜ r ≡ chainBytes size entries ⌝ }
 {
@@ -32,7 +32,7 @@ pub fn chain_bytes(size: u8, entries: u16) -> usize
 }
 
 // Two accepted forward programs under a table that was loaded. The workspace is wiped, unless the length check refused.
-pub fn chain_programs(
+pub(crate) fn chain_programs(
     cells: &[u8],
     size: u8,
     first: &[u8],

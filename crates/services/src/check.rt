@@ -23,7 +23,7 @@ use swaps::follow::spells;
 use swaps::held::carry;
 
 // Follows the entries from the first program, loaded at the workspace's end, and compares the word they lead to with the second.
-pub fn pass(
+pub(crate) fn pass(
     cells: &[u8],
     size: u8,
     first: &[u8],
@@ -69,7 +69,7 @@ pub fn pass(
 }
 
 // Two accepted forward programs and an accepted chain under a table that was loaded. The workspace is wiped.
-pub fn check_programs(
+pub(crate) fn check_programs(
     cells: &[u8],
     size: u8,
     first: &[u8],

@@ -19,7 +19,7 @@ use model::answers::Refusal;
 use model::answers::Stop;
 
 // The answer that the triples' check is.
-pub fn triples_answer(found: Triples) -> Cleared
+pub(crate) fn triples_answer(found: Triples) -> Cleared
     ensures { λ r. ⌜ r ≡ triplesRefusal found ⌝ }
 {
     match found {
@@ -33,7 +33,7 @@ pub fn triples_answer(found: Triples) -> Cleared
 }
 
 // Clears a table that was loaded. The workspace is wiped, unless a pair failed the length check before the work began.
-pub fn clear_cells(cells: &[u8], size: u8, budget: u16, workspace: &mut [u8]) -> Cleared
+pub(crate) fn clear_cells(cells: &[u8], size: u8, budget: u16, workspace: &mut [u8]) -> Cleared
     requires { ⌜ Sized (now cells) size ⌝ }
     ensures clear { λ r. ⌜ ClearMeans (now (cells .entry)) size budget (length (now (workspace .entry))) r ⌝ }
     ensures workspace { λ r. ⌜ now (workspace .exit) ≡ workspaceAfter (clearedAs r) (now (workspace .entry)) ⌝ }

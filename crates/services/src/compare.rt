@@ -32,7 +32,7 @@ pub enum Judgement {
 }
 
 // The inverse of the first program, of m letters, at the workspace's start, and the second, of n letters, at its end.
-pub fn load_pair(size: u8, first: &[u8], m: u16, second: &[u8], n: u16, workspace: &mut [u8])
+pub(crate) fn load_pair(size: u8, first: &[u8], m: u16, second: &[u8], n: u16, workspace: &mut [u8])
     requires pair { ⌜ Pair size (now first) m (now second) n ⌝ }
     requires room { ⌜ m + n ≤ length (now workspace) ⌝ }
     ensures { λ r. ⌜ Loads size (now (first .entry)) m (now (second .entry)) n (now (workspace .entry)) (now (workspace .exit)) ⌝ }
@@ -45,7 +45,7 @@ pub fn load_pair(size: u8, first: &[u8], m: u16, second: &[u8], n: u16, workspac
 }
 
 // Reverses the first program's inverse, then the second program.
-pub fn run_pair(
+pub(crate) fn run_pair(
     cells: &[u8],
     size: u8,
     first: &[u8],
@@ -71,7 +71,7 @@ pub fn run_pair(
 }
 
 // What a comparison makes of an ending.
-pub fn judge(ending: Ending) -> Judgement
+pub(crate) fn judge(ending: Ending) -> Judgement
     ensures { λ r. ⌜ r ≡ judgement ending ⌝ }
 {
     match ending {
@@ -95,7 +95,7 @@ pub fn judge(ending: Ending) -> Judgement
 }
 
 // Two accepted forward programs under a table that was loaded. The workspace is wiped, unless the length check refused.
-pub fn compare_programs(
+pub(crate) fn compare_programs(
     cells: &[u8],
     size: u8,
     first: &[u8],
@@ -123,7 +123,7 @@ pub fn compare_programs(
 }
 
 // The answer that a judgement is.
-pub fn told(judgement: Judgement) -> Compared
+pub(crate) fn told(judgement: Judgement) -> Compared
     ensures { λ r. ⌜ r ≡ toldAs judgement ⌝ }
 {
     match judgement {

@@ -1,10 +1,10 @@
 // The services of document 01, over images and lent areas.
-pub mod areas;
+mod areas;
 pub mod chain;
 pub mod check;
 pub mod clear;
 pub mod compare;
-pub mod loading;
+mod loading;
 pub mod pack_program;
 pub mod pack_table;
 pub mod reverse;

@@ -14,7 +14,7 @@ use model::answers::Ending;
 use model::answers::Stop;
 
 // Empties the cells of each letter with itself: C(a,a) is empty.
-pub fn clear_diagonal(cells: &mut [u8])
+pub(crate) fn clear_diagonal(cells: &mut [u8])
     requires { ⌜ length (now cells) ≡ 4096 ⌝ }
     ensures { λ r. ⌜ Diagonal (now (cells .entry)) (now (cells .exit)) 16 ⌝ }
 {
@@ -27,7 +27,7 @@ pub fn clear_diagonal(cells: &mut [u8])
 }
 
 // Reads a table image into cells for the engine.
-pub fn load_table(image: &[u8], cells: &mut [u8]) -> TableRead
+pub(crate) fn load_table(image: &[u8], cells: &mut [u8]) -> TableRead
     requires { ⌜ length (now cells) ≡ 4096 ⌝ }
     ensures length { λ r. ⌜ length (now (cells .exit)) ≡ length (now (cells .entry)) ⌝ }
     ensures table { λ r. ⌜ TableLoaded (now (image .entry)) (now (cells .exit)) r ⌝ }
@@ -38,7 +38,7 @@ pub fn load_table(image: &[u8], cells: &mut [u8]) -> TableRead
 }
 
 // Reverses an accepted program, loaded at the workspace's end.
-pub fn run_program(
+pub(crate) fn run_program(
     cells: &[u8],
     size: u8,
     program: &[u8],

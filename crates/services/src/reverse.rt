@@ -21,7 +21,7 @@ use model::answers::Reversed;
 use model::answers::Stop;
 
 // The refusal that a stop of the programs' reversing is.
-pub fn stop_refusal(stop: Stop) -> Refusal
+pub(crate) fn stop_refusal(stop: Stop) -> Refusal
     ensures { λ r. ⌜ r ≡ stopRefusal stop ⌝ }
 {
     match stop {
@@ -31,7 +31,7 @@ pub fn stop_refusal(stop: Stop) -> Refusal
 }
 
 // What reverse makes of an ending, with the answer where it finished and fits.
-pub fn answer_ending(ending: Ending, workspace: &[u8], answer: &mut [u8]) -> Reversed
+pub(crate) fn answer_ending(ending: Ending, workspace: &[u8], answer: &mut [u8]) -> Reversed
     requires { ⌜ Finishable (now workspace) ending ⌝ }
     ensures { λ r. ⌜ AnswerOf ending (now (workspace .entry)) (now (answer .entry)) (now (answer .exit)) r ⌝ }
 {
@@ -58,7 +58,7 @@ pub fn answer_ending(ending: Ending, workspace: &[u8], answer: &mut [u8]) -> Rev
 }
 
 // An accepted program under a table that was loaded; the workspace is wiped.
-pub fn reverse_program(
+pub(crate) fn reverse_program(
     cells: &[u8],
     size: u8,
     program: &[u8],
