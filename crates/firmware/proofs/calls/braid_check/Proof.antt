@@ -1,0 +1,39 @@
+-- `firmware::calls::braid_check` meets its contract.
+use mathlib.Core.Path.{_≡_, refl, sym, ap, subst, _∙_}
+use lib.ListN.{length}
+use Rattle.model.specs.Outcome.{answered}
+use Rattle.model.specs.Services.{listable}
+use Rattle.model.specs.Areas.{ChainArea}
+use Rattle.services.specs.Compare.{Meaning}
+use Rattle.firmware.specs.Told.{told, sizesTold, passedTold, verdictTold, passageTold, bytesTold}
+use Rattle.firmware.specs.Values.{Tells}
+use borrow.Author.Needs.{needs}
+use Rattle.firmware.proofs.calls.braid_check.Statement.{statement}
+use Rattle.firmware.proofs.calls.braid_check.Tie as tie
+use Rattle.firmware.proofs.calls.braid_check.Reads as reads
+use Rattle.firmware.proofs.calls.braid_check.Lts as lts
+use Rattle.firmware.proofs.calls.tell.Reads as tell-reads
+use Rattle.firmware.proofs.numbers.of_checked.Reads as of-checked-reads
+use Rattle.services.proofs.check.check.Reads as check-reads
+
+check-requires : tie.Need-check-requires
+check-requires c κs = search needs
+
+of-checked-requires : tie.Need-of-checked-requires
+of-checked-requires c κs = search needs
+
+tell-requires : tie.Need-tell-requires
+tell-requires c κs = search needs
+
+same-length : tie.Need-same-length
+same-length c = search needs
+
+returns : tie.Need-returns
+returns c =
+    let z = c .before .before .before .before .before .check in
+    let e = z .ensures .0 in
+    (subst (λ n. Tells n (c .tell .result) (c .tell .last .1 .0)) (c .before .before .of-checked .ensures ∙ ap (told passageTold) e) (c .tell .ensures), z .ensures .1)
+
+pub braid-check-spec : {M : Type 1} → statement M
+braid-check-spec =
+    tie.close (tie.spec check-requires of-checked-requires tell-requires same-length returns)

@@ -1,0 +1,39 @@
+-- `firmware::calls::braid_unpack_table` meets its contract.
+use mathlib.Core.Path.{_≡_, refl, sym, ap, subst, _∙_}
+use lib.ListN.{length}
+use Rattle.model.specs.Outcome.{answered}
+use Rattle.model.specs.Services.{listable}
+use Rattle.model.specs.Areas.{ChainArea}
+use Rattle.services.specs.Compare.{Meaning}
+use Rattle.firmware.specs.Told.{told, sizesTold, passedTold, verdictTold, passageTold, bytesTold}
+use Rattle.firmware.specs.Values.{Tells}
+use borrow.Author.Needs.{needs}
+use Rattle.firmware.proofs.calls.braid_unpack_table.Statement.{statement}
+use Rattle.firmware.proofs.calls.braid_unpack_table.Tie as tie
+use Rattle.firmware.proofs.calls.braid_unpack_table.Reads as reads
+use Rattle.firmware.proofs.calls.braid_unpack_table.Lts as lts
+use Rattle.firmware.proofs.calls.tell.Reads as tell-reads
+use Rattle.firmware.proofs.numbers.of_packed.Reads as of-packed-reads
+use Rattle.services.proofs.unpack_table.unpack.Reads as unpack-reads
+
+unpack-requires : tie.Need-unpack-requires
+unpack-requires c κs = search needs
+
+of-packed-requires : tie.Need-of-packed-requires
+of-packed-requires c κs = search needs
+
+tell-requires : tie.Need-tell-requires
+tell-requires c κs = search needs
+
+same-length : tie.Need-same-length
+same-length c = search needs
+
+returns : tie.Need-returns
+returns c =
+    let z = c .before .before .before .before .before .unpack in
+    let e = z .ensures .0 in
+    (subst (λ n. Tells n (c .tell .result) (c .tell .last .1 .0)) (c .before .before .of-packed .ensures ∙ ap (told bytesTold) e) (c .tell .ensures), z .ensures .1)
+
+pub braid-unpack-table-spec : {M : Type 1} → statement M
+braid-unpack-table-spec =
+    tie.close (tie.spec unpack-requires of-packed-requires tell-requires same-length returns)

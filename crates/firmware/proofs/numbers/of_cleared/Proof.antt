@@ -1,0 +1,35 @@
+-- `firmware::numbers::of_cleared` meets its contract.
+use mathlib.Core.Path.{_≡_, refl, sym, ap, _∙_}
+use Rattle.model.specs.Stated.{reversed, clearedAs, compared, checked, packedAs}
+use Rattle.firmware.specs.Told.{refusalTold, placeTold, told, sizesTold, passedTold, verdictTold, passageTold, bytesTold}
+use Rattle.firmware.proofs.Telling.{refused-told}
+use borrow.Author.Needs.{needs}
+use Rattle.firmware.proofs.numbers.of_cleared.Statement.{statement}
+use Rattle.firmware.proofs.numbers.of_cleared.Tie as tie
+use Rattle.firmware.proofs.numbers.of_cleared.Reads as reads
+use Rattle.firmware.proofs.numbers.of_cleared.Lts as lts
+use Rattle.firmware.proofs.numbers.alone.Reads as alone-reads
+use Rattle.firmware.proofs.numbers.of_refusal.Reads as of-refusal-reads
+
+enum-known-answer : tie.Need-enum-known-answer
+enum-known-answer c = search needs
+
+of-refusal-requires : tie.Need-of-refusal-requires
+of-refusal-requires c κs = search needs
+
+enum-told : tie.Need-enum-told
+enum-told c = search needs
+
+alone-requires : tie.Need-alone-requires
+alone-requires c κs = search needs
+
+returns : tie.Need-returns
+returns c = c .of-refusal .ensures ∙ (refused-told passedTold (c .before .before .answer .given .0 .0) ∙ sym (ap (λ a. told passedTold (clearedAs a)) (c .before .before .answer .given .1)))
+
+returns-2 : tie.Need-returns-2
+returns-2 c = c .alone .ensures ∙ sym (ap (λ a. told passedTold (clearedAs a)) (c .before .enum-told .given .1))
+
+pub of-cleared-spec : {M : Type 1} → statement M
+of-cleared-spec =
+    tie.close
+    (tie.spec enum-known-answer of-refusal-requires enum-told alone-requires returns returns-2)

@@ -1,0 +1,187 @@
+-- `firmware::numbers::of_refusal` meets its contract.
+use mathlib.Core.Path.{_≡_, refl, sym, ap, _∙_}
+use Rattle.model.specs.Stated.{reversed, clearedAs, compared, checked, packedAs}
+use Rattle.firmware.specs.Told.{refusalTold, placeTold, told, sizesTold, passedTold, verdictTold, passageTold, bytesTold}
+use Rattle.firmware.proofs.Telling.{refused-told}
+use borrow.Author.Needs.{needs}
+use Rattle.firmware.proofs.numbers.of_refusal.Statement.{statement}
+use Rattle.firmware.proofs.numbers.of_refusal.Tie as tie
+use Rattle.firmware.proofs.numbers.of_refusal.Reads as reads
+use Rattle.firmware.proofs.numbers.of_refusal.Lts as lts
+use Rattle.firmware.proofs.numbers.alone.Reads as alone-reads
+use Rattle.firmware.proofs.numbers.with_pair.Reads as with-pair-reads
+use Rattle.firmware.proofs.numbers.with_place.Reads as with-place-reads
+use Rattle.firmware.proofs.numbers.with_triple.Reads as with-triple-reads
+
+enum-told : tie.Need-enum-told
+enum-told c = search needs
+
+alone-requires : tie.Need-alone-requires
+alone-requires c κs = search needs
+
+enum-told-2 : tie.Need-enum-told-2
+enum-told-2 c = search needs
+
+alone-requires-2 : tie.Need-alone-requires-2
+alone-requires-2 c κs = search needs
+
+enum-told-3 : tie.Need-enum-told-3
+enum-told-3 c = search needs
+
+alone-requires-3 : tie.Need-alone-requires-3
+alone-requires-3 c κs = search needs
+
+enum-told-4 : tie.Need-enum-told-4
+enum-told-4 c = search needs
+
+alone-requires-4 : tie.Need-alone-requires-4
+alone-requires-4 c κs = search needs
+
+enum-told-5 : tie.Need-enum-told-5
+enum-told-5 c = search needs
+
+alone-requires-5 : tie.Need-alone-requires-5
+alone-requires-5 c κs = search needs
+
+enum-told-6 : tie.Need-enum-told-6
+enum-told-6 c = search needs
+
+alone-requires-6 : tie.Need-alone-requires-6
+alone-requires-6 c κs = search needs
+
+enum-told-7 : tie.Need-enum-told-7
+enum-told-7 c = search needs
+
+alone-requires-7 : tie.Need-alone-requires-7
+alone-requires-7 c κs = search needs
+
+enum-known-refusal : tie.Need-enum-known-refusal
+enum-known-refusal c = search needs
+
+with-pair-requires : tie.Need-with-pair-requires
+with-pair-requires c κs = search needs
+
+enum-known-refusal-2 : tie.Need-enum-known-refusal-2
+enum-known-refusal-2 c = search needs
+
+with-triple-requires : tie.Need-with-triple-requires
+with-triple-requires c κs = search needs
+
+enum-known-refusal-3 : tie.Need-enum-known-refusal-3
+enum-known-refusal-3 c = search needs
+
+with-pair-requires-2 : tie.Need-with-pair-requires-2
+with-pair-requires-2 c κs = search needs
+
+enum-known-refusal-4 : tie.Need-enum-known-refusal-4
+enum-known-refusal-4 c = search needs
+
+with-place-requires : tie.Need-with-place-requires
+with-place-requires c κs = search needs
+
+enum-known-refusal-5 : tie.Need-enum-known-refusal-5
+enum-known-refusal-5 c = search needs
+
+with-place-requires-2 : tie.Need-with-place-requires-2
+with-place-requires-2 c κs = search needs
+
+enum-told-8 : tie.Need-enum-told-8
+enum-told-8 c = search needs
+
+alone-requires-8 : tie.Need-alone-requires-8
+alone-requires-8 c κs = search needs
+
+enum-told-9 : tie.Need-enum-told-9
+enum-told-9 c = search needs
+
+alone-requires-9 : tie.Need-alone-requires-9
+alone-requires-9 c κs = search needs
+
+returns : tie.Need-returns
+returns c = c .alone .ensures ∙ sym (ap refusalTold (c .before .enum-told .given .1))
+
+returns-2 : tie.Need-returns-2
+returns-2 c = c .alone2 .ensures ∙ sym (ap refusalTold (c .before .enum-told2 .given .1))
+
+returns-3 : tie.Need-returns-3
+returns-3 c = c .alone3 .ensures ∙ sym (ap refusalTold (c .before .enum-told3 .given .1))
+
+returns-4 : tie.Need-returns-4
+returns-4 c = c .alone4 .ensures ∙ sym (ap refusalTold (c .before .enum-told4 .given .1))
+
+returns-5 : tie.Need-returns-5
+returns-5 c = c .alone5 .ensures ∙ sym (ap refusalTold (c .before .enum-told5 .given .1))
+
+returns-6 : tie.Need-returns-6
+returns-6 c = c .alone6 .ensures ∙ sym (ap refusalTold (c .before .enum-told6 .given .1))
+
+returns-7 : tie.Need-returns-7
+returns-7 c = c .alone7 .ensures ∙ sym (ap refusalTold (c .before .enum-told7 .given .1))
+
+returns-8 : tie.Need-returns-8
+returns-8 c = c .with-pair .ensures ∙ sym (ap refusalTold (c .before .before .refusal .given .1))
+
+returns-9 : tie.Need-returns-9
+returns-9 c = c .with-triple .ensures ∙ sym (ap refusalTold (c .before .before .refusal2 .given .1))
+
+returns-10 : tie.Need-returns-10
+returns-10 c = c .with-pair2 .ensures ∙ sym (ap refusalTold (c .before .before .refusal3 .given .1))
+
+returns-11 : tie.Need-returns-11
+returns-11 c = c .with-place .ensures ∙ sym (ap refusalTold (c .before .before .refusal4 .given .1))
+
+returns-12 : tie.Need-returns-12
+returns-12 c = c .with-place2 .ensures ∙ sym (ap refusalTold (c .before .before .refusal5 .given .1))
+
+returns-13 : tie.Need-returns-13
+returns-13 c = c .alone8 .ensures ∙ sym (ap refusalTold (c .before .enum-told8 .given .1))
+
+returns-14 : tie.Need-returns-14
+returns-14 c = c .alone9 .ensures ∙ sym (ap refusalTold (c .before .enum-told9 .given .1))
+
+pub of-refusal-spec : {M : Type 1} → statement M
+of-refusal-spec =
+    tie.close
+    (tie.spec
+    enum-told
+    alone-requires
+    enum-told-2
+    alone-requires-2
+    enum-told-3
+    alone-requires-3
+    enum-told-4
+    alone-requires-4
+    enum-told-5
+    alone-requires-5
+    enum-told-6
+    alone-requires-6
+    enum-told-7
+    alone-requires-7
+    enum-known-refusal
+    with-pair-requires
+    enum-known-refusal-2
+    with-triple-requires
+    enum-known-refusal-3
+    with-pair-requires-2
+    enum-known-refusal-4
+    with-place-requires
+    enum-known-refusal-5
+    with-place-requires-2
+    enum-told-8
+    alone-requires-8
+    enum-told-9
+    alone-requires-9
+    returns
+    returns-2
+    returns-3
+    returns-4
+    returns-5
+    returns-6
+    returns-7
+    returns-8
+    returns-9
+    returns-10
+    returns-11
+    returns-12
+    returns-13
+    returns-14)
