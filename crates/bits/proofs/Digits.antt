@@ -1,14 +1,11 @@
 -- Binary digits and the numbers that they write, over any width. Digits and number are each other's inverse.
 use mathlib.Core.Path.{_≡_, refl, sym, ap, _∙_}
-use mathlib.Core.List.{List, [], _∷_, _++_, append-assoc, append-nil}
-use mathlib.Core.Bool.{Bool, true, false}
-use Prim.Native.Nat.{ℕ, zero, suc, _+_, _-_, _*_, _/_, _%_, _^_, _≤_, _<_}
+use mathlib.Core.List.{List, [], _∷_, _++_}
+use Prim.Native.Nat.{ℕ, zero, suc, _+_, _*_, _/_, _%_, _^_, _<_}
 use native.Mathlib.Omega.{arith}
-use native.Mathlib.Numerals.{add-one}
-use native.Mathlib.Nat.{pow-suc, add-mul, mul-assoc, mul-comm, zero-mul, mod-eq-of-lt, mod-one, mod-lt, mul-le-mul-right}
-use lib.ListN.{length, take, drop, set, getD, length-set, length-append}
-use lib.Seq.{take-suc-set, drop-set-lt, drop-cons, take-suc}
-use lib.Pow.{pow-pos, mod-pow-add, high}
+use native.Mathlib.Nat.{zero-add, add-comm, pow-suc, add-mul, mul-assoc, mul-comm, zero-mul, mod-eq-of-lt, mod-one, mod-lt}
+use lib.ListN.{length}
+use lib.Pow.{pow-pos, mod-pow-add, high, low, shr-shr}
 use lib.Arith.{digits-lt}
 use Rattle.model.specs.Bits.{digits, number}
 
@@ -87,3 +84,14 @@ number-of-digits width v h = number-digits 0 width v ∙ omega (arith, zero-mul 
 
 pub digits-of-number : (width : ℕ) (bs : List ℕ) → length bs ≡ width → AreBits bs → digits width (number 0 bs) ≡ bs
 digits-of-number width bs e h = ap (λ n. digits n (number 0 bs)) (sym e) ∙ digits-number 0 bs h
+
+-- digits by the first and the last ones
+pub digits-append : (a b v : ℕ) → digits (a + b) v ≡ digits a (v / 2 ^ b) ++ digits b v
+digits-append zero b v = ap (λ n. digits n v) (zero-add b)
+digits-append (suc a) b v =
+    ap (λ n. digits n v) {x = suc a + b} {y = suc (a + b)} (omega arith)
+    ∙ (ap (λ l. v / 2 ^ (a + b) % 2 ∷ l) (digits-append a b v)
+    ∙ ap (λ n. n % 2 ∷ (digits a (v / 2 ^ b) ++ digits b v)) (ap (λ n. v / 2 ^ n) (add-comm a b) ∙ sym (shr-shr v b a)))
+
+pub digits-low : (hi k v : ℕ) → digits k (hi * 2 ^ k + v % 2 ^ k) ≡ digits k v
+digits-low hi k v = sym (digits-mod k (hi * 2 ^ k + v % 2 ^ k)) ∙ (ap (digits k) (low hi k (mod-lt v (pow-pos k))) ∙ digits-mod k v)

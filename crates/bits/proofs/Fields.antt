@@ -1,16 +1,18 @@
--- One bit more of a field, read and written. The loops of `read_field` and `write_field` take these steps.
+-- More of a field, read by a bit and written by a run. The loops of `read_field` and `write_field` take these steps.
 use mathlib.Core.Path.{_≡_, refl, sym, ap, _∙_}
-use mathlib.Core.List.{List, [], _∷_, _++_, append-assoc, append-nil}
-use Prim.Native.Nat.{ℕ, zero, suc, _+_, _-_, _*_, _/_, _%_, _^_, _≤_, _<_}
+use mathlib.Core.List.{List, [], _∷_, _++_, append-assoc}
+use Prim.Native.Nat.{ℕ, zero, suc, _+_, _-_, _*_, _/_, _^_, _≤_, _<_}
 use native.Mathlib.Omega.{arith}
 use native.Mathlib.Numerals.{add-one}
-use lib.ListN.{length, take, drop, set, getD, length-set, length-append, length-drop}
-use lib.Seq.{take-suc, getD-drop, length-take-le, paste, paste-suc, paste-zero, take-all}
-use lib.Pow.{pow-mono}
+use native.Mathlib.Nat.{add-assoc, div-one}
+use lib.ListN.{length, take, drop, getD, length-append, length-drop, take-append-drop}
+use lib.Seq.{take-suc, getD-drop, length-take-le, drop-drop}
+use lib.Pow.{pow-mono, shr-shr}
 use Rattle.model.specs.Bits.{digits, number, bitsOf}
 use Rattle.bits.specs.Fields.{Inside, Written}
-use Rattle.bits.proofs.Digits.{AreBits, length-digits, digits-are-bits, number-append, number-bound}
-use Rattle.bits.proofs.Bytes.{length-bits, bits-are-bits, digit-at}
+use Rattle.bits.proofs.Digits.{AreBits, length-digits, number-append, number-bound, digits-append}
+use Rattle.bits.proofs.Bytes.{length-bits, bits-are-bits}
+use Rattle.bits.proofs.Runs.{replaced}
 
 -- parts of lists of bits
 pub bits-take : (n : ℕ) (bs : List ℕ) → AreBits bs → AreBits (take n bs)
@@ -55,16 +57,51 @@ module _ (bytes : List ℕ) (at width : ℕ) (inside : Inside bytes at width) wh
       let m : 2 ^ (i + 1) ≤ 2 ^ 16 = pow-mono {j = 16} (omega (arith, inside .narrow)) in
       omega (arith, field-more i h, field-fits (i + 1) (omega arith))
 
--- a store of one bit more of the value goes on with its digits
-pub digits-more : (bits : List ℕ) (at width value i : ℕ) → at + width ≤ length bits → i < width
-    → set (paste bits at (digits width value) i) (at + i) (value / 2 ^ (width - 1 - i) % 2) ≡ paste bits at (digits width value) (i + 1)
-digits-more bits at width value i inside h =
-    ap (set (paste bits at (digits width value) i) (at + i)) (sym (digit-at width value i h))
-    ∙ (paste-suc bits at (digits width value) i 0 (omega arith) (omega (arith, length-digits width value))
-    ∙ ap (paste bits at (digits width value)) (sym (add-one i)))
+-- before the first run nothing is written
+pub written-none : (xs : List ℕ) (at v : ℕ) → Written xs at 0 v xs
+written-none xs at v = record {
+  same-length = refl;
+  bits = sym (ap (λ n. take at (bitsOf xs) ++ drop n (bitsOf xs)) {x = at + 0} {y = at} (omega arith) ∙ take-append-drop at (bitsOf xs));
+}
 
-pub digits-done : (bits : List ℕ) (at width value : ℕ)
-    → paste bits at (digits width value) width ≡ take at bits ++ (digits width value ++ drop (at + width) bits)
-digits-done bits at width value =
-    ap (λ ds. take at bits ++ ds ++ drop (at + width) bits) (take-all width (digits width value) (omega (arith, length-digits width value)))
-    ∙ append-assoc (take at bits) (digits width value) (drop (at + width) bits)
+joined : (a b m r : List ℕ) → (a ++ b) ++ (m ++ r) ≡ a ++ ((b ++ m) ++ r)
+joined a b m r = simp append-assoc
+
+-- two adjoining runs are one
+written-more : (xs ys zs : List ℕ) (at i k v : ℕ) → at + i + k ≤ 8 * length xs
+    → Written xs at i (v / 2 ^ k) ys → Written ys (at + i) k v zs → Written xs at (i + k) v zs
+written-more xs ys zs at i k v inside first next =
+    let bits = bitsOf xs in
+    let rest = drop (at + i) bits in
+    let front = take at bits ++ digits i (v / 2 ^ k) in
+    let was : bitsOf ys ≡ front ++ (take k rest ++ drop k rest) =
+    first .bits ∙ (sym (append-assoc (take at bits) (digits i (v / 2 ^ k)) rest) ∙ ap (λ l. front ++ l) (sym (take-append-drop k rest))) in
+    let lf : length front ≡ at + i =
+    length-append (take at bits) (digits i (v / 2 ^ k)) ∙ omega (arith, length-take-le at bits (omega (arith, length-bits xs)), length-digits i (v / 2 ^ k)) in
+    let lm : length (take k rest) ≡ k = length-take-le k rest (omega (arith, length-drop (at + i) bits, length-bits xs)) in
+    record {
+      same-length = next .same-length ∙ first .same-length;
+      bits =
+          next .bits
+          ∙ (replaced front (take k rest) (drop k rest) (digits k v) (bitsOf ys) (at + i) k was lf lm
+          ∙ (joined (take at bits) (digits i (v / 2 ^ k)) (digits k v) (drop k rest)
+          ∙ (ap (λ ds. take at bits ++ (ds ++ drop k rest)) (sym (digits-append i k v))
+          ∙ ap (λ l. take at bits ++ (digits (i + k) v ++ l)) (drop-drop k (at + i) bits ∙ ap (λ n. drop n bits) (add-assoc at i k)))));
+    }
+
+-- the next run of a field: k digits of the value after its first i
+pub written-next : (xs ys zs : List ℕ) (at width value i k : ℕ) → Inside xs at width → i + k ≤ width
+    → Written xs at i (value / 2 ^ (width - i)) ys → Written ys (at + i) k (value / 2 ^ (width - i - k)) zs
+    → Written xs at (i + k) (value / 2 ^ (width - (i + k))) zs
+written-next xs ys zs at width value i k inside h first next =
+    let e : value / 2 ^ (width - i) ≡ value / 2 ^ (width - i - k) / 2 ^ k =
+    ap (λ n. value / 2 ^ n) {x = width - i} {y = width - i - k + k} (omega arith) ∙ sym (shr-shr value (width - i - k) k) in
+    let d : width - (i + k) ≡ width - i - k = omega arith in
+    rw d (written-more xs ys zs at i k (value / 2 ^ (width - i - k)) (omega (arith, inside .inside)) (rw e at first) next)
+
+-- after the last run the whole field is written
+pub written-whole : (xs ys : List ℕ) (at width value i : ℕ) → i ≡ width → Written xs at i (value / 2 ^ (width - i)) ys → Written xs at width value ys
+written-whole xs ys at width value i e w =
+    let none : width - i ≡ 0 = omega arith in
+    let all : value / 2 ^ (width - i) ≡ value = ap (λ n. value / 2 ^ n) none ∙ div-one value in
+    rw (all, e) at w

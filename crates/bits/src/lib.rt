@@ -1,6 +1,6 @@
 ghost use mathlib.Core.Path.{_≡_};
-ghost use Prim.Native.Nat.{_+_, _*_, _≤_, _<_};
-ghost use lib.ListN.{length, take, drop, getD, set};
+ghost use Prim.Native.Nat.{_+_, _*_, _%_, _≤_, _<_};
+ghost use lib.ListN.{length, take, drop, getD};
 ghost use Rattle.model.specs.Bits.{bitsOf, number, letterWidth};
 ghost use Rattle.bits.specs.Fields.{Inside, Written};
 
@@ -35,29 +35,40 @@ pub fn read_field(bytes: &[u8], at: usize, width: usize) -> u16
     value
 }
 
-// Changes the bit at a position and no other.
-pub fn write_bit(bytes: &mut [u8], at: usize, bit: u8)
-    requires { ⌜ (at < 8 * length (now bytes)) × (bit < 2) ⌝ }
-    ensures length { λ r. ⌜ length (now (bytes .exit)) ≡ length (now (bytes .entry)) ⌝ }
-    ensures bits { λ r. ⌜ bitsOf (now (bytes .exit)) ≡ set (bitsOf (now (bytes .entry))) at bit ⌝ }
+// How many of the next bits lie in the byte of the first, out of those that are left.
+fn run_length(at: usize, left: usize) -> usize
+    requires { ⌜ 1 ≤ left ⌝ }
+    ensures { λ r. ⌜ (1 ≤ r) × (r ≤ left) × (at % 8 + r ≤ 8) ⌝ }
 {
-    let place = at / 8;
-    let shift = 7 - at % 8;
-    let weight: u8 = 1 << shift;
-    let old = bytes[place];
-    let was = (old >> shift) % 2;
-    bytes[place] = old - was * weight + bit * weight;
+    let room = 8 - at % 8;
+    if room < left { room } else { left }
 }
 
-// Writes the last `width` digits of a value into a field, and changes no other bit.
+// Writes the last `count` digits of a value into a run of bits within one byte, and changes no other bit: the byte is put together anew from
+// the bits before the run, the run and the bits after it. At 16 bits, since a `span` or a `weight` may be 2 ^ 8.
+fn write_run(bytes: &mut [u8], at: usize, count: usize, value: u16)
+    requires { ⌜ (at < 8 * length (now bytes)) × (at % 8 + count ≤ 8) ⌝ }
+    ensures { λ r. ⌜ Written (now (bytes .entry)) at count value (now (bytes .exit)) ⌝ }
+{
+    let place = at / 8;
+    let after = 8 - at % 8;
+    let span: u16 = 1 << count;
+    let weight: u16 = 1 << (after - count);
+    let old = bytes[place] as u16;
+    let head = old >> after;
+    bytes[place] = ((head * span + value % span) * weight + old % weight) as u8;
+}
+
+// Writes the last `width` digits of a value into a field, a byte's share at a time, and changes no other bit.
 pub fn write_field(bytes: &mut [u8], at: usize, width: usize, value: u16)
     requires { ⌜ Inside (now bytes) at width ⌝ }
     ensures { λ r. ⌜ Written (now (bytes .entry)) at width value (now (bytes .exit)) ⌝ }
 {
     let mut i: usize = 0;
     while i < width {
-        let bit = (value >> (width - 1 - i)) % 2;
-        write_bit(bytes, at + i, bit as u8);
-        i += 1;
+        let left = width - i;
+        let count = run_length(at + i, left);
+        write_run(bytes, at + i, count, value >> (left - count));
+        i += count;
     }
 }

@@ -1,84 +1,67 @@
--- `bits::write_field` meets its contract. The loop's invariant: the digits passed stand in the field, and every other bit is as it was.
-use mathlib.Core.Path.{_≡_, refl, sym, ap, _∙_}
-use Prim.Native.Nat.{ℕ, _+_, _*_, _^_, _≤_, _<_, _-_, _/_, _%_}
+-- `bits::write_field` meets its contract. The loop's invariant: the value's first i digits stand in the field, and every other bit is as it was.
+use Prim.Native.Nat.{_+_, _-_, _/_, _^_, _≤_}
 use native.Mathlib.Omega.{arith}
-use lib.ListN.{length, set}
-use lib.Seq.{paste, paste-zero}
-use Rattle.model.specs.Bits.{bitsOf, digits}
-use Rattle.bits.specs.Fields.{Inside, Written}
-use Rattle.bits.proofs.Bytes.{length-bits}
-use Rattle.bits.proofs.Fields.{digits-more, digits-done}
+use Rattle.bits.specs.Fields.{Written}
+use Rattle.bits.proofs.Fields.{written-none, written-next, written-whole}
 use Rattle.bits.proofs.write_field.Statement.{statement}
 use Rattle.bits.proofs.write_field.Tie as tie
 
 abbrev Inv-loop : tie.InvT-loop
-Inv-loop bytes₀ at width value i₀ bytes i =
-    (i ≤ width) × (length bytes ≡ length bytes₀) × (bitsOf bytes ≡ paste (bitsOf bytes₀) at (digits width value) i)
+Inv-loop bytes₀ at width value i₀ bytes i = (i ≤ width) × Written bytes₀ at i (value / 2 ^ (width - i)) bytes
 
 abbrev μ-loop : tie.MeasureT-loop
 μ-loop bytes₀ at width value i₀ bytes i = width - i
 
 loop-holds : tie.Need-loop-holds Inv-loop μ-loop
-loop-holds c = (omega arith, refl, paste-zero (bitsOf (c .before .args .bytes .now)) (c .before .args .at) (digits (c .before .args .width) (c .before .args .value)))
+loop-holds c = (omega arith, written-none (c .before .args .bytes .now) (c .before .args .at) (c .before .args .value / 2 ^ (c .before .args .width - 0)))
 
-sub-bit : tie.Need-sub-bit Inv-loop μ-loop
-sub-bit c = omega arith
+sub-left : tie.Need-sub-left Inv-loop μ-loop
+sub-left c = omega arith
 
-sub-bit-2 : tie.Need-sub-bit-2 Inv-loop μ-loop
-sub-bit-2 c = omega arith
+add-run-length : tie.Need-add-run-length Inv-loop μ-loop
+add-run-length c = omega arith
 
-cast-bit : tie.Need-cast-bit Inv-loop μ-loop
-cast-bit c = omega (arith, c .before .before .before .pre .narrow)
+run-length-requires : tie.Need-run-length-requires Inv-loop μ-loop
+run-length-requires c κs = omega arith
 
-shr-bit : tie.Need-shr-bit Inv-loop μ-loop
-shr-bit c = omega (arith, c .before .before .before .pre .narrow)
+add-write-run : tie.Need-add-write-run Inv-loop μ-loop
+add-write-run c = omega arith
 
-add-write-bit : tie.Need-add-write-bit Inv-loop μ-loop
-add-write-bit c = omega (arith, c .before .before .before .before .pre .small)
+sub-write-run : tie.Need-sub-write-run Inv-loop μ-loop
+sub-write-run c = omega arith
 
-cast-write-bit : tie.Need-cast-write-bit Inv-loop μ-loop
-cast-write-bit c = omega arith
+cast-write-run : tie.Need-cast-write-run Inv-loop μ-loop
+cast-write-run c = omega arith
 
-write-bit-requires : tie.Need-write-bit-requires Inv-loop μ-loop
-write-bit-requires c κs =
-    let s = c .before .before .before .before in
-    let l = c .before .before .loop in
-    (omega (arith, s .pre .inside, l .inv .1), omega arith)
+shr-write-run : tie.Need-shr-write-run Inv-loop μ-loop
+shr-write-run c = omega arith
+
+write-run-requires : tie.Need-write-run-requires Inv-loop μ-loop
+write-run-requires c κs = (omega arith, omega arith)
 
 add-i : tie.Need-add-i Inv-loop μ-loop
-add-i c = omega (arith, c .before .before .before .before .before .before .before .pre .narrow)
+add-i c = omega arith
 
 loop-less : tie.Need-loop-less Inv-loop μ-loop
 loop-less c = omega arith
 
 loop-again : tie.Need-loop-again Inv-loop μ-loop
 loop-again c =
-    let s = c .before .before .before .before .before .before .before in
-    let l = c .before .before .before .before .before .loop in
-    let w = c .before .before .write-bit in
-    let i : l .i < s .args .width = omega arith in (
-      omega arith,
-      w .ensures .0 ∙ l .inv .1,
-      w .ensures .1
-          ∙ (ap (λ bs. set bs (s .args .at + l .i) (s .args .value / 2 ^ (s .args .width - 1 - l .i) % 2)) (l .inv .2)
-          ∙ digits-more (bitsOf (s .args .bytes .now)) (s .args .at) (s .args .width) (s .args .value) (l .i) (omega (arith, s .pre .inside, length-bits (s .args .bytes .now))) i),
-    )
+    let s = c .before .before .before .before .before .before .before .before in
+    let l = c .before .before .before .before .before .before .loop in
+    let k = c .before .before .before .before .run-length .result in
+    let w = c .before .before .write-run in
+    let h : l .i + k ≤ s .args .width = omega arith in
+    (h, written-next (s .args .bytes .now) (l .bytes) (w .last .0) (s .args .at) (s .args .width) (s .args .value) (l .i) k (s .pre) h (l .inv .1) (w .ensures))
 
 same-length : tie.Need-same-length Inv-loop μ-loop
-same-length c = c .before .loop .inv .1
+same-length c = c .before .loop .inv .1 .same-length
 
 returns : tie.Need-returns Inv-loop μ-loop
 returns c =
     let s = c .before .before .before in
     let l = c .before .loop in
-    let e : l .i ≡ s .args .width = omega arith in
-    record {
-      same-length = l .inv .1;
-      bits =
-          l .inv .2
-          ∙ (ap (paste (bitsOf (s .args .bytes .now)) (s .args .at) (digits (s .args .width) (s .args .value))) e
-          ∙ digits-done (bitsOf (s .args .bytes .now)) (s .args .at) (s .args .width) (s .args .value));
-    }
+    written-whole (s .args .bytes .now) (l .bytes) (s .args .at) (s .args .width) (s .args .value) (l .i) (omega arith) (l .inv .1)
 
 pub write-field-spec : {M : Type 1} → statement M
 write-field-spec =
@@ -87,13 +70,14 @@ write-field-spec =
     Inv-loop
     μ-loop
     loop-holds
-    sub-bit
-    sub-bit-2
-    cast-bit
-    shr-bit
-    add-write-bit
-    cast-write-bit
-    write-bit-requires
+    sub-left
+    add-run-length
+    run-length-requires
+    add-write-run
+    sub-write-run
+    cast-write-run
+    shr-write-run
+    write-run-requires
     add-i
     loop-less
     loop-again
