@@ -28,14 +28,14 @@ fn endless_stops(allowance: u16, workspace: &mut [u8]) -> bool
     }
 }
 
-// At allowances from 0 to 65,535, all of them up to 64, then further and further apart.
+// At every allowance, from 0 to 65,535.
 fn endless_always_stops(workspace: &mut [u8]) -> bool {
     let mut allowance: u16 = 0;
-    while allowance < 60000 {
+    while allowance < 65535 {
         if !endless_stops(allowance, workspace) {
             return false;
         }
-        allowance += 1 + allowance / 64;
+        allowance += 1;
     }
     endless_stops(65535, workspace)
 }

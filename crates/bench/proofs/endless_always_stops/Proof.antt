@@ -31,9 +31,6 @@ returns c = search needs
 add-allowance : tie.Need-add-allowance Inv-loop μ-loop
 add-allowance c = omega arith
 
-add-allowance-2 : tie.Need-add-allowance-2 Inv-loop μ-loop
-add-allowance-2 c = omega arith
-
 loop-less : tie.Need-loop-less Inv-loop μ-loop
 loop-less c = omega arith
 
@@ -60,7 +57,6 @@ endless-always-stops-spec =
     same-length
     returns
     add-allowance
-    add-allowance-2
     loop-less
     loop-again
     endless-stops-requires-2
