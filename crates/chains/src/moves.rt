@@ -84,7 +84,7 @@ pub fn emit(
     let count = offset as u16;
     let entry = Slot { count, a, b };
     write_slot(answer, size, index, entry);
-    push_inverse(bytes, left, cells, from + 1, y);
+    push_inverse(bytes, left, cells, from);
     Place {
         left,
         right: at.right,

@@ -5,7 +5,7 @@ use mathlib.Core.Bool.{Bool, true, false, cond}
 use Prim.Native.Nat.{ℕ, suc, _+_, _-_, _≤_, _<_}
 use native.Mathlib.Omega.{arith}
 use borrow.Author.Tests.{eq-eqb, ne-eqb}
-use borrow.Rule.Slice.PartMut.{putMid, postOf, take-put, post-is, same-len-mid}
+use borrow.Rule.Slice.PartMut.{putMid, take-put, post-is, same-len-mid}
 use lib.Dec.{eqb}
 use lib.ListN.{length, take, drop, getD, length-append, length-drop}
 use lib.Seq.{drop-at, drop-length, length-take-le}
@@ -37,10 +37,11 @@ module _ (kept : ℕ) (xs ys : List ℕ) (inside : kept ≤ length xs) where
   pub part-front : take kept (putMid kept (length xs - kept) xs ys) ≡ take kept xs
   part-front = take-put kept (length xs - kept) xs ys inside
 
+  pub part-back : putMid kept (length xs - kept) xs ys ≡ take kept xs ++ ys
+  part-back = ap (λ l. take kept xs ++ l) (ap (λ l. ys ++ l) (post-is kept (length xs) xs inside ∙ drop-length xs) ∙ append-nil ys)
+
   pub part-end : drop kept (putMid kept (length xs - kept) xs ys) ≡ ys
-  part-end =
-      drop-at (take kept xs) (ys ++ postOf kept (length xs - kept) xs) kept (length-take-le kept xs inside)
-      ∙ (ap (λ l. ys ++ l) (post-is kept (length xs) xs inside ∙ drop-length xs) ∙ append-nil ys)
+  part-end = ap (drop kept) part-back ∙ drop-at (take kept xs) ys kept (length-take-le kept xs inside)
 
   pub part-length : length ys ≡ length (take (length xs - kept) (drop kept xs)) → length (putMid kept (length xs - kept) xs ys) ≡ length xs
   part-length n = same-len-mid kept (length xs - kept) xs ys n

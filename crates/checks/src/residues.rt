@@ -73,8 +73,8 @@ pub fn word_residue(cells: &[u8], bytes: &mut [u8], a: u8, b: u8, c: u8, budget:
     if end < x + y {
         return Residue::Halted(Stop::Room);
     }
-    push_inverse(bytes, x, cells, to_b + 1, x);
-    push_word(bytes, end, cells, to_c + 1, y);
+    push_inverse(bytes, x, cells, to_b);
+    push_word(bytes, end, cells, to_c);
     let ending = reversing(
         cells,
         bytes,

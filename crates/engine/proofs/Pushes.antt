@@ -1,5 +1,5 @@
 -- Letters are written just before `right`, one at a time: what each turn of the two writing loops adds.
-use mathlib.Core.Path.{_≡_, refl, sym, ap, _∙_}
+use mathlib.Core.Path.{_≡_, refl, sym, ap, ap₂, subst, _∙_}
 use mathlib.Core.List.{List, [], _∷_, _++_, map, map-append, reverse-append}
 use Prim.Native.Nat.{ℕ, zero, suc, _+_, _-_, _≤_, _<_}
 use native.Mathlib.Omega.{arith}
@@ -76,6 +76,16 @@ word-more z count i n h =
     ∙ (sym (letters-cons (getD z (count - 1 - i) 0) (drop (suc (count - 1 - i)) z))
     ∙ (ap letters (sym (drop-cons z (count - 1 - i) 0 (omega arith))) ∙ ap (λ j. letters (drop j z)) f))
 
+-- how many letters are written, and where the next one goes, when j of n are left
+left-of : (n j : ℕ) → j ≤ n → n - (n - j) ≡ j
+left-of n j h = omega arith
+
+one-more : (n j : ℕ) → 1 ≤ j → j ≤ n → n - j + 1 ≡ n - (j - 1)
+one-more n j some h = omega arith
+
+last-left : (n j : ℕ) → 1 ≤ j → j ≤ n → n - 1 - (n - j) ≡ j - 1
+last-left n j some h = omega arith
+
 -- a word in the cells: so many bytes from a place on
 module _ (cells : List ℕ) (from count : ℕ) (inside : from + count ≤ length cells) where
   pub length-word : length (take count (drop from cells)) ≡ count
@@ -108,6 +118,19 @@ module _ (cells : List ℕ) (from count : ℕ) (inside : from + count ≤ length
     word-all after i e p =
         let f : count - i ≡ 0 = omega arith in
         pushed-as (ap (λ j. letters (drop j (take count (drop from cells)))) f) e p
+
+    -- the same, told by how many letters are left
+    pub word-down : (after : List ℕ) (j next : ℕ) → 1 ≤ j → j ≤ count → next + (count - j) ≡ right
+        → Pushed (letters (drop j (take count (drop from cells)))) bytes right (count - j) after
+        → Pushed (letters (drop (j - 1) (take count (drop from cells)))) bytes right (count - (j - 1)) (set after (next - 1) (getD cells (from + (j - 1)) 0))
+    word-down after j next some most e p =
+        let place : right - 1 - (count - j) ≡ next - 1 = omega arith in
+        let left : count - (count - j + 1) ≡ j - 1 = ap (λ k. count - k) (one-more count j some most) ∙ left-of count (j - 1) (omega arith) in
+        let turned =
+        word-turn after (count - j) (omega arith) (pushed-as (sym (ap (λ k. letters (drop k (take count (drop from cells)))) (left-of count j most))) refl p) in
+        subst (Pushed (letters (drop (j - 1) (take count (drop from cells)))) bytes right (count - (j - 1)))
+        (ap₂ (λ p k. set after p (getD cells (from + k) 0)) place (last-left count j some most))
+        (pushed-as (ap (λ k. letters (drop k (take count (drop from cells)))) left) (one-more count j some most) turned)
 
     -- a turn of the loop that writes its inverse
     pub inverse-turn : (after : List ℕ) (i v : ℕ) → i < count → letter v ≡ flip (letter (getD cells (from + i) 0))

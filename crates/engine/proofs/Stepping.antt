@@ -1,5 +1,5 @@
 -- The step at a site, from what the cells of its pair say: each way in which it ends.
-use mathlib.Core.Path.{_≡_, refl, sym, ap, _∙_}
+use mathlib.Core.Path.{_≡_, refl, sym, ap, subst, _∙_}
 use mathlib.Core.List.{List, [], _∷_}
 use Prim.Native.Nat.{ℕ, _+_, _-_, _≤_, _<_}
 use native.Mathlib.Omega.{arith}
@@ -9,7 +9,7 @@ use Rattle.model.specs.Presentation.{Presentation}
 use Rattle.model.specs.Reversing.{next, blocked}
 use Rattle.engine.specs.Gap.{letters, wordAt, AtSite}
 use Rattle.engine.specs.Cells.{cellAt, InRange, Word-at, Serves}
-use Rattle.engine.specs.Turn.{Pushed, Steps, Outgrows, Goes}
+use Rattle.engine.specs.Turn.{cellLetters, Pushed, Steps, Outgrows, Goes}
 use Rattle.engine.proofs.Lettering.{letters-positive}
 use Rattle.engine.proofs.Rules.{Rule, inside, open-cell, word-cell}
 use Rattle.engine.proofs.AtGap.{before, after, before-named, after-named, blocked-here, goes, outgrows, steps}
@@ -77,14 +77,16 @@ module _ (cells bytes : List ℕ) (left right : ℕ) (h : AtSite (wordAt bytes l
         no-room long =
             outgrows bytes left right h T (s .lettered) (rule .x) (rule .y) (rule .rule) (omega (arith, to-count, from-count))
 
-        pub stepped : (mid last : List ℕ)
-            → Pushed (inverse (letters (take (getD cells from 0) (drop (from + 1) cells)))) bytes (right + 1) (getD cells from 0) mid
-            → Pushed (letters (take (getD cells to 0) (drop (to + 1) cells))) mid (right + 1 - getD cells from 0) (getD cells to 0) last
+        pub stepped : (mid last : List ℕ) (middle end : ℕ) → middle ≡ right + 1 - getD cells from 0 → end ≡ middle - getD cells to 0
+            → Pushed (inverse (cellLetters cells from)) bytes (right + 1) (getD cells from 0) mid
+            → Pushed (cellLetters cells to) mid middle (getD cells to 0) last
             → getD cells to 0 + getD cells from 0 ≤ right + 1 - (left - 1)
-            → Steps T (wordAt bytes left right) last (left - 1) (right + 1 - getD cells from 0 - getD cells to 0) a b
-        stepped mid last p q room =
-            steps bytes left right h T (s .lettered) (rule .x) (rule .y) (rule .rule) (getD cells to 0) (getD cells from 0) to-count from-count
-            (letters (take (getD cells to 0) (drop (to + 1) cells))) (inverse (letters (take (getD cells from 0) (drop (from + 1) cells))))
+            → Steps T (wordAt bytes left right) last (left - 1) end a b
+        stepped mid last middle end em ee p q room =
+            let place : right + 1 - getD cells from 0 - getD cells to 0 ≡ end = sym (ee ∙ ap (λ m. m - getD cells to 0) em) in
+            subst (λ e. Steps T (wordAt bytes left right) last (left - 1) e a b) place
+            (steps bytes left right h T (s .lettered) (rule .x) (rule .y) (rule .rule) (getD cells to 0) (getD cells from 0) to-count from-count
+            (cellLetters cells to) (inverse (cellLetters cells from))
             (cell-letters (s .stands .few) (rule .to) (to + 1) (getD cells to 0) (ap (λ i. i + 1) et) to-count)
             (ap inverse (cell-letters (s .stands .few) (rule .from) (from + 1) (getD cells from 0) (ap (λ i. i + 1) ef) from-count))
-            mid last p q room (rule .to .lettered) (rule .from .lettered)
+            mid last p (subst (λ m. Pushed (cellLetters cells to) mid m (getD cells to 0) last) em q) room (rule .to .lettered) (rule .from .lettered))

@@ -2,7 +2,7 @@
 use mathlib.Core.List.{List, [], _∷_, _++_}
 use mathlib.Core.Path.{_≡_}
 use Prim.Native.Nat.{ℕ, _+_, _-_, _≤_, _<_}
-use lib.ListN.{length, take, drop}
+use lib.ListN.{length, take, drop, getD}
 use Rattle.model.specs.Word.{Word}
 use Rattle.model.specs.Presentation.{Presentation}
 use Rattle.model.specs.Reversing.{next, no-site, blocked, step}
@@ -11,6 +11,16 @@ use Rattle.engine.specs.Cells.{Lettered, Serves}
 use Rattle.engine.specs.declared.step.Turn.{Turn}
 use Rattle.engine.specs.declared.step.Turn.the-variants.{Final, Undefined, Stopped, Stepped}
 use Rattle.model.specs.declared.answers.Stop.the-variants.{Budget, Room}
+
+-- the letters of a cell's word
+abbrev pub cellLetters : List ℕ → ℕ → Word
+cellLetters cells at = letters (take (getD cells at 0) (drop (at + 1) cells))
+
+-- a cell's word lies inside the cells, and there is room for it before `right`
+pub record CellFits (cells : List ℕ) (at : ℕ) (bytes : List ℕ) (right : ℕ) : Type 0 where
+  pub held : at + getD cells at 0 < length cells
+  pub room : getD cells at 0 ≤ right
+  pub inside : right ≤ length bytes
 
 -- `word`, of `count` letters, was written just before `right`, and no byte before it or from `right` on has changed
 pub record Pushed (word : Word) (bytes : List ℕ) (right count : ℕ) (after : List ℕ) : Type 0 where

@@ -1,10 +1,10 @@
 ghost use mathlib.Core.Path.{_≡_};
-ghost use Prim.Native.Nat.{_≤_, _+_};
-ghost use lib.ListN.{length, take, drop};
+ghost use Prim.Native.Nat.{_-_};
+ghost use lib.ListN.{length, getD};
 ghost use Rattle.model.specs.Word.{inverse};
-ghost use Rattle.engine.specs.Gap.{letters, wordAt, Searched, AtSite};
+ghost use Rattle.engine.specs.Gap.{wordAt, Searched, AtSite};
 ghost use Rattle.engine.specs.Cells.{Ready};
-ghost use Rattle.engine.specs.Turn.{Pushed, TurnMeans};
+ghost use Rattle.engine.specs.Turn.{cellLetters, CellFits, Pushed, TurnMeans};
 use crate::cells::cell_at;
 use crate::gap::Gap;
 use crate::gap::Sought;
@@ -21,28 +21,37 @@ pub enum Turn {
     Stepped { gap: Gap, pair: Pair },
 }
 
-// Writes the letters of a word just before `right`.
-pub fn push_word(bytes: &mut [u8], right: usize, cells: &[u8], from: usize, count: usize)
-    requires { ⌜ (count ≤ right) × (right ≤ length (now bytes)) × (from + count ≤ length (now cells)) ⌝ }
-    ensures { λ r. ⌜ Pushed (letters (take count (drop from (now (cells .entry))))) (now (bytes .entry)) right count (now (bytes .exit)) ⌝ }
+// Writes the word of a cell just before `right`, from its last letter on; the place where it begins.
+pub fn push_word(bytes: &mut [u8], right: usize, cells: &[u8], at: usize) -> usize
+    requires { ⌜ CellFits (now cells) at (now bytes) right ⌝ }
+    ensures place { λ r. ⌜ r ≡ right - getD (now (cells .entry)) at 0 ⌝ }
+    ensures pushed { λ r. ⌜ Pushed (cellLetters (now (cells .entry)) at) (now (bytes .entry)) right (getD (now (cells .entry)) at 0) (now (bytes .exit)) ⌝ }
 {
-    let mut i: usize = 0;
-    while i < count {
-        bytes[right - 1 - i] = cells[from + (count - 1 - i)];
-        i += 1;
+    let mut next = right;
+    let mut i = cells[at] as usize;
+    while i > 0 {
+        next -= 1;
+        bytes[next] = cells[at + i];
+        i -= 1;
     }
+    next
 }
 
-// Writes the inverse of a word just before `right`.
-pub fn push_inverse(bytes: &mut [u8], right: usize, cells: &[u8], from: usize, count: usize)
-    requires { ⌜ (count ≤ right) × (right ≤ length (now bytes)) × (from + count ≤ length (now cells)) ⌝ }
-    ensures { λ r. ⌜ Pushed (inverse (letters (take count (drop from (now (cells .entry)))))) (now (bytes .entry)) right count (now (bytes .exit)) ⌝ }
+// Writes the inverse of the word of a cell just before `right`; the place where it begins. The loop reads the word's length anew each time:
+// with a length that it knows, the compiler spreads the loop over code for long words, and most words have one or two letters.
+pub fn push_inverse(bytes: &mut [u8], right: usize, cells: &[u8], at: usize) -> usize
+    requires { ⌜ CellFits (now cells) at (now bytes) right ⌝ }
+    ensures place { λ r. ⌜ r ≡ right - getD (now (cells .entry)) at 0 ⌝ }
+    ensures pushed { λ r. ⌜ Pushed (inverse (cellLetters (now (cells .entry)) at)) (now (bytes .entry)) right (getD (now (cells .entry)) at 0) (now (bytes .exit)) ⌝ }
 {
+    let mut next = right;
     let mut i: usize = 0;
-    while i < count {
-        bytes[right - 1 - i] = turned(cells[from + i]);
+    while i < cells[at] as usize {
+        next -= 1;
+        bytes[next] = turned(cells[at + 1 + i]);
         i += 1;
     }
+    next
 }
 
 // One step at a site, or why there is none; `left` steps of the budget are left.
@@ -69,13 +78,10 @@ pub fn step(cells: &[u8], bytes: &mut [u8], site: Gap, left: u16) -> Turn
     if next + 1 - at < x + y {
         return Turn::Stopped(Stop::Room);
     }
-    push_inverse(bytes, next + 1, cells, from + 1, y);
-    push_word(bytes, next + 1 - y, cells, to + 1, x);
+    let middle = push_inverse(bytes, next + 1, cells, from);
+    let right = push_word(bytes, middle, cells, to);
     Turn::Stepped {
-        gap: Gap {
-            left: at,
-            right: next + 1 - y - x,
-        },
+        gap: Gap { left: at, right },
         pair: Pair { a, b },
     }
 }

@@ -2,8 +2,8 @@ ghost use mathlib.Core.Path.{_≡_};
 ghost use Prim.Native.Nat.{_+_, _≤_};
 ghost use lib.ListN.{length, replicate};
 ghost use Rattle.services.specs.Areas.{FractionWritten};
-use engine::step::push_inverse;
-use engine::step::push_word;
+use checks::words::invert;
+use images::writing::copy_bytes;
 
 // Leaves an area all zero.
 pub(crate) fn wipe(area: &mut [u8])
@@ -21,12 +21,6 @@ pub(crate) fn write_fraction(word: &[u8], numerator: usize, denominator: usize, 
     requires { ⌜ (numerator + denominator ≤ length (now word)) × (numerator + denominator ≤ length (now answer)) ⌝ }
     ensures { λ r. ⌜ FractionWritten (now (word .entry)) numerator denominator (now (answer .entry)) (now (answer .exit)) ⌝ }
 {
-    push_inverse(
-        answer,
-        numerator + denominator,
-        word,
-        numerator,
-        denominator,
-    );
-    push_word(answer, numerator, word, 0, numerator);
+    copy_bytes(word, numerator + denominator, answer);
+    invert(&mut answer[numerator..], denominator);
 }

@@ -76,9 +76,6 @@ write-slot-requires c κs =
       omega (arith, a-top (s .pre .2) (s .pre .3) .low, b-top (s .pre .2) (s .pre .3) .low),
     )
 
-add-push-inverse : tie.Need-add-push-inverse
-add-push-inverse c = search needs
-
 push-inverse-requires : tie.Need-push-inverse-requires
 push-inverse-requires c κs =
     let s = c .before .before .before .before .before .before .before .before .before .before .before .before .before .before .before in
@@ -106,13 +103,13 @@ returns c =
     let s = c .before .before .before .before .before .before .before .before .before .before .before .before .before .before .before .before .before .before in
     let to = c .before .before .before .before .before .before .before .before .before .before .before .before .before .before .cell-at in
     let from = c .before .before .before .before .before .before .before .before .before .before .before .before .before .cell-at2 in (
-      c .before .before .push-inverse .ensures .same-length,
+      c .before .before .push-inverse .ensures .1 .same-length,
       record {
         one-more = refl;
         few-more = omega (arith, from-short (s .pre .2) (s .pre .3) (from .result) (from .ensures));
         situation = λ total t h top.
             emitted-here h top (to .result) (from .result) (s .args .at .passed - getD (s .args .cells .now) (to .result) 0 - 1) (to .ensures) (from .ensures) refl
-            (c .before .before .before .before .before .before .write-slot .ensures) (c .before .before .push-inverse .ensures);
+            (c .before .before .before .before .before .before .write-slot .ensures) (c .before .before .push-inverse .ensures .1);
       },
     )
 
@@ -134,7 +131,6 @@ emit-spec =
     sub-stacked
     cast-count
     write-slot-requires
-    add-push-inverse
     push-inverse-requires
     same-length
     same-length-2

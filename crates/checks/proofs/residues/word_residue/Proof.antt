@@ -68,9 +68,6 @@ returns c =
           )),
     )
 
-add-push-inverse : tie.Need-add-push-inverse
-add-push-inverse c = search needs
-
 push-inverse-requires : tie.Need-push-inverse-requires
 push-inverse-requires c κs =
     let s = c .before .before .before .before .before .before .before .before in
@@ -85,9 +82,6 @@ push-inverse-requires c κs =
     let ic = cell-inside t (s .args .a) (s .args .c) (t .lettered .0) (t .lettered .1 .1 .0) in
     omega (arith, bx, eb, tb .ensures, ib, c .before .if1 .left)
 
-add-push-word : tie.Need-add-push-word
-add-push-word c = search needs
-
 push-word-requires : tie.Need-push-word-requires
 push-word-requires c κs =
     let s = c .before .before .before .before .before .before .before .before .before .before .before .before in
@@ -100,7 +94,7 @@ push-word-requires c κs =
     let ec = ap (λ i. getD (s .args .cells .now) i 0) (tc .ensures) in
     let ib = cell-inside t (s .args .a) (s .args .b) (t .lettered .0) (t .lettered .1 .0) in
     let ic = cell-inside t (s .args .a) (s .args .c) (t .lettered .0) (t .lettered .1 .1 .0) in
-    omega (arith, cx, ec, tc .ensures, ic, c .before .before .before .push-inverse .ensures .same-length, c .before .before .before .before .before .if1 .left)
+    omega (arith, cx, ec, tc .ensures, ic, c .before .before .before .push-inverse .ensures .1 .same-length, c .before .before .before .before .before .if1 .left)
 
 sub-t16 : tie.Need-sub-t16
 sub-t16 c = search needs
@@ -113,7 +107,7 @@ reversing-requires c κs =
     let tc = c .before .before .before .before .before .before .before .before .before .before .before .before .cell-at2 in
     let rb = rule-of t (s .args .a) (s .args .b) (t .lettered .0) (t .lettered .1 .0) (s .pre .1 .0) in
     let rc = rule-of t (s .args .a) (s .args .c) (t .lettered .0) (t .lettered .1 .1 .0) (s .pre .1 .1) in
-    (words-searched (s .args .cells .now) (s .args .bytes .now) (c .before .before .before .before .before .before .before .push-inverse .last .0) (c .before .before .before .push-word .last .0) (s .args .a) (s .args .b) (s .args .c) (tb .result) (tc .result) (tb .ensures) (tc .ensures) (c .before .before .before .before .before .before .before .push-inverse .ensures) (c .before .before .before .push-word .ensures) (c .before .before .before .before .before .before .before .before .before .if1 .left) (s .pre .0 .0) (t .stands .few) (rb .x) (rc .x) (rb .to) (rc .to), (s .pre .0 .0, words-served (s .args .cells .now) (s .args .bytes .now) (c .before .before .before .before .before .before .before .push-inverse .last .0) (c .before .before .before .push-word .last .0) (s .args .a) (s .args .b) (s .args .c) (tb .result) (tc .result) (tb .ensures) (tc .ensures) (c .before .before .before .before .before .before .before .push-inverse .ensures) (c .before .before .before .push-word .ensures) (c .before .before .before .before .before .before .before .before .before .if1 .left) (s .pre .0 .0) (t .stands .few) (rb .x) (rc .x) (rb .to) (rc .to) t))
+    (words-searched (s .args .cells .now) (s .args .bytes .now) (c .before .before .before .before .before .before .before .push-inverse .last .0) (c .before .before .before .push-word .last .0) (s .args .a) (s .args .b) (s .args .c) (tb .result) (tc .result) (tb .ensures) (tc .ensures) (c .before .before .before .before .before .before .before .push-inverse .ensures .1) (c .before .before .before .push-word .ensures .1) (c .before .before .before .before .before .before .before .before .before .if1 .left) (s .pre .0 .0) (t .stands .few) (rb .x) (rc .x) (rb .to) (rc .to), (s .pre .0 .0, words-served (s .args .cells .now) (s .args .bytes .now) (c .before .before .before .before .before .before .before .push-inverse .last .0) (c .before .before .before .push-word .last .0) (s .args .a) (s .args .b) (s .args .c) (tb .result) (tc .result) (tb .ensures) (tc .ensures) (c .before .before .before .before .before .before .before .push-inverse .ensures .1) (c .before .before .before .push-word .ensures .1) (c .before .before .before .before .before .before .before .before .before .if1 .left) (s .pre .0 .0) (t .stands .few) (rb .x) (rc .x) (rb .to) (rc .to) t))
 
 residue-of-requires : tie.Need-residue-of-requires
 residue-of-requires c κs = search needs
@@ -127,9 +121,9 @@ returns-2 c =
     let tb = c .before .before .before .before .before .before .before .before .before .before .before .before .before .before .before .before .before .cell-at in
     let tc = c .before .before .before .before .before .before .before .before .before .before .before .before .before .before .before .before .cell-at2 in
     let v = c .before .before .before .reversing in (
-      v .ensures .0 ∙ (c .before .before .before .before .before .before .before .push-word .ensures .same-length ∙ c .before .before .before .before .before .before .before .before .before .before .before .push-inverse .ensures .same-length),
+      v .ensures .0 ∙ (c .before .before .before .before .before .before .before .push-word .ensures .1 .same-length ∙ c .before .before .before .before .before .before .before .before .before .before .before .push-inverse .ensures .1 .same-length),
       λ T t x x′ y y′ ex ey. subst (Works (T .size) (under T (s .args .budget) (length (v .last .1 .0)) x y) (v .last .1 .0)) (sym (c .residue-of .ensures))
-          (under-works T x y (s .args .budget) (v .last .1 .0) (v .result) (words-loaded (s .args .cells .now) (s .args .bytes .now) (c .before .before .before .before .before .before .before .before .before .before .before .push-inverse .last .0) (c .before .before .before .before .before .before .before .push-word .last .0) (s .args .a) (s .args .b) (s .args .c) (tb .result) (tc .result) (tb .ensures) (tc .ensures) (c .before .before .before .before .before .before .before .before .before .before .before .push-inverse .ensures) (c .before .before .before .before .before .before .before .push-word .ensures) (c .before .before .before .before .before .before .before .before .before .before .before .before .before .if1 .left) T (t .stands .few) x y (cell-of t (s .args .a) (s .args .b) (t .lettered .0) (t .lettered .1 .0) x x′ ex) (cell-of t (s .args .a) (s .args .c) (t .lettered .0) (t .lettered .1 .1 .0) y y′ ey)) (v .ensures .1 T (words-served (s .args .cells .now) (s .args .bytes .now) (c .before .before .before .before .before .before .before .before .before .before .before .push-inverse .last .0) (c .before .before .before .before .before .before .before .push-word .last .0) (s .args .a) (s .args .b) (s .args .c) (tb .result) (tc .result) (tb .ensures) (tc .ensures) (c .before .before .before .before .before .before .before .before .before .before .before .push-inverse .ensures) (c .before .before .before .before .before .before .before .push-word .ensures) (c .before .before .before .before .before .before .before .before .before .before .before .before .before .if1 .left) T (t .stands .few) x y (cell-of t (s .args .a) (s .args .b) (t .lettered .0) (t .lettered .1 .0) x x′ ex) (cell-of t (s .args .a) (s .args .c) (t .lettered .0) (t .lettered .1 .1 .0) y y′ ey) t))),
+          (under-works T x y (s .args .budget) (v .last .1 .0) (v .result) (words-loaded (s .args .cells .now) (s .args .bytes .now) (c .before .before .before .before .before .before .before .before .before .before .before .push-inverse .last .0) (c .before .before .before .before .before .before .before .push-word .last .0) (s .args .a) (s .args .b) (s .args .c) (tb .result) (tc .result) (tb .ensures) (tc .ensures) (c .before .before .before .before .before .before .before .before .before .before .before .push-inverse .ensures .1) (c .before .before .before .before .before .before .before .push-word .ensures .1) (c .before .before .before .before .before .before .before .before .before .before .before .before .before .if1 .left) T (t .stands .few) x y (cell-of t (s .args .a) (s .args .b) (t .lettered .0) (t .lettered .1 .0) x x′ ex) (cell-of t (s .args .a) (s .args .c) (t .lettered .0) (t .lettered .1 .1 .0) y y′ ey)) (v .ensures .1 T (words-served (s .args .cells .now) (s .args .bytes .now) (c .before .before .before .before .before .before .before .before .before .before .before .push-inverse .last .0) (c .before .before .before .before .before .before .before .push-word .last .0) (s .args .a) (s .args .b) (s .args .c) (tb .result) (tc .result) (tb .ensures) (tc .ensures) (c .before .before .before .before .before .before .before .before .before .before .before .push-inverse .ensures .1) (c .before .before .before .before .before .before .before .push-word .ensures .1) (c .before .before .before .before .before .before .before .before .before .before .before .before .before .if1 .left) T (t .stands .few) x y (cell-of t (s .args .a) (s .args .b) (t .lettered .0) (t .lettered .1 .0) x x′ ex) (cell-of t (s .args .a) (s .args .c) (t .lettered .0) (t .lettered .1 .1 .0) y y′ ey) t))),
     )
 
 pub word-residue-spec : {M : Type 1} → statement M
@@ -144,9 +138,7 @@ word-residue-spec =
     cast-y
     add-if1
     returns
-    add-push-inverse
     push-inverse-requires
-    add-push-word
     push-word-requires
     sub-t16
     reversing-requires

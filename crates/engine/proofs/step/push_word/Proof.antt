@@ -1,69 +1,74 @@
--- `engine::step::push_word` meets its contract. The loop's invariant: the last `i` letters are written.
-use mathlib.Core.Path.{_≡_, refl, sym, ap, _∙_}
+-- `engine::step::push_word` meets its contract. The loop's invariant: the letters after the first `i` are written.
+use mathlib.Core.Path.{_≡_, ap}
 use Prim.Native.Nat.{ℕ, _+_, _-_, _≤_, _<_}
 use native.Mathlib.Omega.{arith}
 use lib.ListN.{length, take, drop, getD}
-use Rattle.model.specs.Word.{letter}
 use Rattle.engine.specs.Gap.{letters}
 use Rattle.engine.specs.Turn.{Pushed}
-use Rattle.engine.proofs.Pushes.{word-turn, word-none, word-all}
+use Rattle.engine.proofs.Pushes.{pushed-as, word-down, word-none}
 use Rattle.engine.proofs.step.push_word.Statement.{statement}
 use Rattle.engine.proofs.step.push_word.Tie as tie
-use Rattle.engine.proofs.step.push_word.Reads as reads
-use Rattle.engine.proofs.step.push_word.Lts as lts
-use Rattle.engine.proofs.letter.turned.Reads as turned-reads
 
 abbrev Inv-loop : tie.InvT-loop
-Inv-loop bytes₀ right cells from count i₀ bytes i =
-    (i ≤ count) × Pushed (letters (drop (count - i) (take count (drop from cells)))) bytes₀ right i bytes
+Inv-loop bytes₀ right cells at next₀ i₀ bytes next i =
+    (i ≤ getD cells at 0) × (next + (getD cells at 0 - i) ≡ right)
+    × Pushed (letters (drop i (take (getD cells at 0) (drop (at + 1) cells)))) bytes₀ right (getD cells at 0 - i) bytes
 
 abbrev μ-loop : tie.MeasureT-loop
-μ-loop bytes₀ right cells from count i₀ bytes i = count - i
+μ-loop bytes₀ right cells at next₀ i₀ bytes next i = i
+
+shared-slice-read-i : tie.Need-shared-slice-read-i Inv-loop μ-loop
+shared-slice-read-i c = omega (arith, c .before .pre .held)
+
+cast-i : tie.Need-cast-i Inv-loop μ-loop
+cast-i c = omega (arith, c .shared-slice-known .given (c .before .args .at))
 
 loop-holds : tie.Need-loop-holds Inv-loop μ-loop
-loop-holds c = (omega arith, word-none (c .args .cells .now) (c .args .from) (c .args .count) (c .pre .2) (c .args .bytes .now) (c .args .right) (c .pre .1) (c .pre .0))
+loop-holds c =
+    let s = c .before in
+    let all : getD (s .args .cells .now) (s .args .at) 0 - 0 ≡ getD (s .args .cells .now) (s .args .at) 0 = omega arith in
+    let none : 0 ≡ getD (s .args .cells .now) (s .args .at) 0 - getD (s .args .cells .now) (s .args .at) 0 = omega arith in
+    (omega arith, omega arith, pushed-as (ap (λ k. letters (drop k (take (getD (s .args .cells .now) (s .args .at) 0) (drop (s .args .at + 1) (s .args .cells .now))))) all) none (word-none (s .args .cells .now) (s .args .at + 1) (getD (s .args .cells .now) (s .args .at) 0) (omega (arith, s .pre .held)) (s .args .bytes .now) (s .args .right) (s .pre .inside) (s .pre .room)))
 
-sub-bytes : tie.Need-sub-bytes Inv-loop μ-loop
-sub-bytes c = omega arith
-
-sub-bytes-2 : tie.Need-sub-bytes-2 Inv-loop μ-loop
-sub-bytes-2 c = omega arith
+sub-next : tie.Need-sub-next Inv-loop μ-loop
+sub-next c = omega (arith, c .before .before .before .pre .room, c .before .loop .inv .0, c .before .loop .inv .1, c .loop-test .taken)
 
 add-bytes : tie.Need-add-bytes Inv-loop μ-loop
-add-bytes c = omega arith
+add-bytes c = omega (arith, c .before .before .before .pre .held, c .before .loop .inv .0)
 
 shared-slice-read-bytes : tie.Need-shared-slice-read-bytes Inv-loop μ-loop
-shared-slice-read-bytes c = omega arith
-
-sub-bytes-3 : tie.Need-sub-bytes-3 Inv-loop μ-loop
-sub-bytes-3 c = omega arith
-
-sub-bytes-4 : tie.Need-sub-bytes-4 Inv-loop μ-loop
-sub-bytes-4 c = omega arith
+shared-slice-read-bytes c = omega (arith, c .before .before .before .before .pre .held, c .before .before .loop .inv .0)
 
 slice-write-bytes : tie.Need-slice-write-bytes Inv-loop μ-loop
-slice-write-bytes c = omega arith
+slice-write-bytes c = omega (arith, c .before .before .before .before .pre .inside, c .before .before .before .before .pre .room, c .before .before .loop .inv .0, c .before .before .loop .inv .1, c .before .before .loop .inv .2 .same-length, c .before .loop-test .taken)
 
-add-i : tie.Need-add-i Inv-loop μ-loop
-add-i c = omega arith
+sub-i : tie.Need-sub-i Inv-loop μ-loop
+sub-i c = omega (arith, c .before .loop-test .taken)
 
 loop-less : tie.Need-loop-less Inv-loop μ-loop
-loop-less c = omega arith
+loop-less c = omega (arith, c .before .loop-test .taken)
 
 loop-again : tie.Need-loop-again Inv-loop μ-loop
 loop-again c =
-    let s = c .before .before .before in
+    let s = c .before .before .before .before in
     let l = c .before .before .loop in
-    (omega arith, word-turn (s .args .cells .now) (s .args .from) (s .args .count) (s .pre .2) (s .args .bytes .now) (s .args .right) (s .pre .1) (s .pre .0) (l .bytes) (l .i) (omega arith) (l .inv .1))
+    let some = c .before .loop-test .taken in
+    let letter-at : s .args .at + 1 + (l .i - 1) ≡ s .args .at + l .i = omega (arith, some) in (
+      omega (arith, l .inv .0),
+      omega (arith, l .inv .0, l .inv .1, some),
+      rw letter-at at (word-down (s .args .cells .now) (s .args .at + 1) (getD (s .args .cells .now) (s .args .at) 0) (omega (arith, s .pre .held)) (s .args .bytes .now) (s .args .right) (s .pre .inside) (s .pre .room) (l .bytes) (l .i) (l .next) some (l .inv .0) (l .inv .1) (l .inv .2)),
+    )
 
 same-length : tie.Need-same-length Inv-loop μ-loop
-same-length c = omega arith
+same-length c = c .before .loop .inv .2 .same-length
 
 returns : tie.Need-returns Inv-loop μ-loop
 returns c =
-    let s = c .before .before in
+    let s = c .before .before .before in
     let l = c .before .loop in
-    word-all (s .args .cells .now) (s .args .from) (s .args .count) (s .pre .2) (s .args .bytes .now) (s .args .right) (s .pre .1) (s .pre .0) (l .bytes) (l .i) (omega arith) (l .inv .1)
+    let none : l .i ≡ 0 = omega (arith, c .loop-test .left) in
+    let all : getD (s .args .cells .now) (s .args .at) 0 - l .i ≡ getD (s .args .cells .now) (s .args .at) 0 = omega arith in
+    (omega (arith, l .inv .1), pushed-as (ap (λ k. letters (drop k (take (getD (s .args .cells .now) (s .args .at) 0) (drop (s .args .at + 1) (s .args .cells .now))))) none) all (l .inv .2))
 
 pub push-word-spec : {M : Type 1} → statement M
 push-word-spec =
@@ -71,15 +76,14 @@ push-word-spec =
     (tie.spec
     Inv-loop
     μ-loop
+    shared-slice-read-i
+    cast-i
     loop-holds
-    sub-bytes
-    sub-bytes-2
+    sub-next
     add-bytes
     shared-slice-read-bytes
-    sub-bytes-3
-    sub-bytes-4
     slice-write-bytes
-    add-i
+    sub-i
     loop-less
     loop-again
     same-length

@@ -106,9 +106,6 @@ returns-3 c =
 add-push-inverse : tie.Need-add-push-inverse
 add-push-inverse c = search needs
 
-add-push-inverse-2 : tie.Need-add-push-inverse-2
-add-push-inverse-2 c = search needs
-
 push-inverse-requires : tie.Need-push-inverse-requires
 push-inverse-requires c κs =
     let s = c .before .before .before .before .before .before .before .before .before .before .before .before .before in
@@ -118,15 +115,6 @@ push-inverse-requires c κs =
     let from = c .before .before .before .before .before .before .cell-at2 in
     omega (arith, from-short (s .args .cells .now) (s .args .bytes .now) l r (s .pre .0) (s .pre .1 .0) (s .pre .1 .1) (to .result) (to .ensures) (from .result) (from .ensures) (c .before .before .before .if1 .left), from-inside (s .args .cells .now) (s .args .bytes .now) l r (s .pre .0) (s .pre .1 .0) (s .pre .1 .1), from .ensures, s .pre .0 .some-after, c .before .if3 .left)
 
-add-push-word : tie.Need-add-push-word
-add-push-word c = search needs
-
-sub-push-word : tie.Need-sub-push-word
-sub-push-word c = search needs
-
-add-push-word-2 : tie.Need-add-push-word-2
-add-push-word-2 c = search needs
-
 push-word-requires : tie.Need-push-word-requires
 push-word-requires c κs =
     let s = c .before .before .before .before .before .before .before .before .before .before .before .before .before .before .before .before .before in
@@ -134,16 +122,8 @@ push-word-requires c κs =
     let r = s .args .site .right in
     let to = c .before .before .before .before .before .before .before .before .before .before .before .cell-at in
     let from = c .before .before .before .before .before .before .before .before .before .before .cell-at2 in
-    omega (arith, to-short (s .args .cells .now) (s .args .bytes .now) l r (s .pre .0) (s .pre .1 .0) (s .pre .1 .1) (to .result) (to .ensures) (from .result) (from .ensures) (c .before .before .before .before .before .before .before .if1 .left), to-inside (s .args .cells .now) (s .args .bytes .now) l r (s .pre .0) (s .pre .1 .0) (s .pre .1 .1), to .ensures, s .pre .0 .some-after, c .before .before .before .push-inverse .ensures .same-length, c .before .before .before .before .before .if3 .left)
-
-add-t23 : tie.Need-add-t23
-add-t23 c = search needs
-
-sub-t22 : tie.Need-sub-t22
-sub-t22 c = search needs
-
-sub-t21 : tie.Need-sub-t21
-sub-t21 c = search needs
+    let inverted = c .before .before .before .push-inverse in
+    omega (arith, to-short (s .args .cells .now) (s .args .bytes .now) l r (s .pre .0) (s .pre .1 .0) (s .pre .1 .1) (to .result) (to .ensures) (from .result) (from .ensures) (c .before .before .before .before .before .before .before .if1 .left), to-inside (s .args .cells .now) (s .args .bytes .now) l r (s .pre .0) (s .pre .1 .0) (s .pre .1 .1), to .ensures, s .pre .0 .some-after, inverted .ensures .0, inverted .ensures .1 .same-length, c .before .before .before .before .before .if3 .left)
 
 same-length : tie.Need-same-length
 same-length c = search needs
@@ -157,8 +137,8 @@ returns-4 c =
     let from = c .before .before .before .before .before .before .before .before .before .before .before .before .before .cell-at2 in
     let inverted = c .before .before .before .before .before .before .push-inverse in
     let pushed = c .before .before .push-word in (
-      pushed .ensures .same-length ∙ inverted .ensures .same-length,
-      λ T t. (omega (arith, c .before .before .before .before .before .before .before .before .before .if2 .left), stepped (s .args .cells .now) (s .args .bytes .now) l r (s .pre .0) T t (to .result) (to .ensures) (from .result) (from .ensures) (c .before .before .before .before .before .before .before .before .before .before .if1 .left) (inverted .last .0) (pushed .last .0) (inverted .ensures) (pushed .ensures) (c .before .before .before .before .before .before .before .before .if3 .left)),
+      pushed .ensures .1 .same-length ∙ inverted .ensures .1 .same-length,
+      λ T t. (omega (arith, c .before .before .before .before .before .before .before .before .before .if2 .left), stepped (s .args .cells .now) (s .args .bytes .now) l r (s .pre .0) T t (to .result) (to .ensures) (from .result) (from .ensures) (c .before .before .before .before .before .before .before .before .before .before .if1 .left) (inverted .last .0) (pushed .last .0) (inverted .result) (pushed .result) (inverted .ensures .0) (pushed .ensures .0) (inverted .ensures .1) (pushed .ensures .1) (c .before .before .before .before .before .before .before .before .if3 .left)),
     )
 
 pub step-spec : {M : Type 1} → statement M
@@ -182,14 +162,7 @@ step-spec =
     add-if3-2
     returns-3
     add-push-inverse
-    add-push-inverse-2
     push-inverse-requires
-    add-push-word
-    sub-push-word
-    add-push-word-2
     push-word-requires
-    add-t23
-    sub-t22
-    sub-t21
     same-length
     returns-4)

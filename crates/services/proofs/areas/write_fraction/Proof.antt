@@ -1,17 +1,33 @@
 -- `services::areas::write_fraction` meets its contract.
+use mathlib.Core.Path.{_≡_, subst}
+use Prim.Native.Nat.{_-_, _≤_}
+use native.Mathlib.Omega.{arith}
+use lib.ListN.{length, take, drop, length-drop}
+use lib.Seq.{take-all}
+use Rattle.checks.specs.Words.{Inverted}
+use Rattle.checks.proofs.Triples.{part-back}
 use Rattle.services.proofs.Fractions.{fraction-written}
 use borrow.Author.Needs.{needs}
 use Rattle.services.proofs.areas.write_fraction.Statement.{statement}
 use Rattle.services.proofs.areas.write_fraction.Tie as tie
 
-add-push-inverse : tie.Need-add-push-inverse
-add-push-inverse c = search needs
+add-copy-bytes : tie.Need-add-copy-bytes
+add-copy-bytes c = search needs
 
-push-inverse-requires : tie.Need-push-inverse-requires
-push-inverse-requires c κs = search needs
+copy-bytes-requires : tie.Need-copy-bytes-requires
+copy-bytes-requires c κs = search needs
 
-push-word-requires : tie.Need-push-word-requires
-push-word-requires c κs = search needs
+sub-invert : tie.Need-sub-invert
+sub-invert c = search needs
+
+part-invert-start : tie.Need-part-invert-start
+part-invert-start c = search needs
+
+part-invert-end : tie.Need-part-invert-end
+part-invert-end c = search needs
+
+invert-requires : tie.Need-invert-requires
+invert-requires c κs = search needs
 
 same-length : tie.Need-same-length
 same-length c = search needs
@@ -19,12 +35,25 @@ same-length c = search needs
 returns : tie.Need-returns
 returns c =
     let s = c .before .before .before .before .before .before .before .before .before .before in
-    let inverted = c .before .before .before .before .before .before .push-inverse in
-    let pushed = c .before .before .push-word in
-    fraction-written (s .args .word .now) (s .args .answer .now) (inverted .last .0) (pushed .last .0) (s .args .numerator) (s .args .denominator)
-    (s .pre .0) (s .pre .1) (inverted .ensures) (pushed .ensures)
+    let copied = c .before .before .before .before .before .before .copy-bytes in
+    let inverted = c .before .before .invert in
+    let mid = copied .last .1 .1 .0 in
+    let n = s .args .numerator in
+    let d = s .args .denominator in
+    let reaches : n ≤ length mid = omega (arith, copied .ensures .0, s .pre .1) in
+    let whole : take (length mid - n) (drop n mid) ≡ drop n mid = take-all (length mid - n) (drop n mid) (omega (arith, length-drop n mid)) in
+    fraction-written (s .args .word .now) (s .args .answer .now) mid (inverted .last .0) _ n d (s .pre .0) (copied .ensures .1)
+    (subst (λ l. Inverted l d (inverted .last .0)) whole (inverted .ensures)) (part-back n mid (inverted .last .0) reaches)
 
 pub write-fraction-spec : {M : Type 1} → statement M
 write-fraction-spec =
     tie.close
-    (tie.spec add-push-inverse push-inverse-requires push-word-requires same-length returns)
+    (tie.spec
+    add-copy-bytes
+    copy-bytes-requires
+    sub-invert
+    part-invert-start
+    part-invert-end
+    invert-requires
+    same-length
+    returns)
