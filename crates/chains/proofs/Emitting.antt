@@ -9,8 +9,9 @@ use Rattle.model.specs.Equivalence.{Entry}
 use Rattle.model.specs.Images.{entryBits}
 use Rattle.engine.specs.Gap.{letters}
 use Rattle.engine.specs.Turn.{Pushed}
-use Rattle.engine.specs.Cells.{cellAt, InRange, Word-at}
-use Rattle.engine.proofs.Lettering.{length-positive, length-negative, letters-positive}
+use Rattle.engine.specs.Cells.{cellAt, InRange}
+use Rattle.engine.proofs.Lettering.{length-positive, length-negative}
+use Rattle.engine.proofs.Stepping.{cell-letters}
 use Rattle.chains.specs.declared.moves.Place.{Place}
 use Rattle.chains.specs.Faces.{Face, below, passedOf}
 use Rattle.chains.specs.Slots.{slotAt, SlotInside, Placed, Layout}
@@ -23,13 +24,6 @@ use Rattle.chains.proofs.Layouts.{given-up}
 use Rattle.chains.proofs.Rests.{held-length, left-length, pushed-rest, pushed-left}
 use Rattle.chains.proofs.Restated.{course-of, layout-of, passed-of, stacked-of}
 use Rattle.chains.proofs.Meeting.{wide, sized, cell-inside, slot-in}
-
--- the letters of a cell's word
-pub cell-word : {cells : List ℕ} {at n : ℕ} {x : Positive} → n ≤ 16 → Word-at cells at n x → (from count : ℕ) → from ≡ at → count ≡ length x
-    → letters (take count (drop (from + 1) cells)) ≡ positive x
-cell-word {cells} {at} {n} {x} few w from count e f =
-    ap (λ i. letters (take i (drop (from + 1) cells))) f
-    ∙ (ap (λ i. letters (take (length x) (drop (i + 1) cells))) e ∙ (ap letters (w .word) ∙ letters-positive n few x (w .lettered)))
 
 below-long : (faces : List Face) (left : Positive) → length left ≤ length (below faces left)
 below-long [] left = omega (arith, length-positive left)
@@ -144,7 +138,7 @@ module _ {t : Task} {cells : List ℕ} {size total : ℕ} {bytes answer : List �
         })
     emitted-here {after} {pushed} p q =
         let word : inverse (letters (take (getD cells from 0) (drop (from + 1) cells))) ≡ negative (f .other) =
-        ap inverse (cell-word (s .settled .stands .few) (from-cell (s .settled) course) from (getD cells from 0) (from-is from ef) (from-count from ef)) in
+        ap inverse (cell-letters (s .settled .stands .few) (from-cell (s .settled) course) (from + 1) (getD cells from 0) (ap (λ i. i + 1) (from-is from ef)) (from-count from ef)) in
         record {
           settled = s .settled;
           rest = f .other ++ s .rest;
