@@ -43,38 +43,81 @@ enum braid_result {
 };
 
 /*
- * Refusals 1 to 8 leave the workspace as found; after any other outcome it is all zero. A refusal leaves the answer area as found.
+ * What the parameters are in every call:
+ *
+ *   table, program, first, second, chain   images, as document 01 packs them; only read
+ *   plain                                  a table or program unpacked, a byte a number; only read
+ *   allowance                              the most steps of one reversing, 0 to 65,535
+ *   workspace                              a byte holds a move; what it holds on entry plays no part. Refusals 1 to 8 leave it as found, after
+ *                                          any other outcome it is all zero
+ *   answer                                 gets the answer from its first byte on; bytes after the answer stay as found, and so do all after a
+ *                                          refusal
+ *   values                                 set by every call, as listed above
+ *
+ * No call takes memory from a heap. As compiled for x86-64, packing and unpacking a table take 13 KiB of stack, every other call 6 KiB.
  */
 
-/* The numerator, then the denominator, a byte a move, in the answer area. */
+/*
+ * Reverses a program. The answer area gets the numerator, then the denominator, a byte a move, both forward.
+ * Values: length of the numerator, length of the denominator, steps. Refusals: 1 to 6, 10, 11, 12, 13.
+ */
 uint8_t braid_reverse(const uint8_t *table, size_t table_length, const uint8_t *program, size_t program_length, uint16_t allowance,
                       uint8_t *workspace, size_t workspace_length, uint8_t *answer, size_t answer_length, uint64_t values[4]);
 
-/* The length check, then the cube check. */
+/*
+ * The length check of a table, then its cube check.
+ * Values: none. Refusals: 1 to 3, 8, 9, 11, 12.
+ */
 uint8_t braid_clear(const uint8_t *table, size_t table_length, uint16_t allowance, uint8_t *workspace, size_t workspace_length,
                     uint64_t values[4]);
 
-/* Two programs of forward moves, under a table that clears within the call. */
+/*
+ * Clears the table and compares two programs of forward moves under it: the same exactly if a chain of swaps joins them.
+ * Values: 0 same or 1 different, steps. Refusals: 1 to 9, 11, 12, 14.
+ */
 uint8_t braid_compare(const uint8_t *table, size_t table_length, const uint8_t *first, size_t first_length, const uint8_t *second,
                       size_t second_length, uint16_t allowance, uint8_t *workspace, size_t workspace_length, uint64_t values[4]);
 
-/* As compare; after 'same' the answer area begins with the image of a chain from the first program to the second. */
+/*
+ * As compare. After 'same' the answer area begins with the image of a chain from the first program to the second; its first 16 bits are the
+ * number of its entries, at most the steps. After 'different' the area is as found.
+ * Values: as compare. Refusals: as compare, and 13 after 'same' if the area is too short for as many entries as there were steps.
+ */
 uint8_t braid_chain(const uint8_t *table, size_t table_length, const uint8_t *first, size_t first_length, const uint8_t *second,
                     size_t second_length, uint16_t allowance, uint8_t *workspace, size_t workspace_length, uint8_t *answer,
                     size_t answer_length, uint64_t values[4]);
 
-/* A chain between two forward programs, whoever made it; the table need not clear. */
+/*
+ * Follows a chain, whoever made it, from the first program of forward moves; the table need not clear. The workspace holds the word on its way.
+ * Values: 0 it joins the programs, 1 it breaks or 2 it ends at another program; the entry that breaks, from 0. Refusals: 1 to 7, 12.
+ */
 uint8_t braid_check(const uint8_t *table, size_t table_length, const uint8_t *first, size_t first_length, const uint8_t *second,
                     size_t second_length, const uint8_t *chain, size_t chain_length, uint8_t *workspace, size_t workspace_length,
                     uint64_t values[4]);
 
+/*
+ * The image of a plain table: at most 1,936 bytes.
+ * Values: bytes written. Refusals: 1, 2, 3, 13.
+ */
 uint8_t braid_pack_table(const uint8_t *plain, size_t plain_length, uint8_t *answer, size_t answer_length, uint64_t values[4]);
 
+/*
+ * The plain form of a table: at most 3,841 bytes.
+ * Values: bytes written. Refusals: 1, 2, 3, 13.
+ */
 uint8_t braid_unpack_table(const uint8_t *table, size_t table_length, uint8_t *answer, size_t answer_length, uint64_t values[4]);
 
+/*
+ * The image of a plain program under its table: at most 2,561 bytes. A forward move is its number, a back move 128 more.
+ * Values: bytes written. Refusals: 1 to 5, 13.
+ */
 uint8_t braid_pack_program(const uint8_t *table, size_t table_length, const uint8_t *plain, size_t plain_length, uint8_t *answer,
                            size_t answer_length, uint64_t values[4]);
 
+/*
+ * The plain form of a program: a byte a move, at most 4,095.
+ * Values: bytes written. Refusals: 1 to 6, 13.
+ */
 uint8_t braid_unpack_program(const uint8_t *table, size_t table_length, const uint8_t *program, size_t program_length, uint8_t *answer,
                              size_t answer_length, uint64_t values[4]);
 

@@ -1,6 +1,15 @@
 #!/bin/sh
-# Builds the static library and runs the bench sheet through the C interface, with the strictest warnings as errors.
+# The C interface: the example of README, then the bench sheet, both compiled with the strictest warnings as errors.
 cd "$(dirname "$0")/.." || exit 1
-rt staticlib firmware > target/staticlib.log 2>&1 || { cat target/staticlib.log; echo "the static library was not built"; exit 1; }
-gcc -std=c11 -Wall -Wextra -Werror -pedantic -Iinclude tests/sheet.c target/staticlib/libfirmware.a -o target/sheet || exit 1
+sh tests/library.sh || exit 1
+
+# compiled SOURCE PROGRAM
+compiled() {
+    gcc -std=c11 -Wall -Wextra -Werror -pedantic -Iinclude "$1" target/staticlib/libfirmware.a -o "$2"
+}
+
+sed -n '/^```c$/,/^```$/p' README.md | sed '1d;$d' > target/example.c
+compiled target/example.c target/example || exit 1
+[ "$(target/example)" = "result 0, steps 5" ] || { echo "failed: the example of README"; exit 1; }
+compiled tests/sheet.c target/sheet || exit 1
 target/sheet

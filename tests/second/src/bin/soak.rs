@@ -1,0 +1,120 @@
+//! Holds the firmware against the second implementation on random cases.
+//!
+//!     soak [--calls N | --minutes M] [--seed S] [--case SEED]
+//!
+//! Cases are numbered from the seed on. A case that fails is printed with its number and bytes; `--case` runs that one again.
+use second::cases::{run, Tally};
+use std::process::ExitCode;
+use std::sync::atomic::{AtomicBool, AtomicU64, AtomicUsize, Ordering};
+use std::sync::Mutex;
+use std::time::{Duration, Instant};
+
+struct Plan {
+    calls: usize,
+    minutes: u64,
+    seed: u64,
+    case: Option<u64>,
+}
+
+fn plan() -> Result<Plan, String> {
+    let mut plan = Plan { calls: 200_000, minutes: 0, seed: 1, case: None };
+    let mut arguments = std::env::args().skip(1);
+    while let Some(flag) = arguments.next() {
+        let value = arguments.next().ok_or(format!("{flag} wants a number"))?;
+        let number: u64 = value.parse().map_err(|_| format!("{value} is no number"))?;
+        match flag.as_str() {
+            "--calls" => plan.calls = number as usize,
+            "--minutes" => plan.minutes = number,
+            "--seed" => plan.seed = number,
+            "--case" => plan.case = Some(number),
+            _ => return Err(format!("{flag} is no flag of this program")),
+        }
+    }
+    Ok(plan)
+}
+
+/// The results that a run must have met, so that a change of the cases can't leave a service or a refusal untried.
+fn met(tally: &Tally) -> Vec<String> {
+    let mut missing = Vec::new();
+    let mut want = |service: &'static str, results: &[(u8, u64)]| {
+        for (result, value) in results {
+            if !tally.results.contains_key(&(service, *result, *value)) {
+                missing.push(format!("{service} never gave {result} with first value {value}"));
+            }
+        }
+    };
+    want("reverse", &[(0, 0), (1, 0), (2, 0), (3, 0), (4, 0), (5, 0), (6, 0), (10, 1), (11, 0), (12, 0), (13, 0)]);
+    want("clear", &[(0, 0), (1, 0), (2, 0), (3, 0), (8, 1), (9, 2), (11, 2), (12, 2)]);
+    let stops = [(1, 0), (2, 0), (3, 0), (4, 0), (5, 0), (6, 0), (7, 0), (8, 1), (9, 2), (11, 0), (11, 2), (12, 0), (12, 2)];
+    for service in ["compare", "chain"] {
+        want(service, &[(0, 0), (0, 1)]);
+        want(service, &stops);
+    }
+    want("chain", &[(13, 0)]);
+    want("check", &[(0, 0), (0, 1), (0, 2), (1, 0), (2, 0), (3, 0), (4, 0), (5, 0), (6, 0), (7, 0), (12, 0)]);
+    for service in ["pack table", "unpack table"] {
+        want(service, &[(0, 0), (1, 0), (2, 0), (3, 0), (13, 0)]);
+    }
+    want("pack program", &[(0, 0), (1, 0), (2, 0), (3, 0), (4, 0), (5, 0), (13, 0)]);
+    want("unpack program", &[(0, 0), (1, 0), (2, 0), (3, 0), (4, 0), (5, 0), (6, 0), (13, 0)]);
+    missing
+}
+
+/// Runs cases on every processor until the plan is met or one fails.
+fn soak(plan: &Plan) -> (Tally, Vec<String>) {
+    let (total, failures) = (Mutex::new(Tally::default()), Mutex::new(Vec::new()));
+    let (next, calls, stop) = (AtomicU64::new(plan.seed), AtomicUsize::new(0), AtomicBool::new(false));
+    let end = Instant::now() + Duration::from_secs(60 * plan.minutes);
+    let done = || if plan.minutes > 0 { Instant::now() >= end } else { calls.load(Ordering::Relaxed) >= plan.calls };
+    std::thread::scope(|scope| {
+        for _ in 0..std::thread::available_parallelism().map_or(1, |n| n.get()) {
+            scope.spawn(|| {
+                let mut own = Tally::default();
+                while !stop.load(Ordering::Relaxed) && !done() {
+                    let before = own.calls;
+                    if let Err(what) = run(next.fetch_add(1, Ordering::Relaxed), &mut own) {
+                        failures.lock().unwrap().push(what);
+                        stop.store(true, Ordering::Relaxed);
+                    }
+                    calls.fetch_add(own.calls - before, Ordering::Relaxed);
+                }
+                total.lock().unwrap().add(&own);
+            });
+        }
+    });
+    (total.into_inner().unwrap(), failures.into_inner().unwrap())
+}
+
+fn main() -> ExitCode {
+    let plan = match plan() {
+        Ok(plan) => plan,
+        Err(what) => {
+            eprintln!("{what}");
+            return ExitCode::from(2);
+        }
+    };
+    if let Some(case) = plan.case {
+        let held = run(case, &mut Tally::default());
+        println!("{}", held.as_ref().map_or_else(String::clone, |()| format!("case {case} holds")));
+        return if held.is_ok() { ExitCode::SUCCESS } else { ExitCode::FAILURE };
+    }
+    let began = Instant::now();
+    let (tally, failures) = soak(&plan);
+    for ((service, result, value), count) in &tally.results {
+        println!("{service:14} {result:2} {value} {count:9}");
+    }
+    for failure in &failures {
+        println!("DIFFERENCE in {failure}");
+    }
+    let missing = met(&tally);
+    for what in &missing {
+        println!("{what}");
+    }
+    let seconds = began.elapsed().as_secs();
+    println!("{} calls, {} verdicts also by search, seed {}, {seconds} s", tally.calls, tally.searched, plan.seed);
+    if failures.is_empty() && missing.is_empty() {
+        ExitCode::SUCCESS
+    } else {
+        ExitCode::FAILURE
+    }
+}

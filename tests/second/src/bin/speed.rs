@@ -1,0 +1,294 @@
+//! The firmware's time beside that of the same gap algorithm in Rust, both in this process, turn by turn.
+//!
+//!     speed [--milliseconds M]
+//!
+//! M is how long each side of a measure runs, in slices; the time shown is that of the fastest slice, which other work on the machine
+//! disturbs least. Every measure first looks that both sides give the same result. The closing lines hold the times against the targets.
+use second::gap;
+use second::image::{program_image, table_image};
+use second::plain::plain_table;
+use second::random::Random;
+use second::reversing::{self, Ending, Limits, Most};
+use second::table::Table;
+use second::tables::{braid, forward_word};
+use second::word::{bytes, undoing, Word};
+use second::{firmware, firmware::Told};
+use std::cell::Cell;
+use std::hint::black_box;
+use std::process::ExitCode;
+use std::time::{Duration, Instant};
+
+const AREA: usize = 32_768;
+const SLICES: u32 = 40;
+/// The firmware's time may be that many times the time in Rust.
+const BESIDE_RUST: f64 = 1.25;
+/// A step's cost at 4,000 moves may be that many times the cost at 50.
+const FLAT: f64 = 1.3;
+
+struct Areas {
+    workspace: Vec<u8>,
+    answer: Vec<u8>,
+}
+
+type Side<'a> = &'a dyn Fn(&mut Areas) -> Told;
+
+/// Times of the firmware and of Rust, in nanoseconds.
+#[derive(Clone, Copy)]
+struct Times {
+    firmware: f64,
+    rust: f64,
+}
+
+impl Times {
+    /// What each of `units` costs beyond the fixed part.
+    fn beyond(self, fixed: Times, units: u64) -> Times {
+        let each = |whole: f64, fixed: f64| (whole - fixed) / units as f64;
+        Times { firmware: each(self.firmware, fixed.firmware), rust: each(self.rust, fixed.rust) }
+    }
+
+    fn ratio(self) -> f64 {
+        self.firmware / self.rust
+    }
+
+    fn show(self, name: &str) {
+        println!("| {name} | {:.1} | {:.1} | {:.2} |", self.firmware, self.rust, self.ratio());
+    }
+}
+
+struct Measures {
+    areas: Areas,
+    slice: Duration,
+    differences: usize,
+}
+
+impl Measures {
+    /// Nanoseconds of one call, over whole rounds of the cases.
+    fn nanoseconds(&mut self, cases: usize, side: Side) -> f64 {
+        let (began, mut calls) = (Instant::now(), 0);
+        while began.elapsed() < self.slice {
+            for _ in 0..cases {
+                black_box(side(&mut self.areas));
+            }
+            calls += cases;
+        }
+        began.elapsed().as_nanos() as f64 / calls as f64
+    }
+
+    /// The time of one call on each side, where so many calls go through all cases.
+    fn calls(&mut self, name: &str, cases: usize, one: Side, two: Side) -> Times {
+        for _ in 0..cases {
+            let (told, rust) = (one(&mut self.areas), two(&mut self.areas));
+            if told != rust {
+                println!("{name}: the firmware gives {told:?}, Rust {rust:?}");
+                self.differences += 1;
+            }
+        }
+        let mut times = Times { firmware: f64::INFINITY, rust: f64::INFINITY };
+        for _ in 0..SLICES {
+            times.firmware = times.firmware.min(self.nanoseconds(cases, one));
+            times.rust = times.rust.min(self.nanoseconds(cases, two));
+        }
+        times
+    }
+
+    fn call(&mut self, name: &str, one: Side, two: Side) -> Times {
+        self.calls(name, 1, one, two)
+    }
+}
+
+/// A result of the Rust side as the firmware tells it; of a refusal only the number is compared.
+fn told<T>(result: Result<T, u8>, values: impl FnOnce(T) -> [u64; 4]) -> Told {
+    result.map_or_else(|number| (number, [0; 4]), |answer| (0, values(answer)))
+}
+
+/// So many different inputs of one length that no run of them is foreseen move by move, as a log that is read once isn't.
+const STEPS: u64 = 100_000;
+
+/// The images of the cases that are run in turn.
+struct Cases<T> {
+    images: Vec<T>,
+    next: Cell<usize>,
+}
+
+impl<T> Cases<T> {
+    fn new(images: Vec<T>) -> Cases<T> {
+        Cases { images, next: Cell::new(0) }
+    }
+
+    fn next(&self) -> &T {
+        let at = self.next.get();
+        self.next.set((at + 1) % self.images.len());
+        &self.images[at]
+    }
+}
+
+/// Shows the time of a call and of a step, where the cases have so many steps together.
+fn show_steps(name: &str, cases: usize, steps: u64, whole: Times, fixed: Times) -> (Times, Times) {
+    let each = steps / cases as u64;
+    whole.show(&format!("{name}, {each} steps: the call"));
+    let step = whole.beyond(fixed, each);
+    step.show(&format!("{name}: a step"));
+    (whole, step)
+}
+
+/// Reverse of words of that many moves, half of them back. The time of the call, and of a step.
+fn reverse(measures: &mut Measures, length: usize) -> (Times, Times) {
+    let mut random = Random::new(length as u64);
+    let image = table_image(&braid(4));
+    let (mut programs, mut steps) = (Vec::new(), 0);
+    while steps < STEPS {
+        let (u, v) = (forward_word(&mut random, 4, length / 2), forward_word(&mut random, 4, length / 2));
+        let program = program_image(4, &[undoing(&u), v].concat());
+        let (result, values) = firmware::reverse(&image, &program, 65_535, &mut measures.areas.workspace, &mut measures.areas.answer);
+        // A run that uses the whole allowance has taken that many steps.
+        steps += if result == 0 { values[2] } else { 65_535 };
+        programs.push(program);
+    }
+    let (count, ours, other) = (programs.len(), Cases::new(programs.clone()), Cases::new(programs));
+    let firmware = |allowance: u16| {
+        let (image, ours) = (&image, &ours);
+        move |areas: &mut Areas| firmware::reverse(image, ours.next(), allowance, &mut areas.workspace, &mut areas.answer)
+    };
+    let rust = |allowance: u16| {
+        let (image, other) = (&image, &other);
+        move |areas: &mut Areas| {
+            told(gap::reverse(image, other.next(), allowance, &mut areas.workspace, &mut areas.answer), |(n, d, steps)| {
+                [n as u64, d as u64, steps.into(), 0]
+            })
+        }
+    };
+    let name = format!("reverse, {length} moves");
+    let whole = measures.calls(&name, count, &firmware(65_535), &rust(65_535));
+    let fixed = measures.calls(&name, count, &firmware(0), &rust(0));
+    show_steps(&name, count, steps, whole, fixed)
+}
+
+/// Two joined words of that many moves, with as many steps between them as such words have: u (u\\v) w and v (v\\u) w.
+fn joined(random: &mut Random, table: &Table, length: usize) -> [Word; 2] {
+    let limits = Limits { allowance: 60_000, workspace: AREA };
+    let mut longest = [Word::new(), Word::new()];
+    for k in 1.. {
+        let (u, v) = (forward_word(random, table.moves, k), forward_word(random, table.moves, k));
+        let start = [undoing(&u), v.clone()].concat();
+        let Ending::Finished { numerator, denominator, .. } = reversing::reverse(table, start, 0, limits, &mut Most::default()) else {
+            break;
+        };
+        if u.len() + numerator.len() > length {
+            break;
+        }
+        longest = [[u, numerator].concat(), [v, denominator].concat()];
+    }
+    let tail = forward_word(random, table.moves, length - longest[0].len());
+    longest.map(|word| [word, tail.clone()].concat())
+}
+
+/// Compare of joined programs of that many moves. The time of the call, and of a step.
+fn compare(measures: &mut Measures, length: usize) -> (Times, Times) {
+    let mut random = Random::new(length as u64);
+    let table = braid(4);
+    let image = table_image(&table);
+    let (mut pairs, mut steps) = (Vec::new(), 0);
+    while steps < STEPS {
+        let [first, second] = joined(&mut random, &table, length);
+        let longer = [second.clone(), vec![1]].concat();
+        let pair = [first, second, longer].map(|word| program_image(4, &word));
+        let (_, values) = firmware::compare(&image, &pair[0], &pair[1], 65_535, &mut measures.areas.workspace);
+        steps += values[1];
+        pairs.push(pair);
+    }
+    let (count, ours, other) = (pairs.len(), Cases::new(pairs.clone()), Cases::new(pairs));
+    // Programs of unequal length are read and the table is cleared, but no step is taken.
+    let firmware = |second: usize| {
+        let (image, ours) = (&image, &ours);
+        move |areas: &mut Areas| {
+            let pair = ours.next();
+            firmware::compare(image, &pair[0], &pair[second], 65_535, &mut areas.workspace)
+        }
+    };
+    let rust = |second: usize| {
+        let (image, other) = (&image, &other);
+        move |areas: &mut Areas| {
+            let pair = other.next();
+            told(gap::compare(image, &pair[0], &pair[second], 65_535, &mut areas.workspace), |(same, steps)| {
+                [u64::from(!same), steps.into(), 0, 0]
+            })
+        }
+    };
+    let name = format!("compare, {length} moves each");
+    let whole = measures.calls(&name, count, &firmware(1), &rust(1));
+    let fixed = measures.calls(&name, count, &firmware(2), &rust(2));
+    show_steps(&name, count, steps, whole, fixed)
+}
+
+fn clear(measures: &mut Measures) {
+    let image = table_image(&braid(16));
+    let times = measures.call("clear", &|areas| firmware::clear(&image, 65_535, &mut areas.workspace), &|areas| {
+        told(gap::clear(&image, 65_535, &mut areas.workspace), |()| [0; 4])
+    });
+    times.show("clear the braid table of 16 moves: the call");
+}
+
+fn packing(measures: &mut Measures) {
+    let length = |bytes: usize| [bytes as u64, 0, 0, 0];
+    let table = braid(16);
+    let (image, plain) = (table_image(&table), plain_table(&table));
+    let times = measures.call("pack table", &|areas| firmware::pack_table(&plain, &mut areas.answer), &|areas| {
+        told(gap::pack_table(&plain, &mut areas.answer), length)
+    });
+    times.show("pack the braid table of 16 moves: the call");
+    let times = measures.call("unpack table", &|areas| firmware::unpack_table(&image, &mut areas.answer), &|areas| {
+        told(gap::unpack_table(&image, &mut areas.answer), length)
+    });
+    times.show("unpack it: the call");
+    let word = forward_word(&mut Random::new(1), 16, 4_000);
+    let (program, moves) = (program_image(16, &word), bytes(&word));
+    let times = measures.call("pack program", &|areas| firmware::pack_program(&image, &moves, &mut areas.answer), &|areas| {
+        told(gap::pack_program(&image, &moves, &mut areas.answer), length)
+    });
+    times.show("pack a program of 4,000 moves under it: the call");
+    let times = measures.call("unpack program", &|areas| firmware::unpack_program(&image, &program, &mut areas.answer), &|areas| {
+        told(gap::unpack_program(&image, &program, &mut areas.answer), length)
+    });
+    times.show("unpack it: the call");
+}
+
+/// Prints a target and whether it is met.
+fn target(what: &str, found: f64, most: f64) -> bool {
+    let met = found <= most;
+    println!("{what}: {found:.2}, target {most}: {}", if met { "met" } else { "MISSED" });
+    met
+}
+
+fn main() -> ExitCode {
+    let mut arguments = std::env::args().skip(1);
+    let milliseconds = match (arguments.next().as_deref(), arguments.next().map(|value| value.parse())) {
+        (None, _) => 1_000,
+        (Some("--milliseconds"), Some(Ok(number))) => number,
+        _ => {
+            eprintln!("speed [--milliseconds M]");
+            return ExitCode::from(2);
+        }
+    };
+    let areas = Areas { workspace: vec![0; AREA], answer: vec![0; AREA] };
+    let mut measures = Measures { areas, slice: Duration::from_millis(milliseconds) / SLICES, differences: 0 };
+    println!("| measure | firmware, ns | Rust, ns | ratio |\n|---|---|---|---|");
+    let reversed = [50, 500, 4_000].map(|length| reverse(&mut measures, length));
+    let compared = [50, 500, 4_000].map(|length| compare(&mut measures, length));
+    clear(&mut measures);
+    packing(&mut measures);
+    println!();
+    let mut met = measures.differences == 0;
+    for (name, rows) in [("reverse", reversed), ("compare", compared)] {
+        let rate = rows.iter().map(|(_, step)| 1_000.0 / step.firmware).fold(f64::INFINITY, f64::min);
+        println!("{name}: at least {rate:.0} million steps a second");
+        let slowest = rows.iter().flat_map(|(whole, step)| [whole.ratio(), step.ratio()]).fold(0.0, f64::max);
+        met &= target(&format!("{name}, the firmware's time beside Rust's, at most"), slowest, BESIDE_RUST);
+        let flat = rows[2].1.firmware / rows[0].1.firmware;
+        met &= target(&format!("{name}, a step at 4,000 moves beside one at 50"), flat, FLAT);
+    }
+    if met {
+        ExitCode::SUCCESS
+    } else {
+        ExitCode::FAILURE
+    }
+}

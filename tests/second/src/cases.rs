@@ -1,0 +1,429 @@
+//! Random cases. A case is made from its seed alone: a table, words, images sound or damaged, and calls with allowances and areas of every
+//! class.
+use crate::classes::class;
+use crate::guarded::{call, Call, Left};
+use crate::image::{chain_bytes, chain_image, program_image, read_forward, read_table, table_image, Entry};
+use crate::judge::{expected, judge, listed_chain};
+use crate::plain::plain_table;
+use crate::random::Random;
+use crate::reversing::Most;
+use crate::table::Table;
+use crate::tables::{any, clearing, forward_word, signed_word, walk};
+use crate::word::{bytes, undoing, Word};
+use std::collections::BTreeMap;
+
+/// How often each service gave each result, an answer's first value apart.
+#[derive(Default)]
+pub struct Tally {
+    pub calls: usize,
+    pub searched: usize,
+    pub results: BTreeMap<(&'static str, u8, u64), usize>,
+}
+
+impl Tally {
+    pub fn add(&mut self, other: &Tally) {
+        self.calls += other.calls;
+        self.searched += other.searched;
+        for (key, count) in &other.results {
+            *self.results.entry(*key).or_default() += count;
+        }
+    }
+}
+
+fn name(call: &Call) -> &'static str {
+    match call {
+        Call::Reverse { .. } => "reverse",
+        Call::Clear { .. } => "clear",
+        Call::Compare { .. } => "compare",
+        Call::Chain { .. } => "chain",
+        Call::Check { .. } => "check",
+        Call::PackTable { .. } => "pack table",
+        Call::UnpackTable { .. } => "unpack table",
+        Call::PackProgram { .. } => "pack program",
+        Call::UnpackProgram { .. } => "unpack program",
+    }
+}
+
+/// The first value tells verdicts apart, and whether a stop was at a triple; elsewhere it is a length.
+fn told_apart(call: &Call, left: &Left) -> u64 {
+    let verdict = matches!(call, Call::Compare { .. } | Call::Chain { .. } | Call::Check { .. });
+    if verdict || left.result != 0 {
+        left.values[0]
+    } else {
+        0
+    }
+}
+
+struct Case<'a> {
+    random: Random,
+    tally: &'a mut Tally,
+}
+
+type Held<T> = Result<T, String>;
+
+/// Runs the case of a seed; the error has all that is needed to see it again.
+pub fn run(seed: u64, tally: &mut Tally) -> Held<()> {
+    let mut case = Case { random: Random::new(seed), tally };
+    let held = match case.random.below(64) {
+        0..=15 => case.reversing(),
+        16..=23 => case.clearing(),
+        24..=39 => case.comparing(),
+        40..=48 => case.checking(),
+        49..=62 => case.packing(),
+        _ if case.random.once_in(8) => case.many_steps(),
+        _ => case.long_words(),
+    };
+    held.map_err(|what| format!("case {seed}\n{what}"))
+}
+
+impl Case<'_> {
+    /// Calls the firmware with areas of random content and holds it against the second implementation.
+    fn held(&mut self, made: &Call, workspace: usize, answer: usize) -> Held<Left> {
+        let work = self.random.bytes(workspace);
+        let out = self.random.bytes(answer);
+        let must = expected(made, workspace, answer, &mut Most::default());
+        self.tally.calls += 1;
+        let report = |what: String| format!("{what}\nworkspace of {workspace}, answer area of {answer} bytes; in hexadecimal\n{made:02x?}");
+        let left = call(made, &work, &out).map_err(report)?;
+        judge(made, &must, &work, &out, &left).map_err(report)?;
+        *self.tally.results.entry((name(made), left.result, told_apart(made, &left))).or_default() += 1;
+        Ok(left)
+    }
+
+    /// One of 0, 1, exactly so many, one less, some more, or many.
+    fn length(&mut self, exact: usize) -> usize {
+        match self.random.below(16) {
+            0 => 0,
+            1 => 1,
+            2..=6 => exact,
+            7..=9 => exact.saturating_sub(1),
+            10..=12 => exact + self.random.between(1, 40),
+            13..=14 => self.random.between(0, exact + 40),
+            _ => 32_768,
+        }
+    }
+
+    /// As `length`, for an allowance.
+    fn allowance(&mut self, exact: usize) -> u16 {
+        let steps = match self.random.below(16) {
+            0 => 0,
+            1 => 1,
+            2..=6 => exact,
+            7..=9 => exact.saturating_sub(1),
+            10..=11 => exact + 1,
+            12..=13 => self.random.between(0, exact + 100),
+            14 => self.random.below(2_000),
+            _ => self.random.pick(&[65_535, 65_534, 32_768, 256, 255]),
+        };
+        steps.min(65_535) as u16
+    }
+
+    /// What a call comes to under limits that keep the case short.
+    fn most(&mut self, made: &Call) -> Most {
+        let mut most = Most::default();
+        expected(made, 3_000, 70_000, &mut most);
+        most
+    }
+
+    fn damaged(&mut self, image: &[u8]) -> Vec<u8> {
+        let mut image = image.to_vec();
+        match self.random.below(7) {
+            0 if !image.is_empty() => {
+                let at = self.random.below(image.len());
+                image[at] ^= 1 << self.random.below(8);
+            }
+            1 if !image.is_empty() => {
+                let last = image.len() - 1;
+                image[last] ^= 1 << self.random.below(8);
+            }
+            2 => image.truncate(self.random.below(image.len() + 1)),
+            3 => {
+                image.pop();
+            }
+            4 => image.push(0),
+            5 => {
+                let more = self.random.between(1, 9);
+                image.extend(self.random.bytes(more));
+            }
+            _ => {
+                let length = self.random.below(12);
+                image = self.random.bytes(length);
+            }
+        }
+        image
+    }
+
+    /// An image as it is, or damaged once in `times`.
+    fn perhaps(&mut self, image: &[u8], times: usize) -> Vec<u8> {
+        if self.random.once_in(times) {
+            self.damaged(image)
+        } else {
+            image.to_vec()
+        }
+    }
+
+    fn reversing(&mut self) -> Held<()> {
+        let table = any(&mut self.random);
+        let length = self.random.pick(&[0, 1, 2, 4, 8, 16, 30, 60]);
+        let mut word = signed_word(&mut self.random, table.moves, length);
+        if self.random.once_in(3) {
+            let u = forward_word(&mut self.random, table.moves, length / 2);
+            let v = forward_word(&mut self.random, table.moves, length / 2);
+            word = [undoing(&u), v].concat();
+        }
+        let image = table_image(&table);
+        let program = program_image(table.moves, &word);
+        let sound = Call::Reverse { table: image.clone(), program: program.clone(), allowance: 3_000 };
+        let most = self.most(&sound);
+        let whole = self.held(&sound, most.bytes, 70_000)?;
+        let exact = (whole.values[0] + whole.values[1]) as usize;
+        for _ in 0..10 {
+            let allowance = self.allowance(most.steps);
+            let made = Call::Reverse { table: self.perhaps(&image, 12), program: self.perhaps(&program, 8), allowance };
+            let (workspace, answer) = (self.length(most.bytes), self.length(exact));
+            self.held(&made, workspace, answer)?;
+        }
+        Ok(())
+    }
+
+    fn clearing(&mut self) -> Held<()> {
+        let table = if self.random.once_in(2) { any(&mut self.random) } else { clearing(&mut self.random) };
+        let image = table_image(&table);
+        let most = self.most(&Call::Clear { table: image.clone(), allowance: 3_000 });
+        for _ in 0..8 {
+            let allowance = self.allowance(most.steps);
+            let workspace = self.length(most.bytes);
+            let made = Call::Clear { table: self.perhaps(&image, 12), allowance };
+            self.held(&made, workspace, 0)?;
+        }
+        Ok(())
+    }
+
+    /// A second word for a comparison: joined to the first, joined and then changed, or any.
+    fn other(&mut self, table: &Table, first: &[i8]) -> Word {
+        let swaps = self.random.pick(&[0, 1, 3, 10, 30]);
+        let (_, mut second) = walk(&mut self.random, table, first, swaps);
+        match self.random.below(8) {
+            0 if !second.is_empty() => {
+                let at = self.random.below(second.len());
+                second[at] = self.random.between(1, table.moves as usize) as i8;
+            }
+            1 => second = forward_word(&mut self.random, table.moves, first.len()),
+            2 => {
+                let length = self.random.below(first.len() + 3);
+                second = forward_word(&mut self.random, table.moves, length);
+            }
+            _ => {}
+        }
+        second
+    }
+
+    /// A forward program's image; once in a while a move is turned back.
+    fn forward_image(&mut self, table: &Table, word: &[i8]) -> Vec<u8> {
+        let mut word = word.to_vec();
+        if self.random.once_in(24) && !word.is_empty() {
+            let at = self.random.below(word.len());
+            word[at] = -word[at];
+        }
+        let image = program_image(table.moves, &word);
+        self.perhaps(&image, 16)
+    }
+
+    fn comparing(&mut self) -> Held<()> {
+        let table = if self.random.once_in(8) { any(&mut self.random) } else { clearing(&mut self.random) };
+        let length = self.random.pick(&[0, 1, 2, 3, 4, 6, 8, 12, 25]);
+        let first = forward_word(&mut self.random, table.moves, length);
+        let second = self.other(&table, &first);
+        let (t, f, s) = (table_image(&table), program_image(table.moves, &first), program_image(table.moves, &second));
+        let sound = Call::Chain { table: t.clone(), first: f.clone(), second: s.clone(), allowance: 3_000 };
+        let most = self.most(&sound);
+        let left = self.held(&sound, most.bytes, 70_000)?;
+        self.search(&table, &first, &second, &left)?;
+        let steps = left.values[1] as usize;
+        let exact = chain_bytes(table.moves, steps);
+        if left.result == 0 && left.values[0] == 0 {
+            self.listed(&sound, &left)?;
+        }
+        for _ in 0..5 {
+            let near = self.random.pick(&[most.steps, most.steps, steps]);
+            let allowance = self.allowance(near);
+            let (workspace, answer) = (self.length(most.bytes), self.length(exact));
+            let damaged = self.perhaps(&t, 24);
+            let (one, two) = (self.forward_image(&table, &first), self.forward_image(&table, &second));
+            let compare = Call::Compare { table: damaged.clone(), first: one.clone(), second: two.clone(), allowance };
+            self.held(&compare, workspace, 0)?;
+            let chain = Call::Chain { table: damaged, first: one, second: two, allowance };
+            let left = self.held(&chain, workspace, answer)?;
+            if left.result == 0 && left.values[0] == 0 {
+                self.listed(&chain, &left)?;
+            }
+        }
+        Ok(())
+    }
+
+    /// A verdict against a search of all words joined to the first, where the words are short.
+    fn search(&mut self, table: &Table, first: &[i8], second: &[i8], left: &Left) -> Held<()> {
+        if left.result != 0 || first.len() > 8 {
+            return Ok(());
+        }
+        let Some(joined) = class(table, first, 3_000) else {
+            return Ok(());
+        };
+        self.tally.searched += 1;
+        if joined.contains(second) == (left.values[0] == 0) {
+            return Ok(());
+        }
+        Err(format!("the verdict {} is wrong by search: {table:?} {first:?} {second:?}", left.values[0]))
+    }
+
+    /// Both implementations follow a listed chain to the second program; a workspace of the program's length is enough.
+    fn listed(&mut self, made: &Call, left: &Left) -> Held<()> {
+        let Call::Chain { table, first, second, .. } = made else {
+            return Err("no chain was asked for".into());
+        };
+        let entries = listed_chain(made, left.values[1] as usize, &left.answer)?;
+        let length = read_table(table).and_then(|table| read_forward(first, table.moves)).map_err(|r| format!("{r:?}"))?.len();
+        let check = Call::Check { table: table.clone(), first: first.clone(), second: second.clone(), entries };
+        let checked = self.held(&check, length, 0)?;
+        if (checked.result, checked.values[0]) != (0, 0) {
+            return Err(format!("the firmware doesn't accept its own chain: {check:02x?}"));
+        }
+        Ok(())
+    }
+
+    /// A chain as it is, or with entries changed, left out or added.
+    fn changed(&mut self, moves: u8, entries: &[Entry]) -> Vec<Entry> {
+        let mut entries = entries.to_vec();
+        let letter = |random: &mut Random| random.between(1, moves as usize) as u8;
+        match self.random.below(6) {
+            0 if !entries.is_empty() => {
+                let at = self.random.below(entries.len());
+                let entry = &mut entries[at];
+                match self.random.below(4) {
+                    0 => entry.offset = (entry.offset + 1) % 4_096,
+                    1 => entry.offset = self.random.below(4_096),
+                    2 => entry.a = letter(&mut self.random),
+                    _ => entry.b = letter(&mut self.random),
+                }
+            }
+            1 if !entries.is_empty() => {
+                entries.remove(self.random.below(entries.len()));
+            }
+            2 => {
+                let at = self.random.below(entries.len() + 1);
+                let offset = self.random.below(20);
+                let (a, b) = (letter(&mut self.random), letter(&mut self.random));
+                entries.insert(at, Entry { offset, a, b });
+            }
+            _ => {}
+        }
+        entries
+    }
+
+    fn checking(&mut self) -> Held<()> {
+        let table = any(&mut self.random);
+        let length = self.random.pick(&[0, 1, 2, 4, 8, 16, 40]);
+        let first = forward_word(&mut self.random, table.moves, length);
+        let swaps = self.random.pick(&[0, 1, 2, 5, 20]);
+        let (entries, second) = walk(&mut self.random, &table, &first, swaps);
+        let image = table_image(&table);
+        for _ in 0..8 {
+            let changed = self.changed(table.moves, &entries);
+            let sound = chain_image(table.moves, &changed);
+            let other = if self.random.once_in(6) { self.other(&table, &first) } else { second.clone() };
+            let made = Call::Check {
+                table: self.perhaps(&image, 24),
+                first: self.forward_image(&table, &first),
+                second: self.forward_image(&table, &other),
+                entries: self.perhaps(&sound, 12),
+            };
+            let most = self.most(&made);
+            let workspace = self.length(most.bytes);
+            self.held(&made, workspace, 0)?;
+        }
+        Ok(())
+    }
+
+    fn packing(&mut self) -> Held<()> {
+        let table = any(&mut self.random);
+        let image = table_image(&table);
+        let plain = plain_table(&table);
+        let count = self.random.pick(&[0, 1, 2, 3, 5, 7, 8, 20, 100, 400]);
+        let word = signed_word(&mut self.random, table.moves, count);
+        let program = program_image(table.moves, &word);
+        for _ in 0..4 {
+            let made = Call::PackTable { plain: self.perhaps(&plain, 3) };
+            let answer = self.length(image.len());
+            self.held(&made, 0, answer)?;
+            let made = Call::UnpackTable { table: self.perhaps(&image, 3) };
+            let answer = self.length(plain.len());
+            self.held(&made, 0, answer)?;
+            let moves = bytes(&word);
+            let made = Call::PackProgram { table: self.perhaps(&image, 24), plain: self.perhaps(&moves, 4) };
+            let answer = self.length(program.len());
+            self.held(&made, 0, answer)?;
+            let made = Call::UnpackProgram { table: self.perhaps(&image, 24), program: self.perhaps(&program, 4) };
+            let answer = self.length(word.len());
+            self.held(&made, 0, answer)?;
+        }
+        Ok(())
+    }
+
+    /// Under commuting moves, k times 1 then k times 2 is k times 2 then k times 1, in k * k + 2 * k steps: 65,535 for k = 255.
+    fn many_steps(&mut self) -> Held<()> {
+        let k = self.random.pick(&[60, 200, 254, 255, 256]);
+        let table = Table { moves: 2, pairs: vec![Some((vec![2], vec![1]))] };
+        let (ones, twos) = (vec![1; k], vec![2; k]);
+        let [first, second] = [[ones.clone(), twos.clone()], [twos, ones]].map(|words| program_image(2, &words.concat()));
+        let allowance = self.allowance(k * k + 2 * k);
+        let chain = Call::Chain { table: table_image(&table), first, second, allowance };
+        let exact = chain_bytes(2, k * k + 2 * k);
+        let answer = self.random.pick(&[exact, exact - 1, exact + 9]);
+        let workspace = self.random.pick(&[4 * k, 4 * k - 1, 32_768]);
+        let left = self.held(&chain, workspace, answer)?;
+        if left.result == 0 {
+            self.listed(&chain, &left)?;
+        }
+        Ok(())
+    }
+
+    /// Programs of up to 4,095 moves, and more to be packed.
+    fn long_words(&mut self) -> Held<()> {
+        let table = if self.random.once_in(4) { any(&mut self.random) } else { clearing(&mut self.random) };
+        let length = self.random.pick(&[4_095, 4_095, 4_094, 2_048, 1_000]);
+        let image = table_image(&table);
+        match self.random.below(3) {
+            0 => {
+                let word = signed_word(&mut self.random, table.moves, length);
+                let program = program_image(table.moves, &word);
+                let allowance = self.random.pick(&[65_535, 20_000, 5_000]);
+                let (workspace, answer) = (self.random.pick(&[32_768, 8_192, 4_095]), self.random.pick(&[32_768, 4_095]));
+                self.held(&Call::Reverse { table: image.clone(), program: program.clone(), allowance }, workspace, answer)?;
+                self.held(&Call::UnpackProgram { table: image, program }, 0, length)?;
+            }
+            1 => {
+                let first = forward_word(&mut self.random, table.moves, length);
+                let (entries, second) = walk(&mut self.random, &table, &first, 40);
+                let (one, two) = (program_image(table.moves, &first), program_image(table.moves, &second));
+                let workspace = self.random.pick(&[32_768, 8_190, 8_189]);
+                let chain = Call::Chain { table: image.clone(), first: one.clone(), second: two.clone(), allowance: 65_535 };
+                let left = self.held(&chain, workspace, 70_000 * 3)?;
+                if left.result == 0 && left.values[0] == 0 {
+                    self.listed(&chain, &left)?;
+                }
+                let entries = chain_image(table.moves, &entries);
+                self.held(&Call::Check { table: image, first: one, second: two, entries }, 4_095, 0)?;
+            }
+            _ => {
+                let count = self.random.pick(&[4_094, 4_095, 4_096, 4_097, 5_000]);
+                let mut plain = bytes(&signed_word(&mut self.random, table.moves, count));
+                if self.random.once_in(2) {
+                    plain[count / 2] = self.random.pick(&[0, 128, 17, 255]);
+                }
+                let answer = self.random.pick(&[2_561, 2_560, 4_095]);
+                self.held(&Call::PackProgram { table: image, plain }, 0, answer)?;
+            }
+        }
+        Ok(())
+    }
+}

@@ -1,0 +1,105 @@
+//! Calls of the firmware with guard bytes around every area and image.
+use crate::firmware;
+
+/// A call, with all that it takes.
+#[derive(Clone, Debug)]
+pub enum Call {
+    Reverse { table: Vec<u8>, program: Vec<u8>, allowance: u16 },
+    Clear { table: Vec<u8>, allowance: u16 },
+    Compare { table: Vec<u8>, first: Vec<u8>, second: Vec<u8>, allowance: u16 },
+    Chain { table: Vec<u8>, first: Vec<u8>, second: Vec<u8>, allowance: u16 },
+    Check { table: Vec<u8>, first: Vec<u8>, second: Vec<u8>, entries: Vec<u8> },
+    PackTable { plain: Vec<u8> },
+    UnpackTable { table: Vec<u8> },
+    PackProgram { table: Vec<u8>, plain: Vec<u8> },
+    UnpackProgram { table: Vec<u8>, program: Vec<u8> },
+}
+
+/// What a call left behind.
+#[derive(Debug, PartialEq)]
+pub struct Left {
+    pub result: u8,
+    pub values: [u64; 4],
+    pub workspace: Vec<u8>,
+    pub answer: Vec<u8>,
+}
+
+const GUARD: usize = 32;
+
+/// Bytes between two guards.
+struct Guarded {
+    bytes: Vec<u8>,
+    before: Vec<u8>,
+}
+
+impl Guarded {
+    fn new(content: &[u8]) -> Guarded {
+        let guard = |k: usize| (k as u8).wrapping_mul(167) ^ 0xA5;
+        let bytes: Vec<u8> = (0..GUARD).map(guard).chain(content.iter().copied()).chain((0..GUARD).map(guard)).collect();
+        Guarded { before: bytes.clone(), bytes }
+    }
+
+    fn end(&self) -> usize {
+        self.bytes.len() - GUARD
+    }
+
+    fn content(&self) -> &[u8] {
+        &self.bytes[GUARD..self.end()]
+    }
+
+    fn lent(&mut self) -> &mut [u8] {
+        let end = self.end();
+        &mut self.bytes[GUARD..end]
+    }
+
+    fn guards_hold(&self) -> bool {
+        let end = self.end();
+        self.bytes[..GUARD] == self.before[..GUARD] && self.bytes[end..] == self.before[end..]
+    }
+
+    fn unchanged(&self) -> bool {
+        self.bytes == self.before
+    }
+}
+
+impl Call {
+    fn images(&self) -> Vec<&[u8]> {
+        match self {
+            Call::Reverse { table, program, .. } | Call::UnpackProgram { table, program } => vec![table, program],
+            Call::Clear { table, .. } | Call::UnpackTable { table } => vec![table],
+            Call::Compare { table, first, second, .. } | Call::Chain { table, first, second, .. } => vec![table, first, second],
+            Call::Check { table, first, second, entries } => vec![table, first, second, entries],
+            Call::PackTable { plain } => vec![plain],
+            Call::PackProgram { table, plain } => vec![table, plain],
+        }
+    }
+}
+
+/// Calls the firmware. An error names what was written that may not be.
+pub fn call(call: &Call, workspace: &[u8], answer: &[u8]) -> Result<Left, String> {
+    let images: Vec<Guarded> = call.images().into_iter().map(Guarded::new).collect();
+    let image = |k: usize| images[k].content();
+    let (mut work, mut out) = (Guarded::new(workspace), Guarded::new(answer));
+    let (w, o) = (work.lent(), out.lent());
+    let (result, values) = match call {
+        Call::Reverse { allowance, .. } => firmware::reverse(image(0), image(1), *allowance, w, o),
+        Call::Clear { allowance, .. } => firmware::clear(image(0), *allowance, w),
+        Call::Compare { allowance, .. } => firmware::compare(image(0), image(1), image(2), *allowance, w),
+        Call::Chain { allowance, .. } => firmware::chain(image(0), image(1), image(2), *allowance, w, o),
+        Call::Check { .. } => firmware::check(image(0), image(1), image(2), image(3), w),
+        Call::PackTable { .. } => firmware::pack_table(image(0), o),
+        Call::UnpackTable { .. } => firmware::unpack_table(image(0), o),
+        Call::PackProgram { .. } => firmware::pack_program(image(0), image(1), o),
+        Call::UnpackProgram { .. } => firmware::unpack_program(image(0), image(1), o),
+    };
+    if !images.iter().all(Guarded::unchanged) {
+        return Err("an image, or bytes around it, changed".into());
+    }
+    if !work.guards_hold() {
+        return Err("bytes around the workspace changed".into());
+    }
+    if !out.guards_hold() {
+        return Err("bytes around the answer area changed".into());
+    }
+    Ok(Left { result, values, workspace: work.content().to_vec(), answer: out.content().to_vec() })
+}

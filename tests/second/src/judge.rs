@@ -1,0 +1,126 @@
+//! Whether what the firmware left behind is what the second implementation says: result, values and every byte of both areas.
+use crate::chain::follow;
+use crate::guarded::{Call, Left};
+use crate::image::{chain_bytes, chain_image, read_chain, read_forward, read_table};
+use crate::outcome::{Passage, Place, Refusal, Verdict};
+use crate::reversing::{Limits, Most};
+use crate::services;
+use crate::word::bytes;
+
+/// What a call must leave. The answer area begins with `written`; after 'same' a chain call's area begins with a chain of at most `listed`
+/// entries instead.
+pub struct Expected {
+    pub result: u8,
+    pub values: [u64; 4],
+    written: Vec<u8>,
+    listed: Option<usize>,
+}
+
+impl Expected {
+    fn answer(values: [u64; 4], written: Vec<u8>) -> Expected {
+        Expected { result: 0, values, written, listed: None }
+    }
+
+    fn refused(refusal: Refusal) -> Expected {
+        let values = match refusal.place {
+            Place::None => [0; 4],
+            Place::Pair(a, b) => [1, a.into(), b.into(), 0],
+            Place::Triple(a, b, c) => [2, a.into(), b.into(), c.into()],
+        };
+        Expected { result: refusal.number, values, written: Vec::new(), listed: None }
+    }
+}
+
+fn verdict_values((verdict, steps): (Verdict, usize)) -> [u64; 4] {
+    [u64::from(verdict == Verdict::Different), steps as u64, 0, 0]
+}
+
+/// What the second implementation says of a call with areas of those lengths.
+pub fn expected(call: &Call, workspace: usize, answer: usize, most: &mut Most) -> Expected {
+    let limits = |allowance: &u16| Limits { allowance: usize::from(*allowance), workspace };
+    let packed = |image: Vec<u8>| Expected::answer([image.len() as u64, 0, 0, 0], image);
+    let outcome = match call {
+        Call::Reverse { table, program, allowance } => services::reverse(table, program, limits(allowance), answer, most).map(|fraction| {
+            let lengths = [fraction.numerator.len(), fraction.denominator.len(), fraction.steps, 0];
+            Expected::answer(lengths.map(|x| x as u64), [bytes(&fraction.numerator), bytes(&fraction.denominator)].concat())
+        }),
+        Call::Clear { table, allowance } => services::clear(table, limits(allowance), most).map(|()| Expected::answer([0; 4], Vec::new())),
+        Call::Compare { table, first, second, allowance } => services::compare(table, first, second, limits(allowance), most)
+            .map(|verdict| Expected::answer(verdict_values(verdict), Vec::new())),
+        Call::Chain { table, first, second, allowance } => {
+            services::chain(table, first, second, limits(allowance), answer, most).map(|verdict| Expected {
+                listed: (verdict.0 == Verdict::Same).then_some(verdict.1),
+                ..Expected::answer(verdict_values(verdict), Vec::new())
+            })
+        }
+        Call::Check { table, first, second, entries } => {
+            services::check(table, first, second, entries, workspace, &mut most.bytes).map(|passage| {
+                let values = match passage {
+                    Passage::Joins => [0; 4],
+                    Passage::Breaks(entry) => [1, entry as u64, 0, 0],
+                    Passage::EndsElsewhere => [2, 0, 0, 0],
+                };
+                Expected::answer(values, Vec::new())
+            })
+        }
+        Call::PackTable { plain } => services::pack_table(plain, answer).map(packed),
+        Call::UnpackTable { table } => services::unpack_table(table, answer).map(packed),
+        Call::PackProgram { table, plain } => services::pack_program(table, plain, answer).map(packed),
+        Call::UnpackProgram { table, program } => services::unpack_program(table, program, answer).map(packed),
+    };
+    outcome.unwrap_or_else(Expected::refused)
+}
+
+fn has_workspace(call: &Call) -> bool {
+    matches!(call, Call::Reverse { .. } | Call::Clear { .. } | Call::Compare { .. } | Call::Chain { .. } | Call::Check { .. })
+}
+
+/// The image of the chain that an answer area begins with, where it is one of at most `steps` entries that joins the programs.
+pub fn listed_chain(call: &Call, steps: usize, answer: &[u8]) -> Result<Vec<u8>, String> {
+    let Call::Chain { table, first, second, .. } = call else {
+        return Err("no chain was asked for".into());
+    };
+    let table = read_table(table).map_err(|r| format!("{r:?}"))?;
+    let first = read_forward(first, table.moves).map_err(|r| format!("{r:?}"))?;
+    let second = read_forward(second, table.moves).map_err(|r| format!("{r:?}"))?;
+    let [high, low, ..] = answer else {
+        return Err("the area is too short for a count".into());
+    };
+    let count = usize::from(*high) * 256 + usize::from(*low);
+    let length = chain_bytes(table.moves, count);
+    if count > steps || length > answer.len() {
+        return Err(format!("the chain has {count} entries after {steps} steps"));
+    }
+    let image = answer[..length].to_vec();
+    let entries = read_chain(&image, table.moves).map_err(|r| format!("the chain is refused with {r:?}"))?;
+    if chain_image(table.moves, &entries) != image {
+        return Err("the chain's image is not that of its entries".into());
+    }
+    match follow(&table, &first, &second, &entries, usize::MAX, &mut 0) {
+        Ok(Passage::Joins) => Ok(image),
+        other => Err(format!("the listed chain doesn't join the programs: {other:?}")),
+    }
+}
+
+/// Compares what a call left with what it must leave; the error says what differs.
+pub fn judge(call: &Call, expected: &Expected, workspace: &[u8], answer: &[u8], left: &Left) -> Result<(), String> {
+    if (left.result, left.values) != (expected.result, expected.values) {
+        return Err(format!("result {} {:?}, not {} {:?}", left.result, left.values, expected.result, expected.values));
+    }
+    let kept = !has_workspace(call) || (1..=8).contains(&left.result);
+    let after = if kept { workspace.to_vec() } else { vec![0; workspace.len()] };
+    if left.workspace != after {
+        return Err(format!("the workspace is not {}", if kept { "as found" } else { "all zero" }));
+    }
+    let written = match expected.listed {
+        Some(steps) => listed_chain(call, steps, &left.answer)?,
+        None => expected.written.clone(),
+    };
+    if left.answer.len() != answer.len() || !left.answer.starts_with(&written) {
+        return Err(format!("the answer area doesn't begin with {written:02x?}"));
+    }
+    if left.answer[written.len()..] != answer[written.len()..] {
+        return Err(format!("the answer area changed after its first {} bytes", written.len()));
+    }
+    Ok(())
+}

@@ -1,0 +1,38 @@
+//! Refusals, as document 01 numbers and places them.
+
+#[derive(Clone, Copy, Debug, PartialEq)]
+pub enum Place {
+    /// No place, or the programs.
+    None,
+    Pair(u8, u8),
+    Triple(u8, u8, u8),
+}
+
+#[derive(Clone, Copy, Debug, PartialEq)]
+pub struct Refusal {
+    pub number: u8,
+    pub place: Place,
+}
+
+impl Refusal {
+    pub fn plain(number: u8) -> Refusal {
+        Refusal { number, place: Place::None }
+    }
+
+    pub fn at(number: u8, place: Place) -> Refusal {
+        Refusal { number, place }
+    }
+}
+
+#[derive(Clone, Copy, Debug, PartialEq)]
+pub enum Verdict {
+    Same,
+    Different,
+}
+
+#[derive(Clone, Copy, Debug, PartialEq)]
+pub enum Passage {
+    Joins,
+    Breaks(usize),
+    EndsElsewhere,
+}

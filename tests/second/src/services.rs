@@ -1,0 +1,184 @@
+//! The services of document 01. Areas come in only by their lengths; what would be written is in the result.
+use crate::chain::follow;
+use crate::image::*;
+use crate::outcome::{Passage, Place, Refusal, Verdict};
+use crate::plain::{plain_table, read_plain_program, read_plain_table};
+use crate::reversing::{reverse as run, Ending, Limits, Most};
+use crate::table::Table;
+use crate::word::{bytes, undoing, Word};
+
+pub struct Fraction {
+    pub numerator: Word,
+    pub denominator: Word,
+    pub steps: usize,
+}
+
+pub fn reverse(table: &[u8], program: &[u8], limits: Limits, answer: usize, most: &mut Most) -> Result<Fraction, Refusal> {
+    let table = read_table(table)?;
+    let word = read_program(program, table.moves)?;
+    match run(&table, word, 0, limits, most) {
+        Ending::Finished { numerator, denominator, steps } => {
+            if numerator.len() + denominator.len() > answer {
+                return Err(Refusal::plain(13));
+            }
+            Ok(Fraction { numerator, denominator, steps })
+        }
+        Ending::Open { a, b, .. } => Err(Refusal::at(10, Place::Pair(a, b))),
+        Ending::AllowanceUsed => Err(Refusal::plain(11)),
+        Ending::WorkspaceShort => Err(Refusal::plain(12)),
+    }
+}
+
+/// u\v: none where it is undefined. A stop is refused at `place`.
+fn complement(
+    table: &Table,
+    u: &[i8],
+    v: &[i8],
+    kept: usize,
+    place: Place,
+    limits: Limits,
+    most: &mut Most,
+) -> Result<Option<Word>, Refusal> {
+    let start = [undoing(u), v.to_vec()].concat();
+    match run(table, start, kept, limits, most) {
+        Ending::Finished { numerator, .. } => Ok(Some(numerator)),
+        Ending::Open { .. } => Ok(None),
+        Ending::AllowanceUsed => Err(Refusal::at(11, place)),
+        Ending::WorkspaceShort => Err(Refusal::at(12, place)),
+    }
+}
+
+/// (a\b)\(a\c), the inner complements first.
+fn cube_side(
+    table: &Table,
+    (a, b, c): (u8, u8, u8),
+    kept: usize,
+    place: Place,
+    limits: Limits,
+    most: &mut Most,
+) -> Result<Option<Word>, Refusal> {
+    let letter = |m: u8| [m as i8];
+    let Some(ab) = complement(table, &letter(a), &letter(b), kept, place, limits, most)? else {
+        return Ok(None);
+    };
+    let Some(ac) = complement(table, &letter(a), &letter(c), kept, place, limits, most)? else {
+        return Ok(None);
+    };
+    complement(table, &ab, &ac, kept, place, limits, most)
+}
+
+fn cube_holds(table: &Table, a: u8, b: u8, c: u8, limits: Limits, most: &mut Most) -> Result<bool, Refusal> {
+    if table.completion(a, b).is_none() {
+        return Ok(true);
+    }
+    let place = Place::Triple(a, b, c);
+    let left = cube_side(table, (a, b, c), 0, place, limits, most)?;
+    let kept = left.as_ref().map_or(0, Word::len);
+    let right = cube_side(table, (b, a, c), kept, place, limits, most)?;
+    match (left, right) {
+        (None, None) => Ok(true),
+        (Some(left), Some(right)) => {
+            let start = [undoing(&left), right].concat();
+            match run(table, start, 0, limits, most) {
+                Ending::Finished { numerator, denominator, .. } => Ok(numerator.is_empty() && denominator.is_empty()),
+                Ending::Open { .. } => Ok(false),
+                Ending::AllowanceUsed => Err(Refusal::at(11, place)),
+                Ending::WorkspaceShort => Err(Refusal::at(12, place)),
+            }
+        }
+        _ => Ok(false),
+    }
+}
+
+pub fn cleared(table: &Table, limits: Limits, most: &mut Most) -> Result<(), Refusal> {
+    for (a, b) in Table::pair_order(table.moves) {
+        if table.completion(a, b).map(<[i8]>::len) != table.completion(b, a).map(<[i8]>::len) {
+            return Err(Refusal::at(8, Place::Pair(a, b)));
+        }
+    }
+    for (a, b) in Table::pair_order(table.moves) {
+        for c in (1..=table.moves).filter(|c| *c != a && *c != b) {
+            if !cube_holds(table, a, b, c, limits, most)? {
+                return Err(Refusal::at(9, Place::Triple(a, b, c)));
+            }
+        }
+    }
+    Ok(())
+}
+
+pub fn clear(table: &[u8], limits: Limits, most: &mut Most) -> Result<(), Refusal> {
+    cleared(&read_table(table)?, limits, most)
+}
+
+pub fn compare(table: &[u8], first: &[u8], second: &[u8], limits: Limits, most: &mut Most) -> Result<(Verdict, usize), Refusal> {
+    let table = read_table(table)?;
+    let first = read_forward(first, table.moves)?;
+    let second = read_forward(second, table.moves)?;
+    cleared(&table, limits, most)?;
+    if first.len() != second.len() {
+        return Ok((Verdict::Different, 0));
+    }
+    match run(&table, [undoing(&first), second].concat(), 0, limits, most) {
+        Ending::Finished { numerator, denominator, steps } => {
+            if numerator.len() != denominator.len() {
+                Err(Refusal::plain(14))
+            } else if numerator.is_empty() {
+                Ok((Verdict::Same, steps))
+            } else {
+                Ok((Verdict::Different, steps))
+            }
+        }
+        Ending::Open { steps, .. } => Ok((Verdict::Different, steps)),
+        Ending::AllowanceUsed => Err(Refusal::plain(11)),
+        Ending::WorkspaceShort => Err(Refusal::plain(12)),
+    }
+}
+
+/// As compare. Which chain is listed is left open, so the result has none.
+pub fn chain(
+    table: &[u8],
+    first: &[u8],
+    second: &[u8],
+    limits: Limits,
+    answer: usize,
+    most: &mut Most,
+) -> Result<(Verdict, usize), Refusal> {
+    let (verdict, steps) = compare(table, first, second, limits, most)?;
+    if verdict == Verdict::Same && answer < chain_bytes(read_table(table)?.moves, steps) {
+        return Err(Refusal::plain(13));
+    }
+    Ok((verdict, steps))
+}
+
+pub fn check(table: &[u8], first: &[u8], second: &[u8], entries: &[u8], workspace: usize, longest: &mut usize) -> Result<Passage, Refusal> {
+    let table = read_table(table)?;
+    let first = read_forward(first, table.moves)?;
+    let second = read_forward(second, table.moves)?;
+    let entries = read_chain(entries, table.moves)?;
+    follow(&table, &first, &second, &entries, workspace, longest)
+}
+
+fn fitting(image: Vec<u8>, answer: usize) -> Result<Vec<u8>, Refusal> {
+    if image.len() > answer {
+        return Err(Refusal::plain(13));
+    }
+    Ok(image)
+}
+
+pub fn pack_table(plain: &[u8], answer: usize) -> Result<Vec<u8>, Refusal> {
+    fitting(table_image(&read_plain_table(plain)?), answer)
+}
+
+pub fn unpack_table(image: &[u8], answer: usize) -> Result<Vec<u8>, Refusal> {
+    fitting(plain_table(&read_table(image)?), answer)
+}
+
+pub fn pack_program(table: &[u8], plain: &[u8], answer: usize) -> Result<Vec<u8>, Refusal> {
+    let moves = read_table(table)?.moves;
+    fitting(program_image(moves, &read_plain_program(plain, moves)?), answer)
+}
+
+pub fn unpack_program(table: &[u8], program: &[u8], answer: usize) -> Result<Vec<u8>, Refusal> {
+    let moves = read_table(table)?.moves;
+    fitting(bytes(&read_program(program, moves)?), answer)
+}

@@ -1,0 +1,58 @@
+//! That the comparison of the two implementations can fail: each change of what a sound call left is noticed.
+use second::guarded::{call, Call, Left};
+use second::image::{program_image, table_image};
+use second::judge::{expected, judge};
+use second::plain::plain_table;
+use second::reversing::Most;
+use second::tables::braid;
+
+/// A call, and whether it is refused with the workspace as found.
+fn calls() -> Vec<(Call, bool)> {
+    let table = table_image(&braid(3));
+    let program = program_image(3, &[-3, 1, -2, 1, 2]);
+    let [first, second] = [[1, 2, 1], [2, 1, 2]].map(|word| program_image(3, &word));
+    let entries = vec![0x00, 0x01, 0x00, 0x01];
+    let (t, f, s) = (table.clone(), first.clone(), second.clone());
+    vec![
+        (Call::Reverse { table: t.clone(), program: program.clone(), allowance: 5 }, false),
+        (Call::Reverse { table: t.clone(), program: program.clone(), allowance: 4 }, false),
+        (Call::Reverse { table: vec![], program: program.clone(), allowance: 5 }, true),
+        (Call::Clear { table: t.clone(), allowance: 100 }, false),
+        (Call::Compare { table: t.clone(), first: f.clone(), second: s.clone(), allowance: 100 }, false),
+        (Call::Compare { table: t.clone(), first: program.clone(), second: s.clone(), allowance: 100 }, true),
+        (Call::Chain { table: t.clone(), first: f.clone(), second: s.clone(), allowance: 100 }, false),
+        (Call::Check { table: t.clone(), first: f, second: s, entries }, false),
+        (Call::PackTable { plain: plain_table(&braid(3)) }, true),
+        (Call::UnpackTable { table: t.clone() }, true),
+        (Call::PackProgram { table: t.clone(), plain: vec![131, 1, 130, 1, 2] }, true),
+        (Call::UnpackProgram { table: t, program }, true),
+    ]
+}
+
+fn changed(left: &Left, change: impl FnOnce(&mut Left)) -> Left {
+    let mut other = Left { result: left.result, values: left.values, workspace: left.workspace.clone(), answer: left.answer.clone() };
+    change(&mut other);
+    other
+}
+
+#[test]
+fn every_change_is_noticed() {
+    let (workspace, answer) = (vec![0x5A; 40], vec![0x77; 64]);
+    for (made, kept) in calls() {
+        let must = expected(&made, workspace.len(), answer.len(), &mut Most::default());
+        let left = call(&made, &workspace, &answer).unwrap();
+        let judged = |left: &Left| judge(&made, &must, &workspace, &answer, left);
+        assert_eq!(judged(&left), Ok(()), "{made:?}");
+        assert_eq!(left.workspace == workspace, kept, "{made:?}");
+        assert!(judged(&changed(&left, |l| l.result ^= 1)).is_err());
+        for k in 0..4 {
+            assert!(judged(&changed(&left, |l| l.values[k] += 1)).is_err(), "value {k} of {made:?}");
+        }
+        for k in 0..workspace.len() {
+            assert!(judged(&changed(&left, |l| l.workspace[k] ^= 4)).is_err(), "byte {k} of the workspace of {made:?}");
+        }
+        for k in 0..answer.len() {
+            assert!(judged(&changed(&left, |l| l.answer[k] ^= 4)).is_err(), "byte {k} of the answer area of {made:?}");
+        }
+    }
+}

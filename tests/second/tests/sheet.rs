@@ -1,0 +1,97 @@
+//! Document 01's bench sheet, of the second implementation.
+use second::image::{chain_image, program_image, read_program, read_table, table_image, Entry};
+use second::outcome::{Passage, Place, Refusal, Verdict};
+use second::plain::{plain_table, read_plain_table};
+use second::reversing::{Limits, Most};
+use second::services::{check, clear, compare, reverse};
+use second::table::Table;
+use second::tables::braid;
+
+const WIDE: Limits = Limits { allowance: 65_535, workspace: 32_768 };
+
+fn reversed(table: &Table, word: &[i8], limits: Limits) -> Result<(Vec<i8>, Vec<i8>, usize), Refusal> {
+    let program = program_image(table.moves, word);
+    reverse(&table_image(table), &program, limits, 32_768, &mut Most::default()).map(|f| (f.numerator, f.denominator, f.steps))
+}
+
+fn compared(table: &Table, first: &[i8], second: &[i8], limits: Limits) -> Result<(Verdict, usize), Refusal> {
+    let [first, second] = [first, second].map(|word| program_image(table.moves, word));
+    compare(&table_image(table), &first, &second, limits, &mut Most::default())
+}
+
+fn cleared(table: &Table, limits: Limits) -> Result<(), Refusal> {
+    clear(&table_image(table), limits, &mut Most::default())
+}
+
+fn table3(pairs: [(&[i8], &[i8]); 3]) -> Table {
+    Table { moves: 3, pairs: pairs.map(|(there, back)| Some((there.to_vec(), back.to_vec()))).to_vec() }
+}
+
+#[test]
+fn images_of_tables() {
+    assert_eq!(table_image(&braid(3)), [0x29, 0x21, 0x0C, 0x61, 0x25, 0x24, 0xC0]);
+    assert_eq!(table_image(&braid(1)), [0x00]);
+    for moves in 1..=16 {
+        assert_eq!(read_table(&table_image(&braid(moves))), Ok(braid(moves)));
+        assert_eq!(read_plain_table(&plain_table(&braid(moves))), Ok(braid(moves)));
+    }
+}
+
+#[test]
+fn image_of_the_program() {
+    let word = [-3, 1, -2, 1, 2];
+    assert_eq!(program_image(3, &word), [0x00, 0x5C, 0x28, 0x20]);
+    assert_eq!(read_program(&[0x00, 0x5C, 0x28, 0x20], 3), Ok(word.to_vec()));
+}
+
+#[test]
+fn reversings() {
+    let word = [-3, 1, -2, 1, 2];
+    let whole = Ok((vec![1, 1, 2, 3], vec![1, 3, 2], 5));
+    assert_eq!(reversed(&braid(3), &word, WIDE), whole);
+    assert_eq!(reversed(&braid(3), &word, Limits { allowance: 5, ..WIDE }), whole);
+    assert_eq!(reversed(&braid(3), &word, Limits { allowance: 4, ..WIDE }), Err(Refusal::plain(11)));
+    assert_eq!(reversed(&braid(3), &[-2, -3, -1, 1, 1, 2, 3], WIDE), Ok((vec![1, 2, 3], vec![2, 1], 7)));
+}
+
+#[test]
+fn comparisons() {
+    assert_eq!(compared(&braid(3), &[1, 2, 1], &[2, 1, 2], WIDE), Ok((Verdict::Same, 5)));
+    assert_eq!(compared(&braid(3), &[1], &[2], WIDE), Ok((Verdict::Different, 1)));
+    assert_eq!(compared(&braid(1), &[], &[], Limits { allowance: 65_535, workspace: 0 }), Ok((Verdict::Same, 0)));
+}
+
+#[test]
+fn the_single_entry_is_a_chain() {
+    let [first, second] = [[1, 2, 1], [2, 1, 2]].map(|word| program_image(3, &word));
+    let entries = chain_image(3, &[Entry { offset: 0, a: 1, b: 2 }]);
+    assert_eq!(check(&table_image(&braid(3)), &first, &second, &entries, 3, &mut 0), Ok(Passage::Joins));
+}
+
+#[test]
+fn an_open_pair() {
+    let table = Table { moves: 2, pairs: vec![None] };
+    assert_eq!(reversed(&table, &[-1, 2], WIDE), Err(Refusal::at(10, Place::Pair(1, 2))));
+    assert_eq!(compared(&table, &[1], &[2], WIDE), Ok((Verdict::Different, 0)));
+}
+
+#[test]
+fn a_cube_that_fails() {
+    let table = table3([(&[2], &[1]), (&[3], &[1]), (&[1], &[1])]);
+    assert_eq!(cleared(&table, WIDE), Err(Refusal::at(9, Place::Triple(1, 2, 3))));
+}
+
+#[test]
+fn unequal_lengths() {
+    let table = Table { moves: 2, pairs: vec![Some((vec![2, 1], vec![2]))] };
+    assert_eq!(compared(&table, &[1], &[1], WIDE), Err(Refusal::at(8, Place::Pair(1, 2))));
+}
+
+#[test]
+fn an_endless_table_is_stopped_at_every_allowance() {
+    let table = table3([(&[2, 1], &[1, 2]), (&[3, 1], &[1, 3]), (&[3, 2], &[2, 3])]);
+    for allowance in (0..200).chain([4_095, 20_000, 65_535]) {
+        let stopped = cleared(&table, Limits { allowance, ..WIDE });
+        assert!(matches!(stopped, Err(Refusal { number: 11 | 12, place: Place::Triple(..) })), "{allowance}: {stopped:?}");
+    }
+}
