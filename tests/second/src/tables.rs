@@ -127,8 +127,8 @@ pub fn clearing(random: &mut Random) -> Table {
         4 => powers(random, moves),
         5 => searched(random, moves.min(4)),
         _ => {
-            let one = searched(random, random_small(moves));
-            let two = braid(random_small(moves));
+            let few = moves.min(3);
+            let (one, two) = (searched(random, few), braid(few));
             let commute = random.once_in(2);
             beside(&one, &two, commute)
         }
@@ -138,10 +138,6 @@ pub fn clearing(random: &mut Random) -> Table {
     } else {
         table
     }
-}
-
-fn random_small(moves: u8) -> u8 {
-    moves.clamp(1, 3)
 }
 
 /// Any table.
