@@ -95,3 +95,10 @@ digits-append (suc a) b v =
 
 pub digits-low : (hi k v : ℕ) → digits k (hi * 2 ^ k + v % 2 ^ k) ≡ digits k v
 digits-low hi k v = sym (digits-mod k (hi * 2 ^ k + v % 2 ^ k)) ∙ (ap (digits k) (low hi k (mod-lt v (pow-pos k))) ∙ digits-mod k v)
+
+-- two fields written as one
+pub digits-joined : (a b hi lo : ℕ) → lo < 2 ^ b → digits (a + b) (hi * 2 ^ b + lo) ≡ digits a hi ++ digits b lo
+digits-joined a b hi lo h =
+    digits-append a b (hi * 2 ^ b + lo)
+    ∙ (ap (λ n. digits a n ++ digits b (hi * 2 ^ b + lo)) (high hi b h)
+    ∙ ap (λ ds. digits a hi ++ ds) (sym (digits-mod b (hi * 2 ^ b + lo)) ∙ ap (digits b) (low hi b h)))

@@ -10,6 +10,7 @@ use borrow.Author.Tests.{lt-ltb, le-ltb, leb-true, ltb-true}
 use lib.Dec.{leb, ltb}
 use lib.ListN.{length, take, drop, set, getD, replicate, length-append, length-take, length-drop, length-map, List·getD-map, take-append-drop, length-set, length-replicate}
 use lib.Seq.{take-at, drop-at, drop-drop, length-take-le, take-append-add, drop-append-add, take-suc, take-all, drop-append-le, set-split, drop-set-lt}
+use lib.Pow.{pow-mono, shl-lt, shl-exact}
 use Rattle.model.specs.Word.{Letter, forward, back, letter}
 use Rattle.model.specs.Presentation.{Presentation, Complement}
 use Rattle.model.specs.Enumeration.{concatMap}
@@ -18,11 +19,12 @@ use Rattle.model.specs.Images.{letterBits, signedBits, programImage, pairBits, 
 use Rattle.model.specs.Plain.{namesLetter}
 use Rattle.model.specs.Areas.{begins}
 use Rattle.bits.specs.Fields.{Written}
-use Rattle.bits.proofs.Digits.{AreBits, length-digits, digits-are-bits, bits-append}
+use Rattle.bits.proofs.Digits.{AreBits, length-digits, digits-are-bits, bits-append, digits-joined}
+use Rattle.bits.proofs.Width.{letter-fits}
 use Rattle.bits.proofs.Bytes.{length-bits, bits-of-append, bits-store}
 use Rattle.bits.proofs.Packing.{AreBytes, pack-bits, packed-bytes, length-packed, bits-injective, and-first, and-second}
 use Rattle.images.specs.Programs.{written}
-use Rattle.images.specs.Written.{Appended, programBits}
+use Rattle.images.specs.Written.{Appended, WidthOf, programBits}
 use Rattle.images.proofs.Placed.{length-signed}
 use Rattle.images.proofs.RoundTrip.{concat-bits, signed-are-bits, pair-are-bits}
 
@@ -69,8 +71,8 @@ appended-more before at xs mid ys after h p q =
     }
 
 -- a sign and a number are a letter's bits
-pub signed-written : (size width x : ℕ) → x < 256 → width ≡ letterWidth size → digits 1 (x / 128) ++ digits width (x % 128 - 1) ≡ signedBits size (letter x)
-signed-written size width x h e = ap (λ w. digits 1 (x / 128) ++ digits w (x % 128 - 1)) e ∙ by-sign (ltb x 128) refl
+sign-and-number : (size width x : ℕ) → x < 256 → width ≡ letterWidth size → digits 1 (x / 128) ++ digits width (x % 128 - 1) ≡ signedBits size (letter x)
+sign-and-number size width x h e = ap (λ w. digits 1 (x / 128) ++ digits w (x % 128 - 1)) e ∙ by-sign (ltb x 128) refl
   where
     by-sign : (t : Bool) → ltb x 128 ≡ t → digits 1 (x / 128) ++ letterBits size (x % 128) ≡ signedBits size (cond t (forward x) (back (x - 128)))
     by-sign true s =
@@ -85,6 +87,28 @@ named-positive size x e = leb-true 1 (x % 128) (and-first (leb 1 (x % 128)) (leb
 
 pub named-small : (size x : ℕ) → namesLetter size x ≡ true → x % 128 ≤ size
 named-small size x e = leb-true (x % 128) size (and-second (leb 1 (x % 128)) (leb (x % 128) size) e)
+
+-- the sign and the number as one field; `value` is what code computes of the letter's byte, at 16 bits
+module _ (size width x : ℕ) (of : WidthOf size width) (byte : x < 256) (named : namesLetter size x ≡ true) where
+  abbrev value : ℕ
+  value = x / 128 * 2 ^ width % 65536 + (x % 128 - 1)
+
+  -- the shift of the sign loses no bit
+  shifted : x / 128 * 2 ^ width % 65536 ≡ x / 128 * 2 ^ width
+  shifted = shl-exact 1 width 16 (omega arith) (omega arith)
+
+  pub signed-fits : value < 2 ^ 16
+  signed-fits =
+      let s : x / 128 * 2 ^ width < 2 ^ (1 + width) = shl-lt 1 width (omega arith) in
+      let m : 2 ^ (1 + width) ≤ 2 ^ 5 = pow-mono {j = 5} (omega arith) in
+      omega (arith, shifted)
+
+  pub signed-written : digits (1 + width) value ≡ signedBits size (letter x)
+  signed-written =
+      let n : x % 128 - 1 < 2 ^ letterWidth size = letter-fits size (x % 128) (of .few) (named-positive size x named) (named-small size x named) in
+      let small : x % 128 - 1 < 2 ^ width = rw (of .width-is) n in
+      ap (λ s. digits (1 + width) (s + (x % 128 - 1))) shifted
+      ∙ (digits-joined 1 width (x / 128) (x % 128 - 1) small ∙ sign-and-number size width x byte (of .width-is))
 
 -- the letters of a program, one more at a time
 pub concat-append : {A : Type 0} (f : A → List ℕ) (xs ys : List A) → concatMap f (xs ++ ys) ≡ concatMap f xs ++ concatMap f ys

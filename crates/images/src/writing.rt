@@ -22,13 +22,14 @@ pub fn names_letter(x: u8, size: u8) -> bool
     number <= size
 }
 
-// The sign and the number of a letter, from its byte.
+// The sign and the number of a letter, from its byte. They adjoin, so one field holds both, and the area's bytes are put together once.
 pub fn write_signed(area: &mut [u8], at: usize, size: u8, width: usize, x: u8)
     requires { ⌜ WidthOf size width × (namesLetter size x ≡ true) × (at + 1 + width ≤ 8 * length (now area)) × (at ≤ 2 ^ 40) ⌝ }
     ensures { λ r. ⌜ Appended (now (area .entry)) at (signedBits size (letter x)) (now (area .exit)) ⌝ }
 {
-    bits::write_field(area, at, 1, (x / 128) as u16);
-    bits::write_field(area, at + 1, width, (x % 128 - 1) as u16);
+    let sign = (x / 128) as u16;
+    let number = (x % 128 - 1) as u16;
+    bits::write_field(area, at, 1 + width, (sign << width) + number);
 }
 
 // The count and the letters of a program, from their bytes.
