@@ -166,9 +166,6 @@ program-image size plain = ap (λ n. pack (digits 12 n ++ concatMap (signedBits 
 
 -- THE WHOLE IMAGE
 
-zero-bits : digits 8 0 ≡ replicate 8 0
-zero-bits = refl
-
 drop-zeros : (n k : ℕ) → drop {A = ℕ} n (replicate k 0) ≡ replicate (k - n) 0
 drop-zeros zero k = ap (λ m. replicate m 0) {x = k} {y = k - 0} (omega arith)
 drop-zeros (suc n) zero = ap (λ m. replicate m 0) {x = 0} {y = 0 - suc n} (omega arith)

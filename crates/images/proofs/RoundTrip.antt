@@ -206,6 +206,3 @@ table-reads-back T h = table-is (tableImage T) ∙ image-reads-back 3 tableBody 
 pub table-image-of : (bytes : List ℕ) → AreBytes bytes → (T : Presentation) → readTable bytes ≡ answered T → (bytes ≡ tableImage T) × TableInRange T
 unfolding tableImage tableBits
 table-image-of bytes bs T e = image-stood-there 3 tableBody tableBits TableInRange table-codec bytes bs T (λ T h. table-are-bits T) (sym (table-is bytes) ∙ e)
-
-pub table-in-range : (bytes : List ℕ) (T : Presentation) → readTable bytes ≡ answered T → TableInRange T
-table-in-range bytes T e = image-in-range 3 tableBody tableBits TableInRange table-codec bytes T (sym (table-is bytes) ∙ e)
