@@ -1,4 +1,4 @@
--- Listing a chain after a comparison, and the outcome of chain after each check.
+-- Listing a chain after a comparison, and the outcome of chain after its reading.
 use mathlib.Core.Path.{_≡_, refl, sym, ap, ap₂, subst, _∙_}
 use mathlib.Core.List.{List, [], _∷_, _++_}
 use mathlib.Core.Bool.{Bool, true, false, cond}
@@ -15,8 +15,8 @@ use Rattle.model.specs.Equivalence.{Entry}
 use Rattle.model.specs.Reversing.{Ending, finished, stopped, room, reversing}
 use Rattle.model.specs.Outcome.{Outcome, answered, refused, _>>=_, unless}
 use Rattle.model.specs.Checks.{cleared}
-use Rattle.model.specs.Images.{readTable, readProgram, readChain, chainImage}
-use Rattle.model.specs.Services.{Verdict, same-after, different-after, readForward, comparison, chainBytes, listable, chain}
+use Rattle.model.specs.Images.{readProgram, readChain, chainImage}
+use Rattle.model.specs.Services.{Verdict, same-after, different-after, comparison, chainBytes, listable, chain}
 use Rattle.model.specs.Areas.{Compares, Listed, ChainArea}
 use Rattle.model.specs.Stated.{refusal, compared}
 use Rattle.model.specs.declared.answers.Refusal.{Refusal}
@@ -42,12 +42,14 @@ use Rattle.chains.specs.Listing.{Compared as Listed-from}
 use Rattle.chains.proofs.Courses.{even-of}
 use Rattle.chains.proofs.Layouts.{room-for-fewer}
 use Rattle.checks.specs.Table.{Of}
+use Rattle.services.specs.Loading.{Images, readPair}
 use Rattle.services.specs.Compare.{toldAs, judgementAs, Ended, Judged, LoadedPair, Settled, settled, by-allowance, by-memory, Meaning}
 use Rattle.services.specs.Chain.{Area, ListedAs}
 use Rattle.services.specs.declared.compare.Judgement.{Judgement}
 use Rattle.services.specs.declared.compare.Judgement.the-variants.{Same, Different, Refused}
 use Rattle.services.proofs.Early.{told}
-use Rattle.services.proofs.Outcomes.{still-refused, goes-on}
+use Rattle.services.proofs.Outcomes.{AsFound, still-refused}
+use Rattle.services.proofs.Reading.{pair-refused, pair-runs}
 use Rattle.services.proofs.Programs.{lettered-program}
 
 -- A VERDICT THAT LISTS NOTHING
@@ -167,26 +169,17 @@ module _ (cells : List ℕ) (size : ℕ) (T : Presentation) (o : Of cells size T
 -- THE SERVICE
 
 module _ (table first second : List ℕ) (steps width area : ℕ) where
-  pub chain-no-table : (r : Refusal) → readTable table ≡ refusal r → chain table first second steps width area ≡ refusal r
+  abbrev lists : Images → Outcome Verdict
+  lists p = comparison (p .table) (p .first) (p .second) steps width >>= listable (p .table .size) area
+
+  pub chain-refused : (r : Refusal) → readPair table first second ≡ refusal r → AsFound (chain table first second steps width area) r
   unfolding chain
-  chain-no-table r e = still-refused (readTable table) r e _
+  chain-refused = pair-refused table first second lists
 
-  module _ (T : Presentation) (e : readTable table ≡ answered T) where
-    pub chain-no-first : (r : Refusal) → readForward (T .size) first ≡ refusal r → chain table first second steps width area ≡ refusal r
-    unfolding chain
-    chain-no-first r f = goes-on (readTable table) T e _ ∙ still-refused (readForward (T .size) first) r f _
-
-    module _ (u : Positive) (f : readForward (T .size) first ≡ answered u) where
-      pub chain-no-second : (r : Refusal) → readForward (T .size) second ≡ refusal r → chain table first second steps width area ≡ refusal r
-      unfolding chain
-      chain-no-second r g =
-          goes-on (readTable table) T e _ ∙ (goes-on (readForward (T .size) first) u f _ ∙ still-refused (readForward (T .size) second) r g _)
-
-      pub chain-runs : (v : Positive) → readForward (T .size) second ≡ answered v
-          → chain table first second steps width area ≡ (comparison T u v steps width >>= listable (T .size) area)
-      unfolding chain
-      chain-runs v g =
-          goes-on (readTable table) T e _ ∙ (goes-on (readForward (T .size) first) u f _ ∙ goes-on (readForward (T .size) second) v g _)
+  pub chain-runs : (T : Presentation) (u v : Positive) → Compares table first second T u v
+      → chain table first second steps width area ≡ (comparison T u v steps width >>= listable (T .size) area)
+  unfolding chain
+  chain-runs = pair-runs table first second lists
 
   -- what is told of a verdict gives the verdict back
   shown : (n : ℕ) (x : Verdict) (y : Verdict) → listable n area x ≡ answered y → x ≡ y
@@ -218,7 +211,7 @@ module _ (table first second : List ℕ) (steps width area : ℕ) where
       }
     where
       is : (T : Presentation) (u v : Positive) → Compares table first second T u v → o ≡ (comparison T u v steps width >>= listable (T .size) area)
-      is T u v c = e ∙ chain-runs T (c .table-read) u (c .first-read) v (c .second-read)
+      is T u v c = e ∙ chain-runs T u v c
 
 -- the answer area of the service
 module _ (table first second before after : List ℕ) where

@@ -1,4 +1,4 @@
--- Checking a chain: the first program as it is loaded, what following the entries comes to, and the outcome of check after each test.
+-- Checking a chain: the first program as it is loaded, what following the entries comes to, and the outcome of check after its readings.
 use mathlib.Core.Path.{_≡_, refl, sym, ap, ap₂, subst, _∙_}
 use mathlib.Core.List.{List, [], _∷_, _++_, append-nil}
 use mathlib.Core.Bool.{Bool, true, false, cond}
@@ -13,19 +13,22 @@ use Rattle.model.specs.Word.{Positive, positive, byte}
 use Rattle.model.specs.Presentation.{Presentation}
 use Rattle.model.specs.Equivalence.{Entry, equal, applied}
 use Rattle.model.specs.Outcome.{Outcome, answered, refused, _>>=_}
-use Rattle.model.specs.Images.{readTable, readChain}
+use Rattle.model.specs.Images.{readChain}
 use Rattle.model.specs.Plain.{plainProgram}
 use Rattle.model.specs.Services.{Passage, joins, ends-elsewhere, readForward, followedBy, followed, check}
-use Rattle.model.specs.Areas.{workspaceAfter}
+use Rattle.model.specs.Areas.{Compares, workspaceAfter}
 use Rattle.model.specs.Stated.{refusal}
 use Rattle.model.specs.declared.answers.Refusal.{Refusal}
 use Rattle.images.specs.Programs.{written, ForwardOf}
 use Rattle.engine.proofs.Lettering.{length-positive}
 use Rattle.swaps.specs.Held.{heldAt, Placed, Carried}
 use Rattle.swaps.proofs.Applying.{held-length}
+use Rattle.services.specs.Loading.{Images, readPair}
 use Rattle.services.specs.Check.{passage}
-use Rattle.services.proofs.Outcomes.{still-refused, goes-on}
+use Rattle.services.proofs.Early.{chain-early}
+use Rattle.services.proofs.Outcomes.{AsFound, goes-on, reading-refused}
 use Rattle.services.proofs.Programs.{written-end}
+use Rattle.services.proofs.Reading.{pair-refused, pair-runs}
 
 -- the bytes of a forward program are its numbers
 plain-positive : (u : Positive) → plainProgram (positive u) ≡ u
@@ -102,30 +105,20 @@ module _ (T : Presentation) (width : ℕ) where
 -- THE SERVICE
 
 module _ (table first second entries : List ℕ) (width : ℕ) where
-  pub check-no-table : (r : Refusal) → readTable table ≡ refusal r → check table first second entries width ≡ refusal r
+  abbrev follows : Images → Outcome Passage
+  follows p = readChain (p .table .size) entries >>= λ es. passage (p .table) width (p .first) es (p .second)
+
+  pub check-refused : (r : Refusal) → readPair table first second ≡ refusal r → AsFound (check table first second entries width) r
   unfolding check
-  check-no-table r e = still-refused (readTable table) r e _
+  check-refused = pair-refused table first second follows
 
-  module _ (T : Presentation) (e : readTable table ≡ answered T) where
-    pub check-no-first : (r : Refusal) → readForward (T .size) first ≡ refusal r → check table first second entries width ≡ refusal r
+  module _ (T : Presentation) (u v : Positive) (c : Compares table first second T u v) (size : ℕ) (sized : T .size ≡ size) where
+    reads-chain : check table first second entries width ≡ (readChain size entries >>= λ es. passage T width u es v)
     unfolding check
-    check-no-first r f = goes-on (readTable table) T e _ ∙ still-refused (readForward (T .size) first) r f _
+    reads-chain = pair-runs table first second follows T u v c ∙ ap (λ i. readChain i entries >>= λ es. passage T width u es v) sized
 
-    module _ (u : Positive) (f : readForward (T .size) first ≡ answered u) where
-      pub check-no-second : (r : Refusal) → readForward (T .size) second ≡ refusal r → check table first second entries width ≡ refusal r
-      unfolding check
-      check-no-second r g =
-          goes-on (readTable table) T e _ ∙ (goes-on (readForward (T .size) first) u f _ ∙ still-refused (readForward (T .size) second) r g _)
+    pub check-no-chain : (r : Refusal) → readChain size entries ≡ refusal r → AsFound (check table first second entries width) r
+    check-no-chain r e = reading-refused _ (readChain size entries) _ reads-chain r e 6 (chain-early size entries) (omega arith)
 
-      module _ (v : Positive) (g : readForward (T .size) second ≡ answered v) where
-        pub check-no-chain : (r : Refusal) → readChain (T .size) entries ≡ refusal r → check table first second entries width ≡ refusal r
-        unfolding check
-        check-no-chain r h =
-            goes-on (readTable table) T e _
-            ∙ (goes-on (readForward (T .size) first) u f _ ∙ (goes-on (readForward (T .size) second) v g _ ∙ still-refused (readChain (T .size) entries) r h _))
-
-        pub check-runs : (es : List Entry) → readChain (T .size) entries ≡ answered es → check table first second entries width ≡ passage T width u es v
-        unfolding check
-        check-runs es h =
-            goes-on (readTable table) T e _
-            ∙ (goes-on (readForward (T .size) first) u f _ ∙ (goes-on (readForward (T .size) second) v g _ ∙ goes-on (readChain (T .size) entries) es h _))
+    pub check-runs : (es : List Entry) → readChain size entries ≡ answered es → check table first second entries width ≡ passage T width u es v
+    check-runs es e = reads-chain ∙ goes-on (readChain size entries) es e _

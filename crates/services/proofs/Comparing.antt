@@ -1,4 +1,4 @@
--- What a comparison makes of each ending, and the outcome of compare after each check.
+-- What a comparison makes of each ending, and the outcome of compare after its reading.
 use mathlib.Core.Path.{_≡_, refl, sym, ap, ap₂, subst, _∙_}
 use mathlib.Core.List.{List, [], _∷_, _++_}
 use mathlib.Core.Bool.{Bool, true, false, not, cond}
@@ -12,8 +12,7 @@ use Rattle.model.specs.Presentation.{Presentation}
 use Rattle.model.specs.Reversing.{Ending, finished, open-pair, stopped, budget, room, reversing}
 use Rattle.model.specs.Outcome.{Outcome, answered, refused, _>>=_, unless}
 use Rattle.model.specs.Checks.{cleared}
-use Rattle.model.specs.Images.{readTable}
-use Rattle.model.specs.Services.{Verdict, same-after, different-after, judged, verdictOf, readForward, comparison, compare}
+use Rattle.model.specs.Services.{Verdict, same-after, different-after, judged, verdictOf, comparison, compare}
 use Rattle.model.specs.Areas.{Compares, workspaceAfter}
 use Rattle.model.specs.Stated.{refusal, clearedAs, compared, endingAnswer}
 use Rattle.model.specs.declared.answers.Ending.{Ending as EndingAnswer}
@@ -25,10 +24,12 @@ use Rattle.theory.proofs.Impossible.{impossible}
 use Rattle.theory.proofs.Verdicts.{demand-three, settled-same, settled-different, stopped-by-budget, stopped-by-room}
 use Rattle.theory.proofs.Verdicts.{Settled as TheorySettled}
 use Rattle.engine.specs.Run.{Reverses}
+use Rattle.services.specs.Loading.{Images, readPair}
 use Rattle.services.specs.Compare.{judgement, judgementAs, toldAs, Ended, EndedIf, Judged, Settled, settled, by-allowance, by-memory, Meaning}
 use Rattle.services.specs.declared.compare.Judgement.{Judgement}
 use Rattle.services.specs.declared.compare.Judgement.the-variants.{Same, Different, Refused}
-use Rattle.services.proofs.Outcomes.{still-refused, goes-on}
+use Rattle.services.proofs.Outcomes.{AsFound, still-refused, goes-on}
+use Rattle.services.proofs.Reading.{pair-refused, pair-runs}
 
 -- JUDGING AN ENDING
 
@@ -137,25 +138,16 @@ judged-wipe (Stopped Room) area = refl
 -- THE SERVICE
 
 module _ (table first second : List ℕ) (steps width : ℕ) where
-  pub compare-no-table : (r : Refusal) → readTable table ≡ refusal r → compare table first second steps width ≡ refusal r
+  abbrev judges : Images → Outcome Verdict
+  judges p = comparison (p .table) (p .first) (p .second) steps width
+
+  pub compare-refused : (r : Refusal) → readPair table first second ≡ refusal r → AsFound (compare table first second steps width) r
   unfolding compare
-  compare-no-table r e = still-refused (readTable table) r e _
+  compare-refused = pair-refused table first second judges
 
-  module _ (T : Presentation) (e : readTable table ≡ answered T) where
-    pub compare-no-first : (r : Refusal) → readForward (T .size) first ≡ refusal r → compare table first second steps width ≡ refusal r
-    unfolding compare
-    compare-no-first r f = goes-on (readTable table) T e _ ∙ still-refused (readForward (T .size) first) r f _
-
-    module _ (u : Positive) (f : readForward (T .size) first ≡ answered u) where
-      pub compare-no-second : (r : Refusal) → readForward (T .size) second ≡ refusal r → compare table first second steps width ≡ refusal r
-      unfolding compare
-      compare-no-second r g =
-          goes-on (readTable table) T e _ ∙ (goes-on (readForward (T .size) first) u f _ ∙ still-refused (readForward (T .size) second) r g _)
-
-      pub compare-runs : (v : Positive) → readForward (T .size) second ≡ answered v → compare table first second steps width ≡ comparison T u v steps width
-      unfolding compare
-      compare-runs v g =
-          goes-on (readTable table) T e _ ∙ (goes-on (readForward (T .size) first) u f _ ∙ goes-on (readForward (T .size) second) v g _)
+  pub compare-runs : (T : Presentation) (u v : Positive) → Compares table first second T u v → compare table first second steps width ≡ comparison T u v steps width
+  unfolding compare
+  compare-runs = pair-runs table first second judges
 
   -- demand 3, of the outcome
   as-settled : {o : Outcome Verdict} → TheorySettled o → Settled answered o
@@ -175,7 +167,7 @@ module _ (table first second : List ℕ) (steps width : ℕ) where
       }
     where
       is : (T : Presentation) (u v : Positive) → Compares table first second T u v → o ≡ comparison T u v steps width
-      is T u v c = e ∙ compare-runs T (c .table-read) u (c .first-read) v (c .second-read)
+      is T u v c = e ∙ compare-runs T u v c
 
 pub told-states : (j : Judgement) → compared (toldAs j) ≡ judgementAs j
 told-states (Same k r) = refl

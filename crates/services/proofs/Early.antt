@@ -17,6 +17,7 @@ use Rattle.model.specs.Areas.{outputAfter, workspaceAfter}
 use Rattle.model.specs.Stated.{refusal, placeNumbers}
 use Rattle.model.specs.declared.answers.Refusal.{Refusal}
 use Rattle.model.specs.declared.answers.Refusal.the-variants.{TableEnds, TableField, TableTail, ImageEnds, ImageField, ImageTail, BackMove, UnequalLengths, CubeFails, OpenPair, AllowanceUsed, WorkspaceShort, AnswerShort, UnequalEnds}
+use Rattle.services.specs.Loading.{readPair}
 
 -- a refusal, if it is one, has a number of at most k
 abbrev pub Early : {A : Type 0} → ℕ → Outcome A → Type 0
@@ -108,11 +109,18 @@ wider : {A : Type 0} (j k : ℕ) (o : Outcome A) → j ≤ k → Early j o → E
 wider j k (answered x) h e = tt
 wider j k (refused n ps) h e = omega arith
 
-pub forward-early : (n : ℕ) (bytes : List ℕ) → Early 7 (readForward n bytes)
+forward-early : (n : ℕ) (bytes : List ℕ) → Early 7 (readForward n bytes)
 unfolding readForward
 forward-early n bytes =
     then 7 (readProgram n bytes) _ (wider 6 7 (readProgram n bytes) (omega arith) (program-early n bytes))
     (λ w. test 7 (not (isForward w)) 7 (forwards w) (omega arith))
+
+pub images-early : (table first second : List ℕ) → Early 7 (readPair table first second)
+unfolding readPair
+images-early table first second =
+    then 7 (readTable table) _ (wider 3 7 (readTable table) (omega arith) (table-early table))
+    (λ T. then 7 (readForward (T .size) first) _ (forward-early (T .size) first)
+    (λ u. then 7 (readForward (T .size) second) _ (forward-early (T .size) second) (λ v. tt)))
 
 -- A REFUSAL ON ITS WAY THROUGH
 

@@ -7,6 +7,7 @@ pub mod Outcomes
 pub mod ReverseService
 pub mod ClearService
 pub mod Pairs
+pub mod Reading
 pub mod Comparing
 pub mod ChainService
 pub mod CheckService

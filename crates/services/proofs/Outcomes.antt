@@ -25,3 +25,15 @@ module _ {A : Type 0} (o : Outcome A) (r : Refusal) (e : o ≡ refusal r) where
 
 pub goes-on : {A B : Type 0} (o : Outcome A) (x : A) → o ≡ answered x → (f : A → Outcome B) → (o >>= f) ≡ f x
 goes-on o x e f = ap (λ q. q >>= f) e
+
+-- refused before the work: the service says so, and leaves the workspace as found
+pub record AsFound {A : Type 0} (o : Outcome A) (r : Refusal) : Type 0 where
+  pub stated : refusal r ≡ o
+  pub workspace : (area : List ℕ) → area ≡ workspaceAfter o area
+
+-- a service that begins with a reading
+pub reading-refused : {A B : Type 0} (o : Outcome B) (reading : Outcome A) (rest : A → Outcome B) → o ≡ (reading >>= rest) → (r : Refusal) → reading ≡ refusal r → (k : ℕ)
+    → Early k reading → k ≤ 8 → AsFound o r
+reading-refused o reading rest begins r e k early few =
+    let q = begins ∙ still-refused reading r e rest in
+    record { stated = sym q; workspace = refused-workspace o r q reading k e early few }

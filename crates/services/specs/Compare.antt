@@ -2,7 +2,7 @@
 use mathlib.Core.List.{List, [], _∷_, _++_}
 use mathlib.Core.Bool.{cond}
 use mathlib.Core.Path.{_≡_}
-use Prim.Native.Nat.{ℕ, _+_, _-_, _≤_}
+use Prim.Native.Nat.{ℕ, _-_}
 use lib.Dec.{eqb}
 use lib.ListN.{length}
 use Rattle.model.specs.Word.{Positive, positive, negative}
@@ -19,7 +19,6 @@ use Rattle.model.specs.declared.answers.Ending.the-variants.{Finished, Undefine
 use Rattle.model.specs.declared.answers.Refusal.the-variants.{UnequalEnds}
 use Rattle.model.specs.declared.answers.Compared.{Compared}
 use Rattle.model.specs.declared.answers.Compared.the-variants.{Same as SameAnswer, Different as DifferentAnswer, Refused as RefusedAnswer}
-use Rattle.images.specs.Programs.{ForwardOf}
 use Rattle.engine.specs.Gap.{wordAt, Searched}
 use Rattle.engine.specs.Cells.{Stands, Serves}
 use Rattle.engine.specs.Run.{Reverses}
@@ -27,19 +26,6 @@ use Rattle.checks.specs.Table.{Of}
 use Rattle.services.specs.Reverse.{stopRefusal}
 use Rattle.services.specs.declared.compare.Judgement.{Judgement}
 use Rattle.services.specs.declared.compare.Judgement.the-variants.{Same, Different, Refused}
-
--- two forward programs of so many letters
-pub record Pair (size : ℕ) (first : List ℕ) (first-count : ℕ) (second : List ℕ) (second-count : ℕ) : Type 0 where
-  pub some : 1 ≤ size
-  pub few : size ≤ 16
-  pub one : ForwardOf first size first-count
-  pub two : ForwardOf second size second-count
-
--- under cells that stand for a table
-pub record Forward (cells : List ℕ) (size : ℕ) (first : List ℕ) (first-count : ℕ) (second : List ℕ) (second-count : ℕ) : Type 0 where
-  pub table : Presentation
-  pub of : Of cells size table
-  pub pair : Pair size first first-count second second-count
 
 -- the inverse of the first word and the second word stand in the workspace
 pub record LoadedPair (cells : List ℕ) (T : Presentation) (u v : Positive) (bytes : List ℕ) (left right : ℕ) : Type 0 where

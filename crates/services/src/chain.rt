@@ -5,20 +5,19 @@ ghost use lib.ListN.{length};
 ghost use Rattle.model.specs.Services.{chain, chainBytes, listable};
 ghost use Rattle.model.specs.Areas.{workspaceAfter, ChainArea};
 ghost use Rattle.model.specs.Stated.{compared};
-ghost use Rattle.services.specs.Compare.{Forward, Meaning};
+ghost use Rattle.services.specs.Loading.{Forward};
+ghost use Rattle.services.specs.Compare.{Meaning};
 ghost use Rattle.services.specs.Chain.{Lists};
 use crate::areas::wipe;
 use crate::compare::Judgement;
 use crate::compare::compare_programs;
 use crate::compare::load_pair;
 use crate::compare::told;
-use crate::loading::load_table;
+use crate::loading::PairRead;
+use crate::loading::read_pair;
 use bits::letter_width;
 use chains::listing::list;
 use engine::gap::Gap;
-use images::programs::ProgramRead;
-use images::programs::read_forward;
-use images::tables::TableRead;
 use model::answers::Compared;
 use model::answers::Refusal;
 
@@ -82,31 +81,19 @@ pub fn chain(
     ensures meaning { λ r. ⌜ Meaning (now (table .entry)) (now (first .entry)) (now (second .entry)) allowance (length (now (workspace .entry))) (λ T v. listable (T .size) (length (now (answer .entry))) v) (compared r) ⌝ }
 {
     let mut cells = [0u8; 4096];
-    let read = load_table(table, &mut cells);
+    let read = read_pair(table, first, second, &mut cells);
     match read {
-        TableRead::Refused(refusal) => Compared::Refused(refusal),
-        TableRead::Table { size } => {
-            let one = read_forward(first, size);
-            match one {
-                ProgramRead::Refused(refusal) => Compared::Refused(refusal),
-                ProgramRead::Program { count } => {
-                    let two = read_forward(second, size);
-                    match two {
-                        ProgramRead::Refused(refusal) => Compared::Refused(refusal),
-                        ProgramRead::Program { count: other } => chain_programs(
-                            &cells,
-                            size,
-                            first,
-                            count,
-                            second,
-                            other,
-                            allowance,
-                            workspace,
-                            answer,
-                        ),
-                    }
-                }
-            }
-        }
+        PairRead::Refused(refusal) => Compared::Refused(refusal),
+        PairRead::Pair { size, m, n } => chain_programs(
+            &cells,
+            size,
+            first,
+            m,
+            second,
+            n,
+            allowance,
+            workspace,
+            answer,
+        ),
     }
 }

@@ -6,14 +6,12 @@ ghost use Rattle.model.specs.Areas.{workspaceAfter};
 ghost use Rattle.model.specs.Stated.{checked};
 ghost use Rattle.services.specs.Check.{ForwardChain, PassageMeans, Checks};
 use crate::areas::wipe;
-use crate::loading::load_table;
+use crate::loading::PairRead;
+use crate::loading::read_pair;
 use engine::gap::Gap;
 use images::chains::ChainRead;
 use images::chains::read_chain;
-use images::programs::ProgramRead;
-use images::programs::read_forward;
 use images::programs::unpack_letters;
-use images::tables::TableRead;
 use model::answers::Checked;
 use model::answers::Place;
 use model::answers::Refusal;
@@ -99,36 +97,24 @@ pub fn check(
     ensures workspace { λ r. ⌜ now (workspace .exit) ≡ workspaceAfter (check (now (table .entry)) (now (first .entry)) (now (second .entry)) (now (entries .entry)) (length (now (workspace .entry)))) (now (workspace .entry)) ⌝ }
 {
     let mut cells = [0u8; 4096];
-    let read = load_table(table, &mut cells);
+    let read = read_pair(table, first, second, &mut cells);
     match read {
-        TableRead::Refused(refusal) => Checked::Refused(refusal),
-        TableRead::Table { size } => {
-            let one = read_forward(first, size);
-            match one {
-                ProgramRead::Refused(refusal) => Checked::Refused(refusal),
-                ProgramRead::Program { count: m } => {
-                    let two = read_forward(second, size);
-                    match two {
-                        ProgramRead::Refused(refusal) => Checked::Refused(refusal),
-                        ProgramRead::Program { count: n } => {
-                            let list = read_chain(entries, size);
-                            match list {
-                                ChainRead::Refused(refusal) => Checked::Refused(refusal),
-                                ChainRead::Chain { count } => check_programs(
-                                    &cells,
-                                    size,
-                                    first,
-                                    m,
-                                    second,
-                                    n,
-                                    entries,
-                                    count,
-                                    workspace,
-                                ),
-                            }
-                        }
-                    }
-                }
+        PairRead::Refused(refusal) => Checked::Refused(refusal),
+        PairRead::Pair { size, m, n } => {
+            let list = read_chain(entries, size);
+            match list {
+                ChainRead::Refused(refusal) => Checked::Refused(refusal),
+                ChainRead::Chain { count } => check_programs(
+                    &cells,
+                    size,
+                    first,
+                    m,
+                    second,
+                    n,
+                    entries,
+                    count,
+                    workspace,
+                ),
             }
         }
     }

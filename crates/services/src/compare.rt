@@ -6,18 +6,17 @@ ghost use Rattle.model.specs.Outcome.{answered};
 ghost use Rattle.model.specs.Services.{compare};
 ghost use Rattle.model.specs.Areas.{workspaceAfter};
 ghost use Rattle.model.specs.Stated.{compared};
-ghost use Rattle.services.specs.Compare.{Pair, Forward, Loads, PairReverses, judgement, toldAs, Judges, Meaning};
+ghost use Rattle.services.specs.Loading.{Pair, Forward};
+ghost use Rattle.services.specs.Compare.{Loads, PairReverses, judgement, toldAs, Judges, Meaning};
 use crate::areas::wipe;
 use crate::clear::clear_cells;
-use crate::loading::load_table;
+use crate::loading::PairRead;
+use crate::loading::read_pair;
 use crate::reverse::stop_refusal;
 use checks::words::invert;
 use engine::gap::Gap;
 use engine::run::reversing;
-use images::programs::ProgramRead;
-use images::programs::read_forward;
 use images::programs::unpack_letters;
-use images::tables::TableRead;
 use model::answers::Cleared;
 use model::answers::Compared;
 use model::answers::Ending;
@@ -148,30 +147,18 @@ pub fn compare(
     ensures meaning { λ r. ⌜ Meaning (now (table .entry)) (now (first .entry)) (now (second .entry)) allowance (length (now (workspace .entry))) (λ T v. answered v) (compared r) ⌝ }
 {
     let mut cells = [0u8; 4096];
-    let read = load_table(table, &mut cells);
+    let read = read_pair(table, first, second, &mut cells);
     match read {
-        TableRead::Refused(refusal) => Compared::Refused(refusal),
-        TableRead::Table { size } => {
-            let one = read_forward(first, size);
-            match one {
-                ProgramRead::Refused(refusal) => Compared::Refused(refusal),
-                ProgramRead::Program { count } => {
-                    let two = read_forward(second, size);
-                    match two {
-                        ProgramRead::Refused(refusal) => Compared::Refused(refusal),
-                        ProgramRead::Program { count: other } => told(compare_programs(
-                            &cells,
-                            size,
-                            first,
-                            count,
-                            second,
-                            other,
-                            allowance,
-                            workspace,
-                        )),
-                    }
-                }
-            }
-        }
+        PairRead::Refused(refusal) => Compared::Refused(refusal),
+        PairRead::Pair { size, m, n } => told(compare_programs(
+            &cells,
+            size,
+            first,
+            m,
+            second,
+            n,
+            allowance,
+            workspace,
+        )),
     }
 }

@@ -3,15 +3,24 @@ ghost use Prim.Native.Nat.{ℕ, _≤_};
 ghost use lib.ListN.{length, getD};
 ghost use Rattle.engine.specs.Cells.{cellAt};
 ghost use Rattle.images.specs.Programs.{Accepted};
-ghost use Rattle.services.specs.Loading.{Diagonal, TableLoaded, ProgramRuns, ProgramReverses};
+ghost use Rattle.services.specs.Loading.{Diagonal, TableLoaded, PairDone, ProgramRuns, ProgramReverses};
 use engine::cells::cell_at;
 use engine::gap::Gap;
 use engine::run::reversing;
+use images::programs::ProgramRead;
+use images::programs::read_forward;
 use images::programs::unpack_letters;
 use images::tables::TableRead;
 use images::tables::read_table;
 use model::answers::Ending;
+use model::answers::Refusal;
 use model::answers::Stop;
+
+// A table of so many letters, and two forward programs of m and n letters.
+pub enum PairRead {
+    Pair { size: u8, m: u16, n: u16 },
+    Refused(Refusal),
+}
 
 // Empties the cells of each letter with itself: C(a,a) is empty.
 pub(crate) fn clear_diagonal(cells: &mut [u8])
@@ -35,6 +44,30 @@ pub(crate) fn load_table(image: &[u8], cells: &mut [u8]) -> TableRead
     let read = read_table(image, cells);
     clear_diagonal(cells);
     read
+}
+
+// Reads a table image into cells for the engine, then the images of two forward programs.
+pub(crate) fn read_pair(table: &[u8], first: &[u8], second: &[u8], cells: &mut [u8]) -> PairRead
+    requires { ⌜ length (now cells) ≡ 4096 ⌝ }
+    ensures { λ r. ⌜ PairDone (now (table .entry)) (now (first .entry)) (now (second .entry)) (now (cells .exit)) r ⌝ }
+{
+    let read = load_table(table, cells);
+    match read {
+        TableRead::Refused(refusal) => PairRead::Refused(refusal),
+        TableRead::Table { size } => {
+            let one = read_forward(first, size);
+            match one {
+                ProgramRead::Refused(refusal) => PairRead::Refused(refusal),
+                ProgramRead::Program { count: m } => {
+                    let two = read_forward(second, size);
+                    match two {
+                        ProgramRead::Refused(refusal) => PairRead::Refused(refusal),
+                        ProgramRead::Program { count: n } => PairRead::Pair { size, m, n },
+                    }
+                }
+            }
+        }
+    }
 }
 
 // Reverses an accepted program, loaded at the workspace's end.
