@@ -4,16 +4,16 @@ use mathlib.Core.Path.{_≡_, refl, sym, ap, _∙_}
 use mathlib.Core.Logic.{_⊎_, inl, inr, ⊎-elim}
 use mathlib.Core.List.{List, [], _∷_, _++_, append-assoc, append-nil}
 use mathlib.Core.Bool.{Bool, true, false, _&&_}
-use Prim.Native.Nat.{ℕ, zero, suc, _+_, _-_, _*_, _/_, _%_, _^_, _≤_, _<_}
+use Prim.Native.Nat.{ℕ, zero, suc, _+_, _-_, _*_, _^_, _≤_, _<_}
 use native.Mathlib.Omega.{arith}
 use native.Mathlib.Decide.{decLt}
 use borrow.Author.Tests.{lt-ltb, ltb-true, eqb-true}
 use lib.Dec.{ltb, eqb}
-use lib.ListN.{length, take, drop, set, getD, replicate, length-append, length-take, length-drop, length-replicate, take-append-drop}
-use lib.Seq.{take-at, drop-at, take-append-le, take-append-add, drop-nil, take-all, length-take-le}
+use lib.ListN.{length, take, drop, getD, replicate, length-append, length-take, length-drop, length-replicate, take-append-drop}
+use lib.Seq.{take-at, drop-at, take-append-le, take-append-add, length-take-le}
 use Rattle.model.specs.Bits.{digits, number, bitsOf, packed, bytesFor, pack, allZero, filling}
-use Rattle.bits.proofs.Digits.{AreBits, length-digits, digits-are-bits, bits-append, number-bound, number-of-digits, digits-of-number}
-use Rattle.bits.proofs.Bytes.{length-bits, bits-are-bits}
+use Rattle.bits.proofs.Digits.{AreBits, length-digits, bits-append, number-bound, number-of-digits, digits-of-number}
+use Rattle.bits.proofs.Bytes.{length-bits}
 use Rattle.bits.proofs.Fields.{bits-take, bits-drop}
 
 pub below-or : (a b : ℕ) → (a < b) ⊎ (b ≤ a)

@@ -1,13 +1,12 @@
 -- The binary digits of a number, counted from its leading zeros. A letter's width is at most four.
-use mathlib.Core.Path.{_≡_, refl, sym, ap, _∙_}
-use Prim.Native.Nat.{ℕ, zero, suc, _+_, _-_, _*_, _/_, _%_, _^_, _≤_, _<_}
+use mathlib.Core.Path.{_≡_, ap, _∙_}
+use Prim.Native.Nat.{ℕ, zero, suc, _+_, _-_, _*_, _/_, _^_, _≤_, _<_}
 use native.Mathlib.Omega.{arith}
 use mathlib.Core.Bool.{Bool, true, false, cond}
 use lib.Dec.{eqb}
 use borrow.Author.Tests.{ne-eqb}
 use native.Mathlib.Nat.{pow-suc}
 use lib.Count.{leadingZeros, leading-of-zero}
-use lib.Pow.{shr-lt}
 use Rattle.model.specs.Bits.{binaryDigits, letterWidth}
 
 -- of k places the leading zeros and the digits take all

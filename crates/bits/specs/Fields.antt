@@ -1,5 +1,5 @@
 -- Fields of 0 to 16 bits in bytes, most significant bit first. A position counts bits from the first byte's highest.
-use mathlib.Core.List.{List, [], _∷_, _++_}
+use mathlib.Core.List.{List, _++_}
 use mathlib.Core.Path.{_≡_}
 use Prim.Native.Nat.{ℕ, _+_, _*_, _^_, _≤_, _<_}
 use lib.ListN.{length, take, drop}

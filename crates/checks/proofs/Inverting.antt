@@ -1,12 +1,12 @@
 -- A word is inverted in place from both ends: what holds between the turns, and that the whole is inverted at the end.
 use mathlib.Core.Path.{_≡_, refl, sym, ap, _∙_}
 use mathlib.Core.List.{List, [], _∷_, _++_, map, reverse-cons}
-use Prim.Native.Nat.{ℕ, zero, suc, _+_, _-_, _≤_, _<_}
+use Prim.Native.Nat.{ℕ, suc, _+_, _-_, _≤_, _<_}
 use native.Mathlib.Omega.{arith}
 use native.Mathlib.Decide.{ℕ-discrete, decLt}
 use lib.ListN.{length, take, drop, getD, set, length-set, length-map, length-reverse, List·getD-append, List·getD-map}
 use lib.Seq.{getD-set-same, getD-set-other, drop-set-lt, getD-append-seam, getD-take, length-take-le, ext-getD}
-use Rattle.model.specs.Word.{Letter, forward, back, Word, flip, inverse, letter}
+use Rattle.model.specs.Word.{Letter, forward, Word, flip, inverse, letter}
 use Rattle.engine.specs.Gap.{letters}
 use Rattle.engine.proofs.Letters.{length-letters}
 use Rattle.checks.specs.Words.{Inverted}

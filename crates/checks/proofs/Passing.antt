@@ -2,15 +2,15 @@
 use mathlib.Core.Path.{_≡_, refl, sym, ap, subst, _∙_}
 use mathlib.Core.List.{List, [], _∷_, _++_}
 use mathlib.Core.Bool.{Bool, true, false, cond}
-use Prim.Native.Nat.{ℕ, _+_, _≤_, _<_}
+use Prim.Native.Nat.{ℕ, _≤_}
 use native.Mathlib.Omega.{arith}
 use borrow.Author.Tests.{eq-eqb, ne-eqb}
 use lib.ListN.{length, getD}
-use Rattle.model.specs.Word.{Positive, positive}
+use Rattle.model.specs.Word.{positive}
 use Rattle.model.specs.Presentation.{Presentation, Complement, undefined, complement, swapped, complete}
 use Rattle.model.specs.Reversing.{budget, room}
-use Rattle.model.specs.Enumeration.{Two, Three, pairs, triples}
-use Rattle.model.specs.Outcome.{Outcome, answered, refused, _>>=_}
+use Rattle.model.specs.Enumeration.{Two, Three}
+use Rattle.model.specs.Outcome.{Outcome, refused, _>>=_}
 use Rattle.model.specs.Checks.{balanced, lengthCheck, CubeVerdict, holds, fails, halts, reported, cubeAt, cubeCheck}
 use Rattle.model.specs.declared.answers.Stop.{Stop}
 use Rattle.model.specs.declared.answers.Stop.the-variants.{Budget, Room}
@@ -18,7 +18,7 @@ use Rattle.theory.proofs.Complete.{complete-turn}
 use Rattle.theory.proofs.Impossible.{impossible}
 use Rattle.engine.specs.Cells.{cellAt, InRange, Cell, Stands, Serves}
 use Rattle.checks.specs.Cube.{cubeAnswer}
-use Rattle.checks.specs.Table.{Of, lengthsAs, stoppedAs, triplesAs}
+use Rattle.checks.specs.Table.{Of, stoppedAs}
 use Rattle.checks.specs.declared.cube.CubeVerdict.the-variants.{Holds, Fails, Halts}
 
 -- LENGTHS

@@ -1,24 +1,23 @@
 -- What one reversing tells of a residual, and the words that are loaded for it.
 use mathlib.Core.Path.{_≡_, refl, sym, ap, ap₂, subst, _∙_}
-use mathlib.Core.List.{List, [], _∷_, _++_, map}
+use mathlib.Core.List.{List, [], _∷_, _++_}
 use Prim.Native.Nat.{ℕ, suc, _+_, _-_, _≤_, _<_}
 use native.Mathlib.Omega.{arith}
 use lib.ListN.{length, take, drop, getD, set, length-append, length-set}
 use lib.Seq.{take-take, take-at, take-suc, drop-cons, drop-length, getD-set-same, getD-set-other}
-use Rattle.model.specs.Word.{Letter, forward, back, Word, Positive, positive, negative, inverse, letter}
-use Rattle.model.specs.Presentation.{Presentation, complement, complete}
+use Rattle.model.specs.Word.{back, Word, Positive, positive, negative, letter}
+use Rattle.model.specs.Presentation.{Presentation}
 use Rattle.model.specs.Reversing.{Ending, finished, open-pair, stopped, budget, room, reversing}
-use Rattle.model.specs.Checks.{Residue, residue, missing, halted, ofEnding, under}
+use Rattle.model.specs.Checks.{ofEnding, under}
 use Rattle.model.specs.Stated.{endingAnswer}
 use Rattle.model.specs.declared.answers.Ending.{Ending as EndingAnswer}
 use Rattle.model.specs.declared.answers.Stop.the-variants.{Room}
 use Rattle.theory.proofs.Reversal.{reversing-long}
-use Rattle.engine.specs.Gap.{letters, wordAt}
-use Rattle.engine.specs.Cells.{InRange, Lettered, Serves}
+use Rattle.engine.specs.Gap.{letters}
 use Rattle.engine.specs.Run.{Holds, Named, Reverses}
 use Rattle.engine.proofs.Letters.{letter-forward, letter-back, letters-cons, letters-nil}
 use Rattle.engine.proofs.Lettering.{lettered-front, length-positive, length-negative}
-use Rattle.checks.specs.Residues.{fromEnding, residueAnswer, Stored, Stores, Works}
+use Rattle.checks.specs.Residues.{fromEnding, Works}
 use Rattle.checks.specs.declared.residues.Residue.the-variants.{Halted}
 
 letters-take : (k : ℕ) (l : List ℕ) → letters (take k l) ≡ take k (letters l)

@@ -1,16 +1,15 @@
 -- The search for the first triple that does not hold: the check of all triples is the check of those that are left.
-use mathlib.Core.Path.{_≡_, refl, sym, ap, subst, _∙_}
+use mathlib.Core.Path.{_≡_, sym, ap, _∙_}
 use mathlib.Core.List.{List, [], _∷_, _++_}
-use Prim.Native.Nat.{ℕ, _+_, _-_, _≤_, _<_}
-use native.Mathlib.Omega.{arith}
+use Prim.Native.Nat.{ℕ, _+_, _≤_, _<_}
 use Rattle.model.specs.Word.{positive}
 use Rattle.model.specs.Presentation.{Presentation}
 use Rattle.model.specs.Enumeration.{Three, triples}
 use Rattle.model.specs.Outcome.{answered, refused}
-use Rattle.model.specs.Checks.{cubeAt, cubeCheck}
+use Rattle.model.specs.Checks.{cubeCheck}
 use Rattle.model.specs.declared.answers.Stop.{Stop}
 use Rattle.engine.specs.Cells.{Serves}
-use Rattle.checks.specs.Cube.{cubeAnswer, CubeMeans}
+use Rattle.checks.specs.Cube.{CubeMeans}
 use Rattle.checks.specs.Table.{Of, stoppedAs}
 use Rattle.checks.specs.declared.cube.CubeVerdict.the-variants.{Holds, Fails, Halts}
 use Rattle.checks.proofs.Remaining.{triple, firsts, seconds, thirds, triples-begin, firsts-some, firsts-none, seconds-some, seconds-none, thirds-none, third-is-first, third-is-second, third-counts}

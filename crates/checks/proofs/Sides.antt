@@ -1,10 +1,10 @@
 -- (a\b)\(a\c) from its three reversings: each way in which it is worked out.
-use mathlib.Core.Path.{_≡_, refl, sym, ap, subst, _∙_}
-use mathlib.Core.List.{List, [], _∷_, _++_}
-use Prim.Native.Nat.{ℕ, _≤_}
+use mathlib.Core.Path.{_≡_, refl, ap, _∙_}
+use mathlib.Core.List.{List, [], _∷_}
+use Prim.Native.Nat.{ℕ}
 use native.Mathlib.Omega.{arith}
 use lib.ListN.{length, getD}
-use Rattle.model.specs.Word.{Word, Positive, positive}
+use Rattle.model.specs.Word.{Word, Positive}
 use Rattle.model.specs.Presentation.{Presentation, complement, complete}
 use Rattle.model.specs.Reversing.{Stop as ModelStop}
 use Rattle.model.specs.Checks.{Residue, residue, missing, halted, andThen, under, side}
@@ -14,7 +14,7 @@ use Rattle.theory.proofs.Impossible.{impossible}
 use Rattle.theory.proofs.Residuals.{residual-letters}
 use Rattle.theory.proofs.Checked.{under-residue}
 use Rattle.engine.specs.Cells.{cellAt, InRange, Serves}
-use Rattle.checks.specs.Residues.{residueAnswer, Stored, Stores, Works}
+use Rattle.checks.specs.Residues.{Stored, Works}
 use Rattle.checks.specs.declared.residues.Residue.the-variants.{Missing, Halted}
 use Rattle.checks.specs.declared.residues.Residue.the-variants.{Word as Found}
 use Rattle.checks.proofs.CellWords.{cell-of}

@@ -1,20 +1,20 @@
 -- The cube rule at one triple: its two sides, their agreement, and each way in which it ends.
-use mathlib.Core.Path.{_≡_, refl, sym, ap, ap₂, subst, _∙_}
+use mathlib.Core.Path.{_≡_, refl, sym, ap, ap₂, _∙_}
 use mathlib.Core.List.{List, [], _∷_, _++_, append-nil}
-use mathlib.Core.Bool.{Bool, true, false, cond}
-use Prim.Native.Nat.{ℕ, suc, _+_, _-_, _≤_, _<_}
+use mathlib.Core.Bool.{cond}
+use Prim.Native.Nat.{ℕ, suc, _-_, _≤_}
 use native.Mathlib.Omega.{arith}
 use borrow.Author.Tests.{eq-eqb, ne-eqb}
 use borrow.Rule.Slice.PartMut.{putMid, take-put, post-is, same-len-mid}
 use lib.Dec.{eqb}
-use lib.ListN.{length, take, drop, getD, length-append, length-drop}
+use lib.ListN.{length, take, drop}
 use lib.Seq.{drop-at, drop-length, length-take-le}
-use Rattle.model.specs.Word.{Word, Positive, positive, negative, inverse}
+use Rattle.model.specs.Word.{Positive, positive, negative, inverse}
 use Rattle.model.specs.Presentation.{Presentation, undefined, complement, complete}
 use Rattle.model.specs.Reversing.{Ending, finished, open-pair, stopped, budget, room, reversing}
 use Rattle.model.specs.Enumeration.{Three}
-use Rattle.model.specs.Checks.{Residue, residue, missing, halted, CubeVerdict, holds, fails, halts, empties, bothMissing, bothThere, whereDefined, side, against, cubeAt}
-use Rattle.model.specs.Stated.{endingAnswer, stopAnswer}
+use Rattle.model.specs.Checks.{Residue, residue, missing, halted, CubeVerdict, empties, bothMissing, bothThere, whereDefined, side, against, cubeAt}
+use Rattle.model.specs.Stated.{endingAnswer}
 use Rattle.model.specs.declared.answers.Ending.{Ending as EndingAnswer}
 use Rattle.model.specs.declared.answers.Ending.the-variants.{Finished}
 use Rattle.model.specs.declared.answers.Stop.{Stop}
@@ -23,14 +23,12 @@ use Rattle.engine.specs.Cells.{Serves}
 use Rattle.engine.specs.Run.{Reverses}
 use Rattle.engine.proofs.Loads.{loaded, load-searched, load-serves}
 use Rattle.checks.specs.Words.{Inverted, Moved}
-use Rattle.checks.specs.Residues.{Works, Stored}
+use Rattle.checks.specs.Residues.{Works}
 use Rattle.checks.specs.Cube.{verdictOf, missingSide, cubeAnswer, Sides}
 use Rattle.checks.specs.declared.residues.Residue.{Residue as ResidueAnswer}
 use Rattle.checks.specs.declared.residues.Residue.the-variants.{Missing, Halted}
-use Rattle.checks.specs.declared.residues.Residue.the-variants.{Word as Found}
-use Rattle.checks.specs.declared.cube.CubeVerdict.{CubeVerdict as CubeAnswer}
 use Rattle.checks.specs.declared.cube.CubeVerdict.the-variants.{Holds, Fails, Halts}
-use Rattle.checks.proofs.Sides.{was-missing, was-found, was-halted}
+use Rattle.checks.proofs.Sides.{was-missing, was-halted}
 
 -- a part from `kept` on that was lent and is back
 module _ (kept : ℕ) (xs ys : List ℕ) (inside : kept ≤ length xs) where

@@ -1,9 +1,9 @@
 -- What working out a residual u\v in the workspace comes to.
-use mathlib.Core.List.{List, [], _∷_, _++_}
+use mathlib.Core.List.{List, [], _∷_}
 use mathlib.Core.Path.{_≡_}
 use Prim.Native.Nat.{ℕ}
 use lib.ListN.{length, take}
-use Rattle.model.specs.Word.{Positive, positive, negative}
+use Rattle.model.specs.Word.{Positive, positive}
 use Rattle.model.specs.Presentation.{Presentation, complement, complete}
 use Rattle.model.specs.Checks.{Residue, residue, missing, halted, under, side}
 use Rattle.model.specs.Stated.{stopAnswer}

@@ -1,10 +1,10 @@
 -- What the two checks of a table say of every presentation of so many letters that the cells stand for.
-use mathlib.Core.List.{List, [], _∷_, map}
+use mathlib.Core.List.{List, map}
 use mathlib.Core.Path.{_≡_}
 use Prim.Native.Nat.{ℕ, suc, _-_}
 use Rattle.model.specs.Presentation.{Presentation}
 use Rattle.model.specs.Enumeration.{range, Two, pairs, triples}
-use Rattle.model.specs.Outcome.{Outcome, answered, refused}
+use Rattle.model.specs.Outcome.{Outcome, answered}
 use Rattle.model.specs.Checks.{lengthCheck, cubeCheck}
 use Rattle.model.specs.Stated.{refusal}
 use Rattle.model.specs.declared.answers.Stop.{Stop}

@@ -1,7 +1,7 @@
 -- Words that are inverted or moved where they stand.
-use mathlib.Core.List.{List, [], _∷_, _++_}
+use mathlib.Core.List.{List}
 use mathlib.Core.Path.{_≡_}
-use Prim.Native.Nat.{ℕ, _+_, _-_}
+use Prim.Native.Nat.{ℕ, _-_}
 use lib.ListN.{length, take, drop}
 use Rattle.model.specs.Word.{inverse}
 use Rattle.engine.specs.Gap.{letters}

@@ -5,12 +5,12 @@ use Prim.Native.Nat.{ℕ, suc, _+_, _-_, _≤_, _<_}
 use native.Mathlib.Omega.{arith}
 use native.Mathlib.Numerals.{add-one}
 use lib.ListN.{length, take, drop, getD, length-append, length-take, length-drop}
-use lib.Seq.{take-suc, drop-cons, take-take, drop-length}
-use Rattle.model.specs.Word.{Word, Positive, forward, back, positive, negative, inverse, letter}
-use Rattle.model.specs.Presentation.{Presentation, Complement, undefined, complement, complete}
-use Rattle.model.specs.Reversing.{at, nowhere, site, replaced, next, no-site, blocked, step, byComplement, bySite}
-use Rattle.engine.specs.Gap.{letters, wordAt, Searched, AtSite, AtEnd}
-use Rattle.engine.specs.Cells.{InRange, Lettered, Serves}
+use lib.Seq.{take-suc, drop-cons, drop-length}
+use Rattle.model.specs.Word.{Word, Positive, forward, back, positive, negative}
+use Rattle.model.specs.Presentation.{Presentation, undefined, complement, complete}
+use Rattle.model.specs.Reversing.{nowhere, site, replaced, next, no-site, blocked, step, byComplement, bySite}
+use Rattle.engine.specs.Gap.{letters, wordAt, AtSite, AtEnd}
+use Rattle.engine.specs.Cells.{InRange, Lettered}
 use Rattle.engine.specs.Turn.{Pushed, Steps, Outgrows, Goes}
 use Rattle.engine.proofs.Letters.{letter-forward, letter-back, letters-append, letters-cons, letters-nil, length-letters}
 use Rattle.engine.proofs.Sites.{site-at, site-front}

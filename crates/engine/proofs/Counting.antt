@@ -1,14 +1,13 @@
 -- How many letters of a word are forward and how many back, and what a finished word is.
-use mathlib.Core.Path.{_≡_, refl, sym, ap, ap₂, _∙_}
+use mathlib.Core.Path.{_≡_, refl, sym, ap, _∙_}
 use mathlib.Core.List.{List, [], _∷_, _++_, reverse}
-use Prim.Native.Nat.{ℕ, suc, _+_, _-_, _≤_, _<_}
+use Prim.Native.Nat.{ℕ, _+_, _-_, _≤_, _<_}
 use native.Mathlib.Omega.{arith}
 use native.Mathlib.Numerals.{add-one}
-use lib.ListN.{length, take, drop, getD, length-append, length-take, length-reverse}
+use lib.ListN.{length, take, getD, length-append, length-take, length-reverse}
 use lib.Seq.{take-suc, length-take-le}
 use Rattle.model.specs.Word.{Letter, forward, back, Word, forwards, backs, letter, positive, negative}
-use Rattle.model.specs.Presentation.{Presentation}
-use Rattle.model.specs.Reversing.{ended, site, nowhere}
+use Rattle.model.specs.Reversing.{ended, site}
 use Rattle.theory.proofs.Words.{site-fraction}
 use Rattle.engine.specs.Gap.{letters, AtEnd}
 use Rattle.engine.specs.Run.{Holds}

@@ -1,13 +1,13 @@
 -- Words whose letters are all among n: their parts, their inverses, and their bytes.
-use mathlib.Core.Path.{_≡_, refl, sym, ap, ap₂, _∙_}
-use mathlib.Core.List.{List, [], _∷_, _++_, map}
+use mathlib.Core.Path.{_≡_, ap₂, _∙_}
+use mathlib.Core.List.{[], _∷_, _++_, map}
 use lib.ListN.{length, length-map, length-reverse}
-use Prim.Native.Nat.{ℕ, _≤_, _<_}
+use Prim.Native.Nat.{ℕ, _≤_}
 use native.Mathlib.Omega.{arith}
-use Rattle.model.specs.Word.{Letter, forward, back, Word, Positive, flip, positive, negative, letter}
+use Rattle.model.specs.Word.{forward, back, Word, Positive, flip, positive, negative}
 use Rattle.theory.proofs.Words.{negative-cons}
 use Rattle.engine.specs.Gap.{letters}
-use Rattle.engine.specs.Cells.{InRange, Lettered}
+use Rattle.engine.specs.Cells.{Lettered}
 use Rattle.engine.proofs.Letters.{letter-forward, letters-cons, letters-nil}
 
 module _ (n : ℕ) where

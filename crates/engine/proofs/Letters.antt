@@ -1,13 +1,13 @@
 -- Bytes as letters.
 use mathlib.Core.Path.{_≡_, refl, sym, ap, ap₂, _∙_}
-use mathlib.Core.List.{List, [], _∷_, _++_, map, map-append, nil≢cons, head-eq-of-cons-eq, tail-eq-of-cons-eq}
-use mathlib.Core.Bool.{Bool, true, false, cond}
+use mathlib.Core.List.{List, [], _∷_, _++_, map-append, nil≢cons, head-eq-of-cons-eq, tail-eq-of-cons-eq}
+use mathlib.Core.Bool.{cond}
 use Prim.Native.Nat.{ℕ, _+_, _-_, _≤_, _<_}
 use native.Mathlib.Decide.{decLt}
 use native.Mathlib.Omega.{arith}
 use borrow.Author.Tests.{lt-ltb, le-ltb}
 use lib.ListN.{length, length-map}
-use Rattle.model.specs.Word.{Letter, forward, back, Word, letter, positive}
+use Rattle.model.specs.Word.{Letter, forward, back, letter, positive}
 use Rattle.engine.specs.Gap.{letters}
 
 pub letter-forward : (x : ℕ) → x < 128 → letter x ≡ forward x

@@ -1,20 +1,19 @@
 -- A word that is loaded for a reversing: an inverse at the workspace's start and a positive word at its end.
 use mathlib.Core.Path.{_≡_, refl, sym, ap, ap₂, _∙_}
-use mathlib.Core.List.{List, [], _∷_, _++_, append-nil}
-use Prim.Native.Nat.{ℕ, _+_, _-_, _≤_, _<_}
+use mathlib.Core.List.{List, [], _++_, append-nil}
+use Prim.Native.Nat.{ℕ, _-_, _≤_}
 use native.Mathlib.Omega.{arith}
-use lib.ListN.{length, take, drop, length-append, length-drop, take-append-drop}
+use lib.ListN.{length, take, drop, take-append-drop}
 use lib.Seq.{take-at, drop-at, drop-length, length-take-le}
-use Rattle.model.specs.Word.{Word, Positive, positive, negative, inverse}
+use Rattle.model.specs.Word.{Word, Positive, positive, negative}
 use Rattle.model.specs.Presentation.{Presentation}
-use Rattle.model.specs.Reversing.{site, nowhere}
+use Rattle.model.specs.Reversing.{site}
 use Rattle.theory.proofs.Words.{fraction-nowhere}
 use Rattle.engine.specs.Gap.{letters, wordAt, Searched}
 use Rattle.engine.specs.Cells.{Lettered, Stands, Serves}
 use Rattle.engine.specs.Turn.{Pushed}
 use Rattle.engine.proofs.Letters.{letters-append, letters-nil, length-letters}
 use Rattle.engine.proofs.Lettering.{lettered-append, lettered-negative}
-use Rattle.engine.proofs.Pushes.{pushed-kept}
 
 -- two lists in two parts, the first parts equally long
 pub front-of : {A : Type 0} (p q r s : List A) → length p ≡ length r → p ++ q ≡ r ++ s → (p ≡ r) × (q ≡ s)

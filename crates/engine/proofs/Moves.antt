@@ -6,10 +6,10 @@ use native.Mathlib.Omega.{arith}
 use native.Mathlib.Numerals.{add-one}
 use lib.ListN.{length, take, drop, set, getD, length-set}
 use lib.Seq.{take-suc-set, drop-set-lt, drop-cons, take-suc}
-use Rattle.model.specs.Word.{forward, letter}
+use Rattle.model.specs.Word.{forward}
 use Rattle.model.specs.Reversing.{nowhere, site}
 use Rattle.engine.specs.Gap.{letters, wordAt, Searched}
-use Rattle.engine.proofs.Letters.{letter-forward, letter-back, letters-append, letters-cons, letters-nil}
+use Rattle.engine.proofs.Letters.{letter-forward, letter-back, letters-append}
 use Rattle.engine.proofs.Sites.{snoc-back, snoc-forward}
 
 module _ (bytes : List ℕ) (left right : ℕ) (s : Searched bytes left right) (more : right < length bytes) where

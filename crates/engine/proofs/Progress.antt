@@ -1,15 +1,15 @@
 -- The invariant of the whole loop: the reversing from the start is the run from here. What it is at the start, after a step, and at each end.
 use mathlib.Core.Path.{_≡_, refl, sym, ap, ap₂, subst, _∙_}
-use mathlib.Core.List.{List, [], _∷_, _++_, reverse}
-use mathlib.Core.Bool.{Bool, true, false, cond}
+use mathlib.Core.List.{List, reverse}
+use mathlib.Core.Bool.{cond}
 use Prim.Native.Nat.{ℕ, suc, _+_, _-_, _≤_, _<_}
 use native.Mathlib.Omega.{arith}
 use native.Mathlib.Numerals.{add-one}
 use borrow.Author.Tests.{eq-eqb, ne-eqb}
-use lib.ListN.{length, take, drop, length-append, length-take, length-drop}
+use lib.ListN.{length, take, length-append, length-take, length-drop}
 use Rattle.model.specs.Word.{Word, forwards, backs}
 use Rattle.model.specs.Presentation.{Presentation}
-use Rattle.model.specs.Reversing.{next, step, Ending, open-pair, stopped, budget, room, ended, count, run, reversing}
+use Rattle.model.specs.Reversing.{Ending, open-pair, stopped, budget, room, ended, count, run, reversing}
 use Rattle.model.specs.Stated.{endingAnswer}
 use Rattle.model.specs.declared.answers.Ending.{Ending as EndingAnswer}
 use Rattle.model.specs.declared.answers.Ending.the-variants.{Finished, Undefined, Stopped}
@@ -21,7 +21,7 @@ use Rattle.engine.specs.declared.step.Turn.the-variants.{Final, Stepped}
 use Rattle.engine.specs.declared.step.Turn.the-variants.{Undefined as Turn·Undefined, Stopped as Turn·Stopped}
 use Rattle.engine.specs.Gap.{letters, wordAt, Searched}
 use Rattle.engine.specs.Cells.{Lettered, Serves}
-use Rattle.engine.specs.Turn.{TurnDone, TurnMeans}
+use Rattle.engine.specs.Turn.{TurnMeans}
 use Rattle.engine.specs.Run.{Holds, Named, Reverses}
 use Rattle.engine.proofs.Letters.{length-letters}
 use Rattle.engine.proofs.Runs.{run-none, run-open, run-spent, run-room, run-step, run-begun}

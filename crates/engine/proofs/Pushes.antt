@@ -1,15 +1,15 @@
 -- Letters are written just before `right`, one at a time: what each turn of the two writing loops adds.
 use mathlib.Core.Path.{_≡_, refl, sym, ap, ap₂, subst, _∙_}
 use mathlib.Core.List.{List, [], _∷_, _++_, map, map-append, reverse-append}
-use Prim.Native.Nat.{ℕ, zero, suc, _+_, _-_, _≤_, _<_}
+use Prim.Native.Nat.{ℕ, suc, _+_, _-_, _≤_, _<_}
 use native.Mathlib.Omega.{arith}
 use native.Mathlib.Numerals.{add-one}
-use lib.ListN.{length, take, drop, set, getD, length-set, length-take, length-drop}
+use lib.ListN.{length, take, drop, set, getD, length-set, length-drop}
 use lib.Seq.{take-suc, drop-cons, take-set-le, drop-set-lt, getD-set-same, take-take, getD-take, getD-drop, length-take-le, drop-length}
-use Rattle.model.specs.Word.{Letter, Word, flip, inverse, letter}
+use Rattle.model.specs.Word.{Word, flip, inverse, letter}
 use Rattle.engine.specs.Gap.{letters}
 use Rattle.engine.specs.Turn.{Pushed}
-use Rattle.engine.proofs.Letters.{letters-append, letters-cons}
+use Rattle.engine.proofs.Letters.{letters-cons}
 
 pub pushed-none : (bytes : List ℕ) (right : ℕ) → Pushed [] bytes right 0 bytes
 pushed-none bytes right =

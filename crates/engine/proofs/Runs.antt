@@ -1,14 +1,13 @@
 -- The laws of the model's `run`, one for each case of the next word, and what the invariant of the whole loop is after each turn.
-use mathlib.Core.Path.{_≡_, refl, sym, ap, _∙_}
-use mathlib.Core.List.{List, [], _∷_, _++_}
-use mathlib.Core.Bool.{Bool, true, false, cond}
-use Prim.Native.Nat.{ℕ, zero, suc, _+_, _-_, _≤_, _<_}
+use mathlib.Core.Path.{_≡_, ap, _∙_}
+use mathlib.Core.Bool.{cond}
+use Prim.Native.Nat.{ℕ, zero, suc, _-_, _≤_, _<_}
 use native.Mathlib.Omega.{arith}
 use lib.ListN.{length}
 use borrow.Author.Tests.{lt-ltb, le-ltb}
 use Rattle.model.specs.Word.{Word}
 use Rattle.model.specs.Presentation.{Presentation}
-use Rattle.model.specs.Reversing.{Next, no-site, blocked, step, next, budget, room, Ending, finished, open-pair, stopped, ended, count, spent, onward, run, reversing}
+use Rattle.model.specs.Reversing.{no-site, blocked, step, next, budget, room, open-pair, stopped, ended, count, spent, onward, run, reversing}
 
 module _ (T : Presentation) where
   pub run-none : (width left k r : ℕ) (w : Word) → next T w ≡ no-site → run T width left k r w ≡ ended w k r

@@ -1,6 +1,6 @@
 -- A word with one letter more has no site where the word has none and the letter makes none.
 use mathlib.Core.Path.{_≡_, refl, ap}
-use mathlib.Core.List.{List, [], _∷_, _++_}
+use mathlib.Core.List.{[], _∷_, _++_}
 use Prim.Native.Nat.{ℕ}
 use native.Mathlib.Omega.{arith}
 use Rattle.model.specs.Word.{Letter, forward, back, Word}

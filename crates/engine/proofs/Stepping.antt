@@ -1,10 +1,10 @@
 -- The step at a site, from what the cells of its pair say: each way in which it ends.
-use mathlib.Core.Path.{_≡_, refl, sym, ap, subst, _∙_}
-use mathlib.Core.List.{List, [], _∷_}
+use mathlib.Core.Path.{_≡_, sym, ap, subst, _∙_}
+use mathlib.Core.List.{List}
 use Prim.Native.Nat.{ℕ, _+_, _-_, _≤_, _<_}
 use native.Mathlib.Omega.{arith}
 use lib.ListN.{length, take, drop, getD}
-use Rattle.model.specs.Word.{Word, Positive, positive, negative, inverse}
+use Rattle.model.specs.Word.{Positive, positive, inverse}
 use Rattle.model.specs.Presentation.{Presentation}
 use Rattle.model.specs.Reversing.{next, blocked}
 use Rattle.engine.specs.Gap.{letters, wordAt, AtSite}

@@ -1,11 +1,10 @@
 -- A word in the workspace with a gap: the bytes before `left`, then those from `right` on.
-use mathlib.Core.List.{List, [], _∷_, _++_, map}
+use mathlib.Core.List.{List, _++_, map}
 use mathlib.Core.Path.{_≡_}
-use Prim.Native.Nat.{ℕ, _+_, _-_, _≤_, _<_}
+use Prim.Native.Nat.{ℕ, _-_, _≤_, _<_}
 use lib.ListN.{length, take, drop, getD}
-use Rattle.model.specs.Word.{Letter, Word, letter}
-use Rattle.model.specs.Reversing.{Site, nowhere, at, site}
-use Rattle.engine.specs.declared.gap.Gap.{Gap}
+use Rattle.model.specs.Word.{Word, letter}
+use Rattle.model.specs.Reversing.{nowhere, site}
 use Rattle.engine.specs.declared.gap.Sought.{Sought}
 use Rattle.engine.specs.declared.gap.Sought.the-variants.{Found, Nowhere}
 

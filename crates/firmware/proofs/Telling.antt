@@ -1,6 +1,5 @@
 -- A refusal is told in the same numbers, whatever the answer would have been.
-use mathlib.Core.Path.{_≡_, refl, sym, ap, _∙_}
-use Rattle.model.specs.Outcome.{refused}
+use mathlib.Core.Path.{_≡_, sym, ap, _∙_}
 use Rattle.model.specs.Stated.{refusal}
 use Rattle.model.specs.declared.answers.Refusal.{Refusal}
 use Rattle.services.proofs.Early.{told as as-refused}

@@ -1,17 +1,17 @@
 -- Bits appended after bits, one field after the other. Then what an area holds when all bits of an image are written.
-use mathlib.Core.Path.{_≡_, refl, sym, ap, subst, _∙_}
+use mathlib.Core.Path.{_≡_, refl, sym, ap, _∙_}
 use mathlib.Core.List.{List, [], _∷_, _++_, append-assoc, append-nil, map}
-use mathlib.Core.Bool.{Bool, true, false, cond, _&&_}
+use mathlib.Core.Bool.{Bool, true, false, cond}
 use Prim.Native.Nat.{ℕ, zero, suc, _+_, _-_, _*_, _/_, _%_, _^_, _≤_, _<_}
 use native.Mathlib.Omega.{arith}
 use native.Mathlib.Numerals.{add-one}
-use native.Mathlib.Nat.{suc-mul, mul-le-mul-right}
-use borrow.Author.Tests.{lt-ltb, le-ltb, leb-true, ltb-true}
+use native.Mathlib.Nat.{suc-mul}
+use borrow.Author.Tests.{leb-true, ltb-true}
 use lib.Dec.{leb, ltb}
-use lib.ListN.{length, take, drop, set, getD, replicate, length-append, length-take, length-drop, length-map, List·getD-map, take-append-drop, length-set, length-replicate}
-use lib.Seq.{take-at, drop-at, drop-drop, length-take-le, take-append-add, drop-append-add, take-suc, take-all, drop-append-le, set-split, drop-set-lt}
+use lib.ListN.{length, take, drop, set, getD, replicate, length-append, length-map, take-append-drop, length-replicate}
+use lib.Seq.{take-at, drop-at, drop-drop, length-take-le, take-append-add, drop-append-add, take-suc, take-all, drop-append-le}
 use lib.Pow.{pow-mono, shl-lt, shl-exact}
-use Rattle.model.specs.Word.{Letter, forward, back, letter}
+use Rattle.model.specs.Word.{forward, back, letter}
 use Rattle.model.specs.Presentation.{Presentation, Complement}
 use Rattle.model.specs.Enumeration.{concatMap}
 use Rattle.model.specs.Bits.{bitsOf, digits, bytesFor, pack, letterWidth}

@@ -1,20 +1,20 @@
 -- A reader and a writer of the same thing: what is written is read back, and what was read is what stood there. A reader that is taken several
 -- times, or in rows, is one again.
 use mathlib.Core.Path.{_≡_, refl, sym, ap, subst, _∙_}
-use mathlib.Core.List.{List, [], _∷_, _++_, append-assoc, append-nil}
-use mathlib.Core.Bool.{Bool, true, false, cond}
-use Prim.Native.Nat.{ℕ, zero, suc, _+_, _-_, _*_, _^_, _≤_, _<_}
+use mathlib.Core.List.{List, [], _∷_, _++_, append-assoc}
+use mathlib.Core.Bool.{Bool, true, false}
+use Prim.Native.Nat.{ℕ, zero, suc, _^_, _≤_, _<_}
 use native.Mathlib.Omega.{arith}
-use borrow.Author.Tests.{lt-ltb, le-ltb, ltb-false}
-use lib.Dec.{ltb, leb, eqb}
+use borrow.Author.Tests.{le-ltb, ltb-false}
+use lib.Dec.{ltb}
 use lib.ListN.{length, take, drop, length-append, take-append-drop}
 use lib.Seq.{take-at, drop-at, length-take-le}
 use Rattle.model.specs.Enumeration.{concatMap}
-use Rattle.model.specs.Outcome.{Outcome, answered, refused, _>>=_, unless}
+use Rattle.model.specs.Outcome.{Outcome, answered, _>>=_, unless}
 use Rattle.model.specs.Bits.{Read, field, digits, number}
 use Rattle.model.specs.Images.{several, rowsOf}
-use Rattle.bits.proofs.Digits.{AreBits, length-digits, digits-are-bits, number-bound, number-of-digits, digits-of-number}
-use Rattle.bits.proofs.Fields.{bits-take, bits-drop}
+use Rattle.bits.proofs.Digits.{AreBits, length-digits, number-bound, number-of-digits, digits-of-number}
+use Rattle.bits.proofs.Fields.{bits-take}
 use Rattle.images.specs.Range.{All, Rows}
 use Rattle.images.proofs.Several.{answer-of, same-answer}
 

@@ -1,13 +1,13 @@
 -- A chain's next entry, and the entries of an accepted chain one by one. Each stands where its number says.
-use mathlib.Core.Path.{_≡_, refl, sym, ap, subst, _∙_}
-use mathlib.Core.List.{List, [], _∷_, _++_}
-use Prim.Native.Nat.{ℕ, zero, suc, _+_, _-_, _*_, _^_, _≤_, _<_}
+use mathlib.Core.Path.{_≡_, sym, ap, subst, _∙_}
+use mathlib.Core.List.{List, []}
+use Prim.Native.Nat.{ℕ, _+_, _*_, _≤_, _<_}
 use native.Mathlib.Omega.{arith}
 use native.Mathlib.Nat.{mul-le-mul-left}
 use lib.ListN.{length, getD}
 use Rattle.model.specs.Equivalence.{Entry}
 use Rattle.model.specs.Outcome.{Outcome, answered, refused, _>>=_}
-use Rattle.model.specs.Bits.{Read, field, letterWidth}
+use Rattle.model.specs.Bits.{Read, field}
 use Rattle.model.specs.Images.{letterField, entryField, readChain}
 use Rattle.images.specs.declared.chains.ChainEntry.{ChainEntry}
 use Rattle.images.specs.Fields.{FieldAt, LetterAt, from, Before}

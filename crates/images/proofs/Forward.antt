@@ -1,12 +1,12 @@
 -- A program without back letters is read as its numbers. One with a back letter is refused with 7.
-use mathlib.Core.Path.{_≡_, refl, sym, ap, subst, _∙_}
-use mathlib.Core.List.{List, [], _∷_, _++_, map}
-use mathlib.Core.Bool.{Bool, true, false, not}
-use Prim.Native.Nat.{ℕ, zero, suc, _+_, _≤_, _<_}
+use mathlib.Core.Path.{_≡_, refl, sym, ap, _∙_}
+use mathlib.Core.List.{List, [], _∷_}
+use mathlib.Core.Bool.{true, false, not}
+use Prim.Native.Nat.{ℕ}
 use native.Mathlib.Omega.{arith}
 use lib.ListN.{length, length-map}
 use Rattle.model.specs.declared.answers.Refusal.{Refusal}
-use Rattle.model.specs.Word.{Letter, forward, back, Word, Positive, positive, forwards}
+use Rattle.model.specs.Word.{forward, back, Word, Positive, positive, forwards}
 use Rattle.model.specs.Outcome.{Outcome, answered, refused, _>>=_, unless}
 use Rattle.model.specs.Images.{readProgram}
 use Rattle.model.specs.Services.{isForward, readForward}

@@ -1,18 +1,18 @@
 -- The codecs of the fields of images: letters, signed letters, words, pairs and entries. The round trips are made of these.
 use mathlib.Core.Path.{_≡_, refl, sym, ap, subst, _∙_}
-use mathlib.Core.List.{List, [], _∷_, _++_, append-assoc, append-nil}
-use mathlib.Core.Bool.{Bool, true, false, cond}
-use Prim.Native.Nat.{ℕ, zero, suc, _+_, _-_, _*_, _^_, _≤_, _<_}
+use mathlib.Core.List.{List, _∷_, _++_, append-assoc}
+use mathlib.Core.Bool.{cond}
+use Prim.Native.Nat.{ℕ, zero, suc, _+_, _-_, _^_, _≤_, _<_}
 use native.Mathlib.Omega.{arith}
 use borrow.Author.Tests.{lt-leb, leb-false}
-use lib.Dec.{ltb, leb, eqb}
+use lib.Dec.{leb, eqb}
 use lib.ListN.{length}
 use Rattle.model.specs.Word.{Letter, forward, back, Positive}
 use Rattle.model.specs.Presentation.{Complement, undefined, complement}
 use Rattle.model.specs.Equivalence.{Entry}
 use Rattle.model.specs.Enumeration.{concatMap}
-use Rattle.model.specs.Outcome.{Outcome, answered, refused, _>>=_, unless}
-use Rattle.model.specs.Bits.{Read, field, digits, number, letterWidth}
+use Rattle.model.specs.Outcome.{Outcome, answered, _>>=_, unless}
+use Rattle.model.specs.Bits.{Read, field, digits, letterWidth}
 use Rattle.model.specs.Images.{several, letterField, letterBits, wordField, wordBits, pairField, pairBits, definedField, signed, signedField, signedBits, entryField, entryBits}
 use Rattle.bits.proofs.Digits.{AreBits}
 use Rattle.bits.proofs.Width.{letter-fits}

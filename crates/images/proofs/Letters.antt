@@ -1,23 +1,23 @@
 -- The letters of an accepted program, one by one. What the forward test and the unpacking of a program make of them.
 use mathlib.Core.Path.{_≡_, refl, sym, ap, subst, _∙_}
-use mathlib.Core.List.{List, [], _∷_, _++_, append-assoc, map}
-use mathlib.Core.Bool.{Bool, true, false}
-use Prim.Native.Nat.{ℕ, zero, suc, _+_, _-_, _*_, _^_, _≤_, _<_}
+use mathlib.Core.List.{List, [], _∷_, _++_, append-assoc}
+use mathlib.Core.Bool.{true, false}
+use Prim.Native.Nat.{ℕ, suc, _+_, _*_, _≤_, _<_}
 use native.Mathlib.Omega.{arith}
 use native.Mathlib.Numerals.{add-one}
 use native.Mathlib.Nat.{mul-le-mul-left}
 use lib.ListN.{length, take, drop, set, getD, length-map, List·getD-map}
-use lib.Seq.{drop-cons, drop-length, paste, paste-zero, paste-suc, take-all}
+use lib.Seq.{drop-cons, drop-length, paste, paste-suc, take-all}
 use Rattle.model.specs.Word.{Letter, forward, back, Word, byte}
-use Rattle.model.specs.Outcome.{Outcome, answered, refused}
-use Rattle.model.specs.Bits.{Read, letterWidth}
+use Rattle.model.specs.Outcome.{answered, refused}
+use Rattle.model.specs.Bits.{letterWidth}
 use Rattle.model.specs.Images.{signedField, readProgram}
 use Rattle.model.specs.Plain.{plainProgram}
 use Rattle.model.specs.Services.{isForward}
 use Rattle.bits.proofs.Width.{width-small}
 use Rattle.images.specs.Fields.{from, Before}
-use Rattle.images.specs.Range.{All, LetterInRange, ProgramInRange}
-use Rattle.images.specs.Programs.{SignedAt, ProgramOf, Accepted, HasLetter, written}
+use Rattle.images.specs.Range.{LetterInRange}
+use Rattle.images.specs.Programs.{SignedAt, Accepted, HasLetter, written}
 use Rattle.images.proofs.Several.{same-answer, all-at}
 use Rattle.images.proofs.RoundTrip.{program-in-range}
 use Rattle.images.proofs.Placed.{letter-placed, letter-inside}

@@ -1,16 +1,14 @@
 -- A plain program is accepted where every byte names a letter, and refused at the first that does not. The count is tested before the letters.
-use mathlib.Core.Path.{_≡_, refl, sym, ap, subst, _∙_}
+use mathlib.Core.Path.{_≡_, refl, ap, _∙_}
 use mathlib.Core.List.{List, [], _∷_, map}
-use mathlib.Core.Bool.{Bool, true, false, not}
-use Prim.Native.Nat.{ℕ, zero, suc, _+_, _≤_, _<_}
+use mathlib.Core.Bool.{true, false, not}
+use Prim.Native.Nat.{ℕ, zero, suc, _≤_, _<_}
 use native.Mathlib.Omega.{arith}
 use borrow.Author.Tests.{lt-ltb, le-ltb}
-use lib.Dec.{ltb}
 use lib.ListN.{length, getD}
 use Rattle.model.specs.Word.{Letter, Word, letter}
 use Rattle.model.specs.Outcome.{Outcome, answered, refused, _>>=_, unless}
 use Rattle.model.specs.Plain.{namesLetter, plainLettersSigned, readPlainProgram}
-use Rattle.images.specs.Written.{Named}
 use Rattle.images.specs.Bytewise.{PlainProgram}
 
 unfoldable rest : ℕ → List ℕ → Letter → Outcome Word

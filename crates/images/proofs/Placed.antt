@@ -1,11 +1,11 @@
 -- Where the letters of a program and the entries of a chain stand in an image that was accepted. Each has the same width, so its number gives
 -- its place.
-use mathlib.Core.Path.{_≡_, refl, sym, ap, subst, _∙_}
-use mathlib.Core.List.{List, [], _∷_, _++_, append-assoc}
+use mathlib.Core.Path.{_≡_, sym, ap, _∙_}
+use mathlib.Core.List.{List, [], _++_}
 use mathlib.Core.Bool.{Bool, true, false, cond}
-use Prim.Native.Nat.{ℕ, zero, suc, _+_, _-_, _*_, _^_, _≤_, _<_}
+use Prim.Native.Nat.{ℕ, suc, _+_, _-_, _*_, _≤_, _<_}
 use native.Mathlib.Omega.{arith}
-use lib.ListN.{length, drop, getD, length-append, length-drop}
+use lib.ListN.{length, drop, getD, length-append}
 use lib.Seq.{drop-at, drop-drop}
 use Rattle.model.specs.Word.{Letter, forward, back, Word}
 use Rattle.model.specs.Equivalence.{Entry}

@@ -1,16 +1,16 @@
 -- Every table and program in range is read back from its plain form. A plain form that is accepted is that of what was read.
 use mathlib.Core.Path.{_≡_, refl, sym, ap, subst, _∙_}
-use mathlib.Core.List.{List, [], _∷_, _++_, append-assoc, append-nil, map}
+use mathlib.Core.List.{List, [], _∷_, _++_, append-assoc, append-nil}
 use mathlib.Core.Bool.{Bool, true, false, cond, not, _&&_, _||_}
-use Prim.Native.Nat.{ℕ, zero, suc, _+_, _-_, _*_, _%_, _^_, _≤_, _<_}
+use Prim.Native.Nat.{ℕ, suc, _+_, _-_, _%_, _≤_, _<_}
 use native.Mathlib.Omega.{arith}
-use borrow.Author.Tests.{lt-ltb, le-ltb, le-leb, ltb-true, ltb-false, eq-eqb, ne-eqb, not-false}
+use borrow.Author.Tests.{lt-ltb, le-ltb, le-leb, ltb-true, ltb-false, ne-eqb, not-false}
 use lib.Dec.{ltb, leb, eqb}
-use lib.ListN.{length, getD, length-map}
+use lib.ListN.{length, length-map}
 use Rattle.model.specs.Word.{Letter, forward, back, Word, Positive, byte, letter}
 use Rattle.model.specs.Presentation.{Presentation, Complement, undefined, complement}
 use Rattle.model.specs.Enumeration.{concatMap}
-use Rattle.model.specs.Outcome.{Outcome, answered, refused, _>>=_, unless}
+use Rattle.model.specs.Outcome.{Outcome, answered, _>>=_, unless}
 use Rattle.model.specs.Bits.{Read}
 use Rattle.model.specs.Images.{several, rowsOf}
 use Rattle.model.specs.Plain.{plainWord, plainPair, plainTable, plainProgram, nextByte, plainLetter, plainLetters, plainDefined, plainPairAt, readPlainTable, namesLetter, plainLettersSigned, readPlainProgram}
@@ -18,7 +18,7 @@ use Rattle.bits.proofs.Packing.{AreBytes}
 use Rattle.images.specs.Range.{All, Rows, GeneratorInRange, LetterInRange, WordInRange, PairInRange, ProgramInRange, TableInRange}
 use Rattle.images.proofs.Appending.{named-positive, named-small}
 use Rattle.images.proofs.Several.{answer-of, same-answer}
-use Rattle.images.proofs.Codec.{Codec, then, several-codec, rows-codec, input-rest, not-refused}
+use Rattle.images.proofs.Codec.{Codec, then, several-codec, rows-codec, not-refused}
 
 -- a plain form may be made of any bytes
 abbrev Any : List ℕ → Type 0

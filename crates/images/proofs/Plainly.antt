@@ -1,16 +1,16 @@
 -- Plain forms written from cells, part after part. The bytes of a part are written after those of the parts before it.
 use mathlib.Core.Path.{_≡_, refl, sym, ap, subst, _∙_}
 use mathlib.Core.List.{List, [], _∷_, _++_, append-assoc, append-nil}
-use Prim.Native.Nat.{ℕ, zero, suc, _+_, _-_, _*_, _≤_, _<_}
+use Prim.Native.Nat.{ℕ, suc, _+_, _-_, _≤_, _<_}
 use native.Mathlib.Omega.{arith}
 use native.Mathlib.Numerals.{add-one}
 use lib.ListN.{length, take, drop, set, getD, length-append, length-set, take-append-drop}
-use lib.Seq.{paste, paste-zero, paste-suc, take-all, take-suc, set-split, set-at, drop-cons, length-take-le}
+use lib.Seq.{paste, paste-suc, take-all, take-suc, set-split, set-at, drop-cons, length-take-le}
 use Rattle.model.specs.Word.{Positive}
 use Rattle.model.specs.Presentation.{Complement, undefined, complement}
 use Rattle.model.specs.Enumeration.{concatMap}
 use Rattle.model.specs.Plain.{plainWord, plainPair}
-use Rattle.images.specs.Cells.{HoldsWord, Letters, cellAt}
+use Rattle.images.specs.Cells.{HoldsWord, cellAt}
 use Rattle.images.specs.Tables.{HoldsPair, HoldsRow, Listed}
 use Rattle.images.specs.Programs.{written}
 use Rattle.images.specs.Bytewise.{Wrote}

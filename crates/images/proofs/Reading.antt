@@ -1,19 +1,19 @@
 -- The next field, the next letter and the end of an image, from what was read of its bits. Each gives the model's answer or refusal.
 use mathlib.Core.Path.{_≡_, refl, sym, ap, _∙_}
-use mathlib.Core.List.{List, [], _∷_, _++_}
-use mathlib.Core.Bool.{Bool, true, false, _&&_, cond}
-use Prim.Native.Nat.{ℕ, zero, suc, _+_, _-_, _*_, _^_, _≤_, _<_}
+use mathlib.Core.List.{List, [], _∷_}
+use mathlib.Core.Bool.{false, _&&_}
+use Prim.Native.Nat.{ℕ, zero, suc, _+_, _-_, _*_, _≤_, _<_}
 use native.Mathlib.Omega.{arith}
-use borrow.Author.Tests.{lt-ltb, le-ltb, le-leb, lt-leb, eq-eqb, ne-eqb}
-use lib.Dec.{ltb, leb, eqb}
-use lib.ListN.{length, take, drop, length-drop, length-take}
-use lib.Seq.{drop-drop, take-all, length-take-le}
+use borrow.Author.Tests.{lt-ltb, le-ltb, le-leb, lt-leb, ne-eqb}
+use lib.Dec.{leb, eqb}
+use lib.ListN.{length, take, drop, length-drop}
+use lib.Seq.{drop-drop, take-all}
 use lib.Pow.{pow-pos}
 use Rattle.model.specs.Outcome.{Outcome, answered, refused, unless, _>>=_}
 use Rattle.model.specs.Bits.{Read, bitsOf, number, field, filling, allZero, letterWidth}
 use Rattle.model.specs.Images.{letterField}
 use Rattle.bits.specs.Fields.{Inside}
-use Rattle.bits.proofs.Digits.{AreBits, number-bound, number-after}
+use Rattle.bits.proofs.Digits.{AreBits, number-after}
 use Rattle.bits.proofs.Bytes.{length-bits, bits-are-bits}
 use Rattle.bits.proofs.Fields.{field-fits, bits-drop}
 use Rattle.images.specs.Fields.{FieldAt, LetterAt, from}

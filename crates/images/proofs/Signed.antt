@@ -1,11 +1,10 @@
 -- A program's next letter: its sign, then its number. The byte that the code makes of them is the letter's.
-use mathlib.Core.Path.{_≡_, refl, sym, ap, _∙_}
-use mathlib.Core.List.{List, [], _∷_, _++_}
-use mathlib.Core.Bool.{Bool, true, false, cond}
-use Prim.Native.Nat.{ℕ, zero, suc, _+_, _-_, _*_, _^_, _≤_, _<_}
-use native.Mathlib.Omega.{arith}
+use mathlib.Core.Path.{_≡_, refl, ap, _∙_}
+use mathlib.Core.List.{List, []}
+use mathlib.Core.Bool.{cond}
+use Prim.Native.Nat.{ℕ, _+_}
 use borrow.Author.Tests.{eq-eqb, ne-eqb}
-use Rattle.model.specs.Word.{Letter, forward, back, byte}
+use Rattle.model.specs.Word.{Letter, forward, back}
 use Rattle.model.specs.Outcome.{Outcome, answered, refused, _>>=_}
 use Rattle.model.specs.Bits.{Read, field}
 use Rattle.model.specs.Images.{letterField, signedField, signed}

@@ -1,16 +1,14 @@
 -- Validating an image of a count and as many values: the values read so far, and what is left to read. Programs and chains are such images.
 use mathlib.Core.Path.{_≡_, refl, sym, ap, _∙_}
 use mathlib.Core.List.{List, [], _∷_, _++_}
-use mathlib.Core.Bool.{Bool, true, false, cond}
-use Prim.Native.Nat.{ℕ, zero, suc, _+_, _-_, _*_, _^_, _≤_, _<_}
+use mathlib.Core.Bool.{true, false, cond}
+use Prim.Native.Nat.{ℕ, suc, _+_, _-_, _*_, _≤_, _<_}
 use native.Mathlib.Omega.{arith}
 use lib.ListN.{length, length-append}
 use Rattle.model.specs.Outcome.{Outcome, answered, refused, _>>=_}
 use Rattle.model.specs.Bits.{Read, bitsOf, field, finish, filling}
 use Rattle.model.specs.Images.{several, signedField, readProgram, entryField, readChain}
 use Rattle.images.specs.Fields.{FieldAt, from}
-use Rattle.images.specs.Programs.{SignedAt, ProgramOf}
-use Rattle.images.specs.Chains.{EntryAt, ChainOf}
 use Rattle.images.proofs.Several.{after, after-none, several-step, several-refused, several-done}
 
 -- a value has at most 20 bits

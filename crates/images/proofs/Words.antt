@@ -1,10 +1,10 @@
 -- Reading a word of a table into its cell: the letters read so far, what is left to read, and what the cell holds. The laws are for any
 -- reader of a letter; then come those of a table image and of a plain form.
 use mathlib.Core.Path.{_≡_, refl, sym, ap, subst, _∙_}
-use mathlib.Core.Logic.{_⊎_, inl, inr, ⊎-elim}
+use mathlib.Core.Logic.{⊎-elim}
 use mathlib.Core.List.{List, [], _∷_, _++_}
-use mathlib.Core.Bool.{Bool, true, false, _||_}
-use Prim.Native.Nat.{ℕ, zero, suc, _+_, _-_, _*_, _^_, _≤_, _<_}
+use mathlib.Core.Bool.{_||_}
+use Prim.Native.Nat.{ℕ, suc, _+_, _-_, _*_, _≤_, _<_}
 use native.Mathlib.Omega.{arith}
 use native.Mathlib.Numerals.{add-one}
 use borrow.Author.Tests.{lt-ltb, le-ltb}
@@ -18,8 +18,7 @@ use Rattle.model.specs.Images.{letterField, wordField, several}
 use Rattle.model.specs.Plain.{nextByte, plainLetter, plainLetters}
 use Rattle.bits.proofs.Packing.{below-or}
 use Rattle.images.specs.Fields.{FieldAt, from}
-use Rattle.images.specs.Range.{All, GeneratorInRange, WordInRange}
-use Rattle.images.specs.Cells.{HoldsWord}
+use Rattle.images.specs.Range.{All, GeneratorInRange}
 use Rattle.images.specs.Tables.{KeptOutside, WordFrom, bytesFrom}
 use Rattle.images.proofs.Several.{after, after-none, several-step, several-refused, several-done}
 

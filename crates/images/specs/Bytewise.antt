@@ -1,10 +1,10 @@
 -- What reading a plain program and writing plain forms gives.
-use mathlib.Core.List.{List, [], _∷_, map}
+use mathlib.Core.List.{List, map}
 use mathlib.Core.Path.{_≡_}
-use Prim.Native.Nat.{ℕ, _+_, _≤_, _<_}
+use Prim.Native.Nat.{ℕ, _+_, _≤_}
 use lib.ListN.{length}
 use Rattle.model.specs.Word.{letter, Positive}
-use Rattle.model.specs.Outcome.{Outcome, answered, refused}
+use Rattle.model.specs.Outcome.{answered}
 use Rattle.model.specs.Plain.{readPlainProgram}
 use Rattle.model.specs.Stated.{refusal}
 use Rattle.model.specs.Presentation.{Complement}

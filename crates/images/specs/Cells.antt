@@ -1,8 +1,7 @@
 -- The cells of a table: 4,096 bytes, sixteen for each two letters a, b. A cell's first byte is the length of C(a,b), or 255 where the pair is
 -- undefined; the letters of C(a,b) follow it.
-use mathlib.Core.List.{List, [], _∷_, _++_}
+use mathlib.Core.List.{List}
 use mathlib.Core.Path.{_≡_}
-use mathlib.Core.Logic.{_⊎_}
 use Prim.Native.Nat.{ℕ, _+_, _-_, _*_, _≤_, _<_}
 use lib.ListN.{length, getD}
 use Rattle.model.specs.Word.{Positive}

@@ -1,11 +1,11 @@
 -- What reading a chain image gives.
-use mathlib.Core.List.{List, [], _∷_, _++_}
+use mathlib.Core.List.{List, []}
 use mathlib.Core.Path.{_≡_}
 use Prim.Native.Nat.{ℕ, _+_, _*_, _≤_, _<_}
-use lib.ListN.{length, getD}
+use lib.ListN.{length}
 use Rattle.model.specs.Equivalence.{Entry}
-use Rattle.model.specs.Outcome.{Outcome, answered, refused}
-use Rattle.model.specs.Bits.{Read, letterWidth}
+use Rattle.model.specs.Outcome.{answered, refused}
+use Rattle.model.specs.Bits.{letterWidth}
 use Rattle.model.specs.Images.{entryField, readChain}
 use Rattle.model.specs.Stated.{refusal}
 use Rattle.images.specs.Fields.{from}

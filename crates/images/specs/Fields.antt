@@ -1,10 +1,10 @@
 -- What the next field of an image is, as the model's readers have it.
-use mathlib.Core.List.{List, [], _∷_, _++_}
+use mathlib.Core.List.{List, []}
 use mathlib.Core.Path.{_≡_}
 use Prim.Native.Nat.{ℕ, _+_, _*_, _^_, _≤_, _<_}
-use lib.ListN.{length, take, drop}
-use Rattle.model.specs.Outcome.{Outcome, answered, refused}
-use Rattle.model.specs.Bits.{Read, bitsOf, field, letterWidth}
+use lib.ListN.{length, drop}
+use Rattle.model.specs.Outcome.{answered, refused}
+use Rattle.model.specs.Bits.{bitsOf, field, letterWidth}
 use Rattle.model.specs.Images.{letterField}
 use Rattle.images.specs.declared.fields.Field.{Field}
 use Rattle.images.specs.declared.fields.Field.the-variants.{Value, Ends}

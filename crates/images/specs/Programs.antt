@@ -1,11 +1,11 @@
 -- What reading a program image gives.
-use mathlib.Core.List.{List, [], _∷_, _++_}
+use mathlib.Core.List.{List, [], _++_}
 use mathlib.Core.Path.{_≡_}
 use Prim.Native.Nat.{ℕ, _+_, _*_, _≤_, _<_}
 use lib.ListN.{length, take, drop}
 use Rattle.model.specs.Word.{Letter, Word, byte, Positive, positive}
-use Rattle.model.specs.Outcome.{Outcome, answered, refused}
-use Rattle.model.specs.Bits.{Read, letterWidth}
+use Rattle.model.specs.Outcome.{answered, refused}
+use Rattle.model.specs.Bits.{letterWidth}
 use Rattle.model.specs.Images.{signedField, readProgram}
 use Rattle.model.specs.Services.{readForward}
 use Rattle.model.specs.Stated.{refusal}

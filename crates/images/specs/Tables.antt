@@ -1,11 +1,11 @@
 -- What reading the parts of a table, packed or plain, gives: the words, pairs and rows that the model's readers give, in their cells.
-use mathlib.Core.List.{List, [], _∷_, _++_}
+use mathlib.Core.List.{List, []}
 use mathlib.Core.Path.{_≡_}
 use mathlib.Core.Logic.{_⊎_}
 use Prim.Native.Nat.{ℕ, _+_, _-_, _*_, _≤_, _<_}
 use lib.ListN.{length, getD, drop}
 use Rattle.model.specs.Word.{Positive}
-use Rattle.model.specs.Presentation.{Presentation, Complement, undefined, complement, swapped}
+use Rattle.model.specs.Presentation.{Presentation, Complement, undefined, swapped}
 use Rattle.model.specs.Outcome.{Outcome, answered, refused}
 use Rattle.model.specs.Bits.{Read}
 use Rattle.model.specs.Images.{wordField, pairField, several, readTable}

@@ -1,8 +1,8 @@
 // Fields of an image: the next number, the next letter, and the end.
 
 ghost use mathlib.Core.Path.{_≡_};
-ghost use Prim.Native.Nat.{ℕ, _+_, _*_, _^_, _≤_};
-ghost use lib.ListN.{length, take, drop};
+ghost use Prim.Native.Nat.{_+_, _*_, _≤_};
+ghost use lib.ListN.{drop};
 ghost use Rattle.model.specs.Bits.{bitsOf, letterWidth, filling};
 ghost use Rattle.images.specs.Fields.{FieldDone, LetterDone, Position};
 

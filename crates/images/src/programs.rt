@@ -5,7 +5,7 @@ use crate::fields::Field;
 use crate::fields::LetterField;
 use model::answers::Refusal;
 ghost use mathlib.Core.Path.{_≡_};
-ghost use Prim.Native.Nat.{ℕ, _+_, _*_, _≤_, _<_};
+ghost use Prim.Native.Nat.{_+_, _*_, _≤_, _<_};
 ghost use lib.ListN.{length, getD};
 ghost use Rattle.images.specs.Fields.{Before};
 ghost use Rattle.model.specs.Word.{Word, byte, forward};

@@ -1,6 +1,6 @@
 -- The lent areas after a call. Document 01, "Refusals, in checking order" (the workspace), "Services" (the answer area) and "Bindings" 1.
-use mathlib.Core.List.{List, [], _∷_, _++_}
-use mathlib.Core.Bool.{Bool, true, false, cond}
+use mathlib.Core.List.{List, _++_}
+use mathlib.Core.Bool.{cond}
 use mathlib.Core.Path.{_≡_}
 use Prim.Native.Nat.{ℕ, _≤_}
 use lib.Dec.{leb}

@@ -1,8 +1,8 @@
 -- Document 01, "Images": "Fields are bit-packed, most significant bit first, and the last byte is filled with zero bits." A bit is 0 or 1.
 use mathlib.Core.List.{List, [], _∷_, _++_}
-use mathlib.Core.Bool.{Bool, true, false, _&&_, cond}
+use mathlib.Core.Bool.{Bool, true, _&&_, cond}
 use Prim.Native.Nat.{ℕ, zero, suc, _+_, _-_, _*_, _/_, _%_, _^_}
-use lib.Dec.{leb, ltb, eqb}
+use lib.Dec.{ltb, eqb}
 use lib.ListN.{length, take, drop, replicate}
 use Rattle.model.specs.Outcome.{Outcome, answered, refused, unless}
 

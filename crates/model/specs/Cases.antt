@@ -1,11 +1,11 @@
 -- Further cases, computed as the sheet's are: the order of the endings and of the checks, each refusal of each kind of image, and the lent
 -- areas.
-use mathlib.Core.List.{List, [], _∷_, _++_}
+use mathlib.Core.List.{List, [], _∷_}
 use mathlib.Core.Path.{refl}
 use Prim.Native.Nat.{ℕ}
 use lib.ListN.{replicate}
-use Rattle.model.specs.Word.{Word, forward, back}
-use Rattle.model.specs.Presentation.{Presentation, undefined, complement, complete}
+use Rattle.model.specs.Word.{forward, back}
+use Rattle.model.specs.Presentation.{undefined, complement, complete}
 use Rattle.model.specs.Equivalence.{Entry, applied}
 use Rattle.model.specs.Reversing.{next, run, reversing}
 use Rattle.model.specs.Checks.{residue, under, side, against, cubeAt, cleared}
@@ -16,7 +16,7 @@ use Rattle.model.specs.Plain.{plainTable, readPlainTable, readPlainProgr
 use Rattle.model.specs.Services.{Fraction, reverse, clear, readForward, compare, comparison, chain, check, followed, packTable, unpackTable, packProgram, unpackProgram, same-after, different-after, joins, breaks, ends-elsewhere}
 use Rattle.model.specs.Areas.{fractionBytes, outputAfter, workspaceAfter}
 use Rattle.model.specs.Case.{Case, _gives_, All}
-use Rattle.model.specs.Samples.{braid3, braid1, open2, three, broken3, unequal2, endless3, image, log, pattern, braidBytes, first, firstBytes}
+use Rattle.model.specs.Samples.{braid1, open2, three, broken3, unequal2, endless3, image, log, pattern, braidBytes, firstBytes}
 
 -- the first program's answer
 abbrev firstAnswer : Fraction

@@ -1,6 +1,6 @@
 -- Document 01, "Images": table, program and chain images, written and read. Reading refuses by document 01's numbers.
 use mathlib.Core.List.{List, [], _∷_, _++_}
-use mathlib.Core.Bool.{Bool, true, false, cond}
+use mathlib.Core.Bool.{cond}
 use Prim.Native.Nat.{ℕ, zero, suc, _+_, _-_}
 use lib.Dec.{leb, eqb}
 use lib.ListN.{length}
@@ -8,7 +8,7 @@ use Rattle.model.specs.Word.{Letter, forward, back, Word, Positive}
 use Rattle.model.specs.Presentation.{Presentation, Complement, undefined, complement}
 use Rattle.model.specs.Equivalence.{Entry}
 use Rattle.model.specs.Enumeration.{concatMap}
-use Rattle.model.specs.Outcome.{Outcome, answered, refused, _>>=_, unless}
+use Rattle.model.specs.Outcome.{Outcome, answered, _>>=_, unless}
 use Rattle.model.specs.Bits.{Read, field, digits, bitsOf, pack, letterWidth, finish}
 
 -- WRITING

@@ -1,5 +1,5 @@
 -- What a service gives: an answer, or a refusal by document 01's number with its place numbers ("Refusals, in checking order").
-use mathlib.Core.List.{List, [], _∷_}
+use mathlib.Core.List.{List, []}
 use mathlib.Core.Bool.{Bool, true, false}
 use Prim.Native.Nat.{ℕ}
 

@@ -1,8 +1,8 @@
 -- The plain forms. Document 01, "Images": "Unpacked table: a byte n; for each pair 255 if open, else a length byte and moves, twice." An
 -- unpacked program is a byte a letter.
 use mathlib.Core.List.{List, [], _∷_, _++_, map}
-use mathlib.Core.Bool.{Bool, true, false, not, _&&_, _||_, cond}
-use Prim.Native.Nat.{ℕ, zero, suc, _%_}
+use mathlib.Core.Bool.{Bool, not, _&&_, _||_, cond}
+use Prim.Native.Nat.{ℕ, _%_}
 use lib.Dec.{leb, ltb, eqb}
 use lib.ListN.{length}
 use Rattle.model.specs.Word.{Word, Positive, byte, letter}

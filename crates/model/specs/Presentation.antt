@@ -1,7 +1,7 @@
 -- Complemented presentations. Document 01, "Moves, tables, programs": a presentation is its table, a right complement its completion,
 -- an undefined pair its open pair.
-use mathlib.Core.List.{List, [], _∷_}
-use mathlib.Core.Bool.{Bool, true, false, _&&_, cond}
+use mathlib.Core.List.{List, []}
+use mathlib.Core.Bool.{_&&_, cond}
 use Prim.Native.Nat.{ℕ, _-_}
 use lib.Dec.{ltb, leb, eqb}
 use lib.ListN.{getD}

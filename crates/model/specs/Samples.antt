@@ -1,7 +1,7 @@
 -- The tables and programs of the bench sheet and of the further cases.
 use mathlib.Core.List.{List, [], _∷_}
 use Prim.Native.Nat.{ℕ}
-use Rattle.model.specs.Word.{Letter, forward, back, Word, Positive, positive}
+use Rattle.model.specs.Word.{forward, back, Word, Positive, positive}
 use Rattle.model.specs.Presentation.{Presentation, Complement, undefined, complement}
 use Rattle.model.specs.Images.{tableImage, programImage}
 

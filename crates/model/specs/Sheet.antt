@@ -1,7 +1,7 @@
 -- The thirteen cases of the bench sheet marked P, in its order, through images as the services take them.
 use mathlib.Core.List.{List, [], _∷_}
 use mathlib.Core.Path.{refl}
-use Rattle.model.specs.Word.{Word, forward, back}
+use Rattle.model.specs.Word.{forward, back}
 use Rattle.model.specs.Presentation.{complete}
 use Rattle.model.specs.Equivalence.{applied}
 use Rattle.model.specs.Reversing.{next, run, reversing}

@@ -1,27 +1,24 @@
 -- Listing a chain after a comparison, and the outcome of chain after its reading.
-use mathlib.Core.Path.{_≡_, refl, sym, ap, ap₂, subst, _∙_}
+use mathlib.Core.Path.{_≡_, refl, sym, ap, subst, _∙_}
 use mathlib.Core.List.{List, [], _∷_, _++_}
-use mathlib.Core.Bool.{Bool, true, false, cond}
-use mathlib.Core.Logic.{⊎-elim}
-use Prim.Native.Nat.{ℕ, _+_, _-_, _*_, _≤_, _<_}
+use mathlib.Core.Bool.{Bool, true, false}
+use Prim.Native.Nat.{ℕ, _+_, _≤_, _<_}
 use native.Mathlib.Omega.{arith}
 use native.Mathlib.Decide.{decLt}
 use borrow.Author.Tests.{lt-ltb, le-ltb}
 use lib.Dec.{ltb}
-use lib.ListN.{length, replicate, length-append}
+use lib.ListN.{length, length-append}
 use Rattle.model.specs.Word.{Word, Positive, positive, negative}
 use Rattle.model.specs.Presentation.{Presentation}
 use Rattle.model.specs.Equivalence.{Entry}
-use Rattle.model.specs.Reversing.{Ending, finished, stopped, room, reversing}
+use Rattle.model.specs.Reversing.{finished, room, reversing}
 use Rattle.model.specs.Outcome.{Outcome, answered, refused, _>>=_, unless}
-use Rattle.model.specs.Checks.{cleared}
-use Rattle.model.specs.Images.{readProgram, readChain, chainImage}
+use Rattle.model.specs.Images.{readProgram}
 use Rattle.model.specs.Services.{Verdict, same-after, different-after, comparison, chainBytes, listable, chain}
 use Rattle.model.specs.Areas.{Compares, Listed, ChainArea}
-use Rattle.model.specs.Stated.{refusal, compared}
+use Rattle.model.specs.Stated.{refusal}
 use Rattle.model.specs.declared.answers.Refusal.{Refusal}
 use Rattle.model.specs.declared.answers.Refusal.the-variants.{AnswerShort}
-use Rattle.model.specs.declared.answers.Compared.{Compared}
 use Rattle.model.specs.declared.answers.Compared.the-variants.{Same as SameAnswer, Refused as RefusedAnswer}
 use Rattle.theory.proofs.Impossible.{impossible}
 use Rattle.theory.proofs.Reversal.{reversing-long}
@@ -30,7 +27,7 @@ use Rattle.theory.proofs.Leftmost.{counted-within}
 use Rattle.theory.proofs.Clearing.{clear-homogeneous}
 use Rattle.theory.proofs.Verdicts.{demand-three, settled-same, settled-different, stopped-by-budget, stopped-by-room}
 use Rattle.theory.proofs.Verdicts.{Settled as TheorySettled}
-use Rattle.images.specs.Range.{GeneratorInRange, EntryInRange, ChainInRange, ProgramInRange}
+use Rattle.images.specs.Range.{EntryInRange, ProgramInRange}
 use Rattle.images.specs.Range.{All as Every}
 use Rattle.images.specs.Programs.{ForwardOf}
 use Rattle.images.proofs.RoundTrip.{chain-reads-back, program-in-range}
@@ -43,7 +40,7 @@ use Rattle.chains.proofs.Courses.{even-of}
 use Rattle.chains.proofs.Layouts.{room-for-fewer}
 use Rattle.checks.specs.Table.{Of}
 use Rattle.services.specs.Loading.{Images, readPair}
-use Rattle.services.specs.Compare.{toldAs, judgementAs, Ended, Judged, LoadedPair, Settled, settled, by-allowance, by-memory, Meaning}
+use Rattle.services.specs.Compare.{toldAs, Ended, Judged, LoadedPair, Settled, settled, by-allowance, by-memory, Meaning}
 use Rattle.services.specs.Chain.{Area, ListedAs}
 use Rattle.services.specs.declared.compare.Judgement.{Judgement}
 use Rattle.services.specs.declared.compare.Judgement.the-variants.{Same, Different, Refused}

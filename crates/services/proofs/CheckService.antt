@@ -1,26 +1,25 @@
 -- Checking a chain: the first program as it is loaded, what following the entries comes to, and the outcome of check after its readings.
-use mathlib.Core.Path.{_≡_, refl, sym, ap, ap₂, subst, _∙_}
+use mathlib.Core.Path.{_≡_, refl, sym, ap, ap₂, _∙_}
 use mathlib.Core.List.{List, [], _∷_, _++_, append-nil}
 use mathlib.Core.Bool.{Bool, true, false, cond}
 use mathlib.Core.Option.{Option, none, some}
-use Prim.Native.Nat.{ℕ, zero, suc, _+_, _-_, _≤_, _<_}
+use Prim.Native.Nat.{ℕ, suc, _+_, _-_, _≤_, _<_}
 use native.Mathlib.Omega.{arith}
 use borrow.Author.Tests.{lt-ltb, le-ltb}
 use lib.Dec.{ltb}
-use lib.ListN.{length, take, drop, replicate, length-append, length-take, length-drop, length-map}
+use lib.ListN.{length, take, drop, replicate, length-append, length-take, length-drop}
 use lib.Seq.{drop-length}
-use Rattle.model.specs.Word.{Positive, positive, byte}
+use Rattle.model.specs.Word.{Positive, positive}
 use Rattle.model.specs.Presentation.{Presentation}
-use Rattle.model.specs.Equivalence.{Entry, equal, applied}
+use Rattle.model.specs.Equivalence.{Entry, applied}
 use Rattle.model.specs.Outcome.{Outcome, answered, refused, _>>=_}
 use Rattle.model.specs.Images.{readChain}
 use Rattle.model.specs.Plain.{plainProgram}
-use Rattle.model.specs.Services.{Passage, joins, ends-elsewhere, readForward, followedBy, followed, check}
+use Rattle.model.specs.Services.{Passage, readForward, followedBy, followed, check}
 use Rattle.model.specs.Areas.{Compares, workspaceAfter}
 use Rattle.model.specs.Stated.{refusal}
 use Rattle.model.specs.declared.answers.Refusal.{Refusal}
 use Rattle.images.specs.Programs.{written, ForwardOf}
-use Rattle.engine.proofs.Lettering.{length-positive}
 use Rattle.swaps.specs.Held.{heldAt, Placed, Carried}
 use Rattle.swaps.proofs.Applying.{held-length}
 use Rattle.services.specs.Loading.{Images, readPair}

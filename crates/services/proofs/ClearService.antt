@@ -1,11 +1,11 @@
 -- Clearing a loaded table, and the outcome of clear.
-use mathlib.Core.Path.{_≡_, refl, sym, ap, subst, _∙_}
-use mathlib.Core.List.{List, [], _∷_}
+use mathlib.Core.Path.{_≡_, refl, sym, ap, _∙_}
+use mathlib.Core.List.{List}
 use Prim.Native.Nat.{ℕ}
 use lib.ListN.{length, replicate}
 use Rattle.model.specs.Presentation.{Presentation}
 use Rattle.model.specs.Enumeration.{pairs, triples}
-use Rattle.model.specs.Outcome.{Outcome, answered, refused, _>>=_}
+use Rattle.model.specs.Outcome.{answered}
 use Rattle.model.specs.Checks.{lengthCheck, cubeCheck, cleared}
 use Rattle.model.specs.Images.{readTable}
 use Rattle.model.specs.Services.{clear}
@@ -15,8 +15,8 @@ use Rattle.model.specs.declared.answers.Pair.{Pair}
 use Rattle.model.specs.declared.answers.Stop.the-variants.{Budget, Room}
 use Rattle.model.specs.declared.answers.Refusal.{Refusal}
 use Rattle.model.specs.declared.answers.Refusal.the-variants.{UnequalLengths}
-use Rattle.model.specs.declared.answers.Cleared.the-variants.{Passed, Refused}
-use Rattle.checks.specs.Table.{Of, triplesAs, LengthsMean, TriplesMean}
+use Rattle.model.specs.declared.answers.Cleared.the-variants.{Refused}
+use Rattle.checks.specs.Table.{triplesAs, LengthsMean, TriplesMean}
 use Rattle.checks.specs.declared.table.Lengths.the-variants.{Equal, Unequal}
 use Rattle.checks.specs.declared.table.Triples.{Triples}
 use Rattle.checks.specs.declared.table.Triples.the-variants.{Hold, Fail, Halt}

@@ -10,11 +10,11 @@ use lib.ListN.{length, replicate}
 use Rattle.model.specs.Word.{Positive, positive, negative}
 use Rattle.model.specs.Presentation.{Presentation}
 use Rattle.model.specs.Reversing.{Ending, finished, open-pair, stopped, budget, room, reversing}
-use Rattle.model.specs.Outcome.{Outcome, answered, refused, _>>=_, unless}
+use Rattle.model.specs.Outcome.{Outcome, answered, unless}
 use Rattle.model.specs.Checks.{cleared}
-use Rattle.model.specs.Services.{Verdict, same-after, different-after, judged, verdictOf, comparison, compare}
+use Rattle.model.specs.Services.{Verdict, same-after, different-after, verdictOf, comparison, compare}
 use Rattle.model.specs.Areas.{Compares, workspaceAfter}
-use Rattle.model.specs.Stated.{refusal, clearedAs, compared, endingAnswer}
+use Rattle.model.specs.Stated.{refusal, compared, endingAnswer}
 use Rattle.model.specs.declared.answers.Ending.{Ending as EndingAnswer}
 use Rattle.model.specs.declared.answers.Refusal.{Refusal}
 use Rattle.model.specs.declared.answers.Refusal.the-variants.{UnequalEnds}
@@ -25,7 +25,7 @@ use Rattle.theory.proofs.Verdicts.{demand-three, settled-same, settled-differen
 use Rattle.theory.proofs.Verdicts.{Settled as TheorySettled}
 use Rattle.engine.specs.Run.{Reverses}
 use Rattle.services.specs.Loading.{Images, readPair}
-use Rattle.services.specs.Compare.{judgement, judgementAs, toldAs, Ended, EndedIf, Judged, Settled, settled, by-allowance, by-memory, Meaning}
+use Rattle.services.specs.Compare.{judgement, judgementAs, toldAs, EndedIf, Judged, Settled, settled, by-allowance, by-memory, Meaning}
 use Rattle.services.specs.declared.compare.Judgement.{Judgement}
 use Rattle.services.specs.declared.compare.Judgement.the-variants.{Same, Different, Refused}
 use Rattle.services.proofs.Outcomes.{AsFound, still-refused, goes-on}

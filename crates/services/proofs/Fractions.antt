@@ -1,11 +1,11 @@
 -- The answer area of reverse: the finished word is copied, and what follows N in it, the inverse of D, is inverted.
 use mathlib.Core.Path.{_≡_, refl, sym, ap, ap₂, _∙_}
 use mathlib.Core.List.{List, [], _∷_, _++_, map, append-assoc, reverse, reverse-reverse}
-use Prim.Native.Nat.{ℕ, _+_, _-_, _≤_}
+use Prim.Native.Nat.{ℕ, _+_, _≤_}
 use native.Mathlib.Omega.{arith}
 use lib.ListN.{length, take, drop, length-append, length-drop, take-append-drop}
 use lib.Seq.{take-add, take-at, drop-at, length-take-le}
-use Rattle.model.specs.Word.{Letter, forward, back, Word, Positive, flip, inverse, positive, negative}
+use Rattle.model.specs.Word.{forward, back, Word, Positive, flip, inverse, positive, negative}
 use Rattle.model.specs.Areas.{begins}
 use Rattle.engine.specs.Gap.{letters}
 use Rattle.engine.proofs.Letters.{letters-append, letters-forward, length-letters}

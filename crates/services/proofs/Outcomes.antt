@@ -1,9 +1,8 @@
 -- A refusal on its way through a service, whatever the service answers.
-use mathlib.Core.Path.{_≡_, refl, sym, ap, subst, _∙_}
-use mathlib.Core.List.{List, [], _∷_, _++_}
+use mathlib.Core.Path.{_≡_, sym, ap, _∙_}
+use mathlib.Core.List.{List}
 use Prim.Native.Nat.{ℕ, _≤_}
-use lib.ListN.{length, replicate}
-use Rattle.model.specs.Outcome.{Outcome, answered, refused, _>>=_, mapped}
+use Rattle.model.specs.Outcome.{Outcome, answered, _>>=_, mapped}
 use Rattle.model.specs.Areas.{outputAfter, workspaceAfter}
 use Rattle.model.specs.Stated.{refusal}
 use Rattle.model.specs.declared.answers.Refusal.{Refusal}

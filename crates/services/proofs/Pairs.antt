@@ -1,23 +1,21 @@
 -- Two forward programs loaded for a comparison: the inverse of the first at the workspace's start, the second at its end.
-use mathlib.Core.Path.{_≡_, refl, sym, ap, ap₂, subst, _∙_}
-use mathlib.Core.List.{List, [], _∷_, _++_, map}
+use mathlib.Core.Path.{_≡_, sym, ap, subst, _∙_}
+use mathlib.Core.List.{List, _++_}
 use Prim.Native.Nat.{ℕ, _+_, _-_, _≤_, _<_}
 use native.Mathlib.Omega.{arith}
 use lib.ListN.{length, take, drop, length-append, length-take, length-drop, length-map}
-use lib.Seq.{take-at, take-append-le, take-take, length-take-le}
-use Rattle.model.specs.Word.{Word, Positive, positive, negative, inverse, byte, letter}
+use lib.Seq.{take-at, take-append-le, take-take}
+use Rattle.model.specs.Word.{Word, Positive, positive, negative, inverse, byte}
 use Rattle.model.specs.Presentation.{Presentation}
 use Rattle.model.specs.Outcome.{answered}
 use Rattle.model.specs.Images.{readProgram}
 use Rattle.model.specs.Plain.{plainProgram}
-use Rattle.model.specs.Reversing.{reversing}
-use Rattle.model.specs.declared.answers.Ending.{Ending}
 use Rattle.model.specs.declared.answers.Ending.the-variants.{Stopped}
 use Rattle.model.specs.declared.answers.Stop.the-variants.{Room}
 use Rattle.images.specs.Range.{ProgramInRange}
 use Rattle.images.specs.Programs.{written, ForwardOf}
 use Rattle.images.proofs.RoundTrip.{program-in-range}
-use Rattle.engine.specs.Gap.{letters, wordAt}
+use Rattle.engine.specs.Gap.{letters}
 use Rattle.engine.specs.Cells.{Lettered}
 use Rattle.engine.specs.Run.{Reverses}
 use Rattle.engine.proofs.Lettering.{length-positive, length-negative}

@@ -1,25 +1,22 @@
 -- A program that was accepted, unpacked at the workspace's end: the word that is reversed.
-use mathlib.Core.Path.{_≡_, refl, sym, ap, ap₂, subst, _∙_}
+use mathlib.Core.Path.{_≡_, sym, ap, ap₂, subst, _∙_}
 use mathlib.Core.List.{List, [], _∷_, _++_, map, append-nil}
-use mathlib.Core.Bool.{cond}
 use Prim.Native.Nat.{ℕ, _+_, _-_, _≤_, _<_}
 use native.Mathlib.Omega.{arith}
 use lib.ListN.{length, take, drop, length-append, length-take, length-drop, length-map}
 use lib.Seq.{drop-at, length-take-le, drop-length}
-use Rattle.model.specs.Word.{Letter, forward, back, Word, byte, letter}
+use Rattle.model.specs.Word.{forward, back, Word, byte}
 use Rattle.model.specs.Presentation.{Presentation}
-use Rattle.model.specs.Reversing.{site, nowhere, reversing, stopped, room}
-use Rattle.model.specs.Outcome.{answered}
-use Rattle.model.specs.Images.{readProgram}
+use Rattle.model.specs.Reversing.{site, reversing, stopped, room}
 use Rattle.model.specs.Plain.{plainProgram}
 use Rattle.model.specs.declared.answers.Ending.{Ending}
 use Rattle.model.specs.declared.answers.Ending.the-variants.{Stopped}
 use Rattle.model.specs.declared.answers.Stop.the-variants.{Room}
 use Rattle.theory.proofs.Reversal.{reversing-long}
-use Rattle.images.specs.Range.{All, GeneratorInRange, LetterInRange, ProgramInRange}
+use Rattle.images.specs.Range.{All, LetterInRange, ProgramInRange}
 use Rattle.images.specs.Programs.{written}
 use Rattle.engine.specs.Gap.{letters, wordAt, Searched}
-use Rattle.engine.specs.Cells.{InRange, Lettered, Stands, Serves}
+use Rattle.engine.specs.Cells.{Lettered, Serves}
 use Rattle.engine.specs.Run.{Reverses}
 use Rattle.engine.proofs.Letters.{letter-forward, letter-back, letters-cons, letters-nil}
 use Rattle.checks.specs.Table.{Of}

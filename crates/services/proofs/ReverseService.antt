@@ -1,11 +1,11 @@
 -- The outcome of reverse, after each check.
-use mathlib.Core.Path.{_≡_, refl, sym, ap, subst, _∙_}
+use mathlib.Core.Path.{_≡_, _∙_}
 use mathlib.Core.List.{List}
 use Prim.Native.Nat.{ℕ}
 use Rattle.model.specs.Word.{Word}
 use Rattle.model.specs.Presentation.{Presentation}
 use Rattle.model.specs.Reversing.{reversing}
-use Rattle.model.specs.Outcome.{Outcome, answered, _>>=_}
+use Rattle.model.specs.Outcome.{answered, _>>=_}
 use Rattle.model.specs.Images.{readTable, readProgram}
 use Rattle.model.specs.Services.{fractionOf, reverse}
 use Rattle.model.specs.Stated.{refusal}

@@ -1,7 +1,7 @@
 -- The cells that the reader leaves, with the cells of each letter with itself emptied, are what the engine wants of a table.
 use mathlib.Core.Path.{_≡_, refl, sym, ap, subst, _∙_}
-use mathlib.Core.List.{List, [], _∷_, _++_}
-use Prim.Native.Nat.{ℕ, suc, _+_, _-_, _*_, _≤_, _<_}
+use mathlib.Core.List.{List, [], _∷_}
+use Prim.Native.Nat.{ℕ, _+_, _-_, _*_, _≤_, _<_}
 use native.Mathlib.Omega.{arith}
 use native.Mathlib.Decide.{ℕ-discrete, decLt}
 use lib.ListN.{length, take, drop, getD, set, length-set, length-drop}
@@ -9,7 +9,7 @@ use lib.Seq.{getD-set-same, getD-set-other, getD-take, getD-drop, length-take-le
 use Rattle.model.specs.Word.{Positive, positive}
 use Rattle.model.specs.Presentation.{Presentation, Complement, undefined, complement, complete}
 use Rattle.theory.proofs.Complete.{complete-same}
-use Rattle.images.specs.Range.{All, GeneratorInRange, WordInRange}
+use Rattle.images.specs.Range.{All, GeneratorInRange}
 use Rattle.images.specs.Cells.{HoldsWord, Holds}
 use Rattle.images.specs.Cells.{Stands as CellsRead}
 use Rattle.engine.specs.Cells.{cellAt, InRange, Lettered, Word-at, Cell, Stands}

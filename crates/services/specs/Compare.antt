@@ -1,5 +1,5 @@
 -- What a comparison of two loaded programs comes to, and what its verdict means.
-use mathlib.Core.List.{List, [], _∷_, _++_}
+use mathlib.Core.List.{List, [], _++_}
 use mathlib.Core.Bool.{cond}
 use mathlib.Core.Path.{_≡_}
 use Prim.Native.Nat.{ℕ, _-_}
@@ -20,7 +20,7 @@ use Rattle.model.specs.declared.answers.Refusal.the-variants.{UnequalEnds}
 use Rattle.model.specs.declared.answers.Compared.{Compared}
 use Rattle.model.specs.declared.answers.Compared.the-variants.{Same as SameAnswer, Different as DifferentAnswer, Refused as RefusedAnswer}
 use Rattle.engine.specs.Gap.{wordAt, Searched}
-use Rattle.engine.specs.Cells.{Stands, Serves}
+use Rattle.engine.specs.Cells.{Serves}
 use Rattle.engine.specs.Run.{Reverses}
 use Rattle.checks.specs.Table.{Of}
 use Rattle.services.specs.Reverse.{stopRefusal}

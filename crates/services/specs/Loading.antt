@@ -1,11 +1,11 @@
 -- What is loaded before a reversing: the cells of a table, and a program or two.
-use mathlib.Core.List.{List, [], _∷_, _++_}
+use mathlib.Core.List.{List}
 use mathlib.Core.Path.{_≡_}
 use Prim.Native.Nat.{ℕ, _≤_}
 use lib.ListN.{length, getD}
 use Rattle.model.specs.Word.{Word, Positive}
 use Rattle.model.specs.Presentation.{Presentation}
-use Rattle.model.specs.Outcome.{Outcome, answered, refused, _>>=_}
+use Rattle.model.specs.Outcome.{Outcome, answered, _>>=_}
 use Rattle.model.specs.Images.{readTable, readProgram}
 use Rattle.model.specs.Services.{readForward}
 use Rattle.model.specs.Areas.{Compares}
@@ -14,7 +14,7 @@ use Rattle.model.specs.declared.answers.Ending.{Ending}
 use Rattle.images.specs.Programs.{Accepted, ForwardOf}
 use Rattle.images.specs.declared.tables.TableRead.{TableRead}
 use Rattle.images.specs.declared.tables.TableRead.the-variants.{Table, Refused}
-use Rattle.engine.specs.Cells.{cellAt, Stands}
+use Rattle.engine.specs.Cells.{cellAt}
 use Rattle.engine.specs.Run.{Reverses}
 use Rattle.checks.specs.Table.{Of}
 use Rattle.services.specs.declared.loading.PairRead.{PairRead}

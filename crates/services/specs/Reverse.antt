@@ -1,12 +1,12 @@
 -- What reverse makes of an ending.
-use mathlib.Core.List.{List, [], _∷_, _++_}
+use mathlib.Core.List.{List}
 use mathlib.Core.Path.{_≡_}
 use Prim.Native.Nat.{ℕ, _+_, _≤_}
 use lib.ListN.{length, replicate}
 use Rattle.model.specs.Word.{Word}
 use Rattle.model.specs.Presentation.{Presentation}
 use Rattle.model.specs.Reversing.{reversing}
-use Rattle.model.specs.Outcome.{Outcome, answered, mapped}
+use Rattle.model.specs.Outcome.{answered, mapped}
 use Rattle.model.specs.Images.{readProgram}
 use Rattle.model.specs.Services.{fractionOf}
 use Rattle.model.specs.Areas.{fractionBytes, outputAfter}

@@ -1,8 +1,5 @@
 ghost use mathlib.Core.Path.{_≡_};
-ghost use Prim.Native.Nat.{ℕ, _≤_};
-ghost use lib.ListN.{length, getD};
-ghost use Rattle.engine.specs.Cells.{cellAt};
-ghost use Rattle.images.specs.Programs.{Accepted};
+ghost use lib.ListN.{length};
 ghost use Rattle.services.specs.Loading.{Diagonal, TableLoaded, PairDone, ProgramRuns, ProgramReverses};
 use engine::cells::cell_at;
 use engine::gap::Gap;

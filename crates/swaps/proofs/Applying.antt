@@ -1,8 +1,8 @@
 -- An entry applied to the word in the area: why it breaks the chain, and the word that it leads to.
-use mathlib.Core.Path.{_≡_, refl, sym, ap, ap₂, subst, _∙_}
+use mathlib.Core.Path.{_≡_, refl, sym, ap, ap₂, _∙_}
 use mathlib.Core.List.{List, [], _∷_, _++_}
 use mathlib.Core.Bool.{Bool, true, false, cond}
-use mathlib.Core.Option.{Option, none, some}
+use mathlib.Core.Option.{none, some}
 use Prim.Native.Nat.{ℕ, zero, suc, _+_, _-_, _≤_, _<_}
 use native.Mathlib.Omega.{arith}
 use borrow.Author.Tests.{eq-eqb, ne-eqb}
@@ -12,11 +12,11 @@ use lib.Seq.{drop-drop, drop-at, take-at, length-take-le}
 use Rattle.model.specs.Word.{Positive}
 use Rattle.model.specs.Presentation.{Presentation, Complement, undefined, complement, complete}
 use Rattle.model.specs.Equivalence.{Entry, equal, related, applied}
-use Rattle.engine.specs.Cells.{cellAt, InRange, Word-at, Stands}
+use Rattle.engine.specs.Cells.{cellAt, InRange, Stands}
 use Rattle.engine.proofs.Rules.{Rule, open-cell, word-cell}
 use Rattle.theory.proofs.Impossible.{impossible}
 use Rattle.swaps.proofs.Comparing.{lengths-differ}
-use Rattle.swaps.specs.Held.{heldAt, Placed, Carried}
+use Rattle.swaps.specs.Held.{heldAt, Placed}
 use Rattle.swaps.specs.Entry.{ReplaceMeans, AppliedAs}
 use Rattle.swaps.specs.declared.entry.Applied.{Applied}
 use Rattle.swaps.specs.declared.entry.Applied.the-variants.{Word, Breaks, Short}

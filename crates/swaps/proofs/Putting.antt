@@ -1,11 +1,11 @@
 -- A letter and a word written over an area: the word first, then the letter before it.
-use mathlib.Core.Path.{_≡_, refl, sym, ap, ap₂, _∙_}
+use mathlib.Core.Path.{_≡_, sym, ap, _∙_}
 use mathlib.Core.List.{List, [], _∷_, _++_, append-assoc}
-use Prim.Native.Nat.{ℕ, suc, _+_, _-_, _≤_, _<_}
+use Prim.Native.Nat.{ℕ, suc, _+_, _≤_, _<_}
 use native.Mathlib.Omega.{arith}
 use native.Mathlib.Numerals.{add-one}
-use lib.ListN.{length, take, drop, set, getD, length-take, length-drop, length-append}
-use lib.Seq.{paste, paste-zero, paste-suc, take-all, getD-take, getD-drop, length-take-le, set-append-left, take-set-lt, take-suc-set, append-snoc}
+use lib.ListN.{length, take, drop, set, getD, length-drop}
+use lib.Seq.{paste, paste-suc, take-all, getD-take, getD-drop, length-take-le, set-append-left, take-set-lt, take-suc-set, append-snoc}
 use Rattle.images.specs.Programs.{written}
 
 module _ (cells : List ℕ) (from count : ℕ) (inside : from + count ≤ length cells) where

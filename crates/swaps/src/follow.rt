@@ -1,6 +1,5 @@
 // The entries of a chain image, one after the other, and whether the word that they lead to is a program's.
 ghost use mathlib.Core.Path.{_≡_};
-ghost use Prim.Native.Nat.{_≤_};
 ghost use lib.ListN.{length, take};
 ghost use Rattle.model.specs.Word.{Positive};
 ghost use Rattle.model.specs.Equivalence.{equal};

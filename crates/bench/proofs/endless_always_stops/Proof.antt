@@ -1,14 +1,11 @@
 -- `bench::endless_always_stops` meets its contract: the allowance grows and fits.
-use mathlib.Core.Path.{_≡_, refl, sym, ap, _∙_}
+use mathlib.Core.Path.{_≡_, refl, _∙_}
 use lib.ListN.{length}
-use Prim.Native.Nat.{ℕ, _-_}
+use Prim.Native.Nat.{_-_}
 use native.Mathlib.Omega.{arith}
 use borrow.Author.Needs.{needs}
 use Rattle.bench.proofs.endless_always_stops.Statement.{statement}
 use Rattle.bench.proofs.endless_always_stops.Tie as tie
-use Rattle.bench.proofs.endless_always_stops.Reads as reads
-use Rattle.bench.proofs.endless_always_stops.Lts as lts
-use Rattle.bench.proofs.endless_stops.Reads as endless-stops-reads
 
 abbrev Inv-loop : tie.InvT-loop
 Inv-loop workspace₀ allowance₀ workspace allowance = length workspace ≡ length workspace₀

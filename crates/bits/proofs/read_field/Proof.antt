@@ -1,10 +1,9 @@
 -- `bits::read_field` meets its contract. The loop's invariant: the value is what the bits passed write.
 use mathlib.Core.Path.{_≡_, refl, sym, ap, _∙_}
-use Prim.Native.Nat.{ℕ, _+_, _*_, _^_, _≤_, _<_, _-_}
+use Prim.Native.Nat.{_+_, _*_, _^_, _≤_, _<_, _-_}
 use native.Mathlib.Omega.{arith}
-use lib.ListN.{length, take, drop, getD}
+use lib.ListN.{take, drop, getD}
 use Rattle.model.specs.Bits.{bitsOf, number}
-use Rattle.bits.specs.Fields.{Inside}
 use Rattle.bits.proofs.Fields.{field-more, step-fits, bit-small}
 use Rattle.bits.proofs.read_field.Statement.{statement}
 use Rattle.bits.proofs.read_field.Tie as tie

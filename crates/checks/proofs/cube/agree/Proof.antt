@@ -4,12 +4,6 @@ use Rattle.checks.proofs.Triples.{agree-searched, agree-serves, agree-v
 use borrow.Author.Needs.{needs}
 use Rattle.checks.proofs.cube.agree.Statement.{statement}
 use Rattle.checks.proofs.cube.agree.Tie as tie
-use Rattle.checks.proofs.cube.agree.Reads as reads
-use Rattle.checks.proofs.cube.agree.Lts as lts
-use Rattle.checks.proofs.cube.verdict_of.Reads as verdict-of-reads
-use Rattle.checks.proofs.words.invert.Reads as invert-reads
-use Rattle.checks.proofs.words.move_to_end.Reads as move-to-end-reads
-use Rattle.engine.proofs.run.reversing.Reads as reversing-reads
 
 invert-requires : tie.Need-invert-requires
 invert-requires c κs = search needs

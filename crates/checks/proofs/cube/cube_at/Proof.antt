@@ -1,5 +1,5 @@
 -- `checks::cube::cube_at` meets its contract.
-use mathlib.Core.Path.{_≡_, refl, sym, ap, subst, _∙_}
+use mathlib.Core.Path.{refl, sym, ap, subst, _∙_}
 use lib.ListN.{length, getD}
 use Rattle.model.specs.Checks.{side}
 use Rattle.engine.proofs.Rules.{open-cell}
@@ -12,13 +12,6 @@ use Rattle.checks.proofs.BothSides.{turned-serves, kept-fits, no-right-
 use borrow.Author.Needs.{needs}
 use Rattle.checks.proofs.cube.cube_at.Statement.{statement}
 use Rattle.checks.proofs.cube.cube_at.Tie as tie
-use Rattle.checks.proofs.cube.cube_at.Reads as reads
-use Rattle.checks.proofs.cube.cube_at.Lts as lts
-use Rattle.checks.proofs.cube.agree.Reads as agree-reads
-use Rattle.checks.proofs.cube.missing_side.Reads as missing-side-reads
-use Rattle.checks.proofs.cube.right_side.Reads as right-side-reads
-use Rattle.checks.proofs.residues.side.Reads as side-reads
-use Rattle.engine.proofs.cells.cell_at.Reads as cell-at-reads
 
 cell-at-requires : tie.Need-cell-at-requires
 cell-at-requires c κs = search needs

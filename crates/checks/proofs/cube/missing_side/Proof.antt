@@ -4,8 +4,6 @@ use Rattle.checks.specs.Cube.{missingSide}
 use borrow.Author.Needs.{needs}
 use Rattle.checks.proofs.cube.missing_side.Statement.{statement}
 use Rattle.checks.proofs.cube.missing_side.Tie as tie
-use Rattle.checks.proofs.cube.missing_side.Reads as reads
-use Rattle.checks.proofs.cube.missing_side.Lts as lts
 
 enum-told : tie.Need-enum-told
 enum-told c = search needs

@@ -3,9 +3,6 @@ use Rattle.checks.proofs.Triples.{part-front, part-end, part-length}
 use borrow.Author.Needs.{needs}
 use Rattle.checks.proofs.cube.right_side.Statement.{statement}
 use Rattle.checks.proofs.cube.right_side.Tie as tie
-use Rattle.checks.proofs.cube.right_side.Reads as reads
-use Rattle.checks.proofs.cube.right_side.Lts as lts
-use Rattle.checks.proofs.residues.side.Reads as side-reads
 
 sub-side : tie.Need-sub-side
 sub-side c = search needs

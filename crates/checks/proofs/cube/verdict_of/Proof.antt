@@ -5,8 +5,6 @@ use Rattle.checks.proofs.Triples.{fails-by-denominator, fails-by-numera
 use borrow.Author.Needs.{needs}
 use Rattle.checks.proofs.cube.verdict_of.Statement.{statement}
 use Rattle.checks.proofs.cube.verdict_of.Tie as tie
-use Rattle.checks.proofs.cube.verdict_of.Reads as reads
-use Rattle.checks.proofs.cube.verdict_of.Lts as lts
 
 enum-known-ending : tie.Need-enum-known-ending
 enum-known-ending c = search needs

@@ -1,9 +1,9 @@
 -- `checks::residues::letter_residue` meets its contract.
-use mathlib.Core.Path.{_≡_, refl, sym, ap, subst, _∙_}
+use mathlib.Core.Path.{refl, sym, subst, _∙_}
 use mathlib.Core.List.{[], _∷_}
-use Prim.Native.Nat.{ℕ, _+_, _-_, _≤_, _<_}
+use Prim.Native.Nat.{_-_}
 use native.Mathlib.Omega.{arith}
-use lib.ListN.{length, getD, length-set}
+use lib.ListN.{length, length-set}
 use Rattle.model.specs.Checks.{under}
 use Rattle.engine.proofs.Loads.{loaded, load-searched, load-serves}
 use Rattle.checks.specs.Residues.{Works}
@@ -11,10 +11,6 @@ use Rattle.checks.proofs.Residuals.{under-works, under-long, two, two-f
 use borrow.Author.Needs.{needs}
 use Rattle.checks.proofs.residues.letter_residue.Statement.{statement}
 use Rattle.checks.proofs.residues.letter_residue.Tie as tie
-use Rattle.checks.proofs.residues.letter_residue.Reads as reads
-use Rattle.checks.proofs.residues.letter_residue.Lts as lts
-use Rattle.checks.proofs.residues.residue_of.Reads as residue-of-reads
-use Rattle.engine.proofs.run.reversing.Reads as reversing-reads
 
 returns : tie.Need-returns
 returns c =

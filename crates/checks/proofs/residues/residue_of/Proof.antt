@@ -1,15 +1,9 @@
 -- `checks::residues::residue_of` meets its contract.
-use mathlib.Core.Path.{_≡_, refl, sym, ap, subst, _∙_}
-use mathlib.Core.List.{[], _∷_}
-use Prim.Native.Nat.{ℕ, _+_, _-_, _≤_, _<_}
-use native.Mathlib.Omega.{arith}
-use lib.ListN.{length, getD, length-set}
+use mathlib.Core.Path.{sym, ap}
 use Rattle.checks.specs.Residues.{fromEnding}
 use borrow.Author.Needs.{needs}
 use Rattle.checks.proofs.residues.residue_of.Statement.{statement}
 use Rattle.checks.proofs.residues.residue_of.Tie as tie
-use Rattle.checks.proofs.residues.residue_of.Reads as reads
-use Rattle.checks.proofs.residues.residue_of.Lts as lts
 
 enum-known-ending : tie.Need-enum-known-ending
 enum-known-ending c = search needs

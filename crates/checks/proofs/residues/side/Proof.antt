@@ -1,5 +1,5 @@
 -- `checks::residues::side` meets its contract.
-use mathlib.Core.Path.{_≡_, refl, sym, ap, subst, _∙_}
+use mathlib.Core.Path.{ap, subst, _∙_}
 use mathlib.Core.List.{[], _∷_}
 use lib.ListN.{length}
 use Rattle.model.specs.Checks.{under}
@@ -8,10 +8,6 @@ use Rattle.checks.proofs.Sides.{was-found, first-missing, first-halted,
 use borrow.Author.Needs.{needs}
 use Rattle.checks.proofs.residues.side.Statement.{statement}
 use Rattle.checks.proofs.residues.side.Tie as tie
-use Rattle.checks.proofs.residues.side.Reads as reads
-use Rattle.checks.proofs.residues.side.Lts as lts
-use Rattle.checks.proofs.residues.letter_residue.Reads as letter-residue-reads
-use Rattle.checks.proofs.residues.word_residue.Reads as word-residue-reads
 
 letter-residue-requires : tie.Need-letter-residue-requires
 letter-residue-requires c κs = let s = c .before .before .before in (s .pre .0, record { stands = s .pre .1 .stands; lettered = (s .pre .1 .lettered .0, (s .pre .1 .lettered .1 .0, tt)) })

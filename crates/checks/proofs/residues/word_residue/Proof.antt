@@ -1,7 +1,5 @@
 -- `checks::residues::word_residue` meets its contract.
-use mathlib.Core.Path.{_≡_, refl, sym, ap, subst, _∙_}
-use mathlib.Core.List.{[], _∷_}
-use Prim.Native.Nat.{ℕ, _+_, _-_, _≤_, _<_}
+use mathlib.Core.Path.{refl, sym, ap, subst, _∙_}
 use native.Mathlib.Omega.{arith}
 use lib.ListN.{length, getD}
 use Rattle.model.specs.Checks.{under}
@@ -11,13 +9,6 @@ use Rattle.checks.proofs.CellWords.{cell-of, rule-of, short-cell, cell-
 use borrow.Author.Needs.{needs}
 use Rattle.checks.proofs.residues.word_residue.Statement.{statement}
 use Rattle.checks.proofs.residues.word_residue.Tie as tie
-use Rattle.checks.proofs.residues.word_residue.Reads as reads
-use Rattle.checks.proofs.residues.word_residue.Lts as lts
-use Rattle.checks.proofs.residues.residue_of.Reads as residue-of-reads
-use Rattle.engine.proofs.cells.cell_at.Reads as cell-at-reads
-use Rattle.engine.proofs.run.reversing.Reads as reversing-reads
-use Rattle.engine.proofs.step.push_inverse.Reads as push-inverse-reads
-use Rattle.engine.proofs.step.push_word.Reads as push-word-reads
 
 cell-at-requires : tie.Need-cell-at-requires
 cell-at-requires c κs = search needs

@@ -1,7 +1,6 @@
 -- `checks::table::check_lengths` meets its contract.
-use mathlib.Core.Path.{_≡_, refl, sym, ap, subst, _∙_}
-use mathlib.Core.List.{[], _∷_}
-use Prim.Native.Nat.{ℕ, _+_, _-_, _≤_, _<_}
+use mathlib.Core.Path.{_≡_, sym, ap, subst, _∙_}
+use Prim.Native.Nat.{_+_, _-_, _≤_}
 use native.Mathlib.Omega.{arith}
 use borrow.Author.Needs.{needs}
 use Rattle.model.specs.Presentation.{Presentation}
@@ -13,9 +12,6 @@ use Rattle.checks.proofs.Remaining.{pairsFrom, pairs-begin, pairs-some,
 use Rattle.checks.proofs.Passing.{lengths-append, of-few}
 use Rattle.checks.proofs.table.check_lengths.Statement.{statement}
 use Rattle.checks.proofs.table.check_lengths.Tie as tie
-use Rattle.checks.proofs.table.check_lengths.Reads as reads
-use Rattle.checks.proofs.table.check_lengths.Lts as lts
-use Rattle.checks.proofs.table.row_lengths.Reads as row-lengths-reads
 
 abbrev Inv-loop : tie.InvT-loop
 Inv-loop cells size a₀ a =

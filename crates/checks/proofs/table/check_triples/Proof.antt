@@ -1,6 +1,6 @@
 -- `checks::table::check_triples` meets its contract. Each loop's invariant: the check of all triples is the check of those that are left.
 use mathlib.Core.Path.{_≡_, refl, sym, ap, subst, _∙_}
-use mathlib.Core.List.{List, [], _∷_, _++_}
+use mathlib.Core.List.{List, _++_}
 use mathlib.Core.Logic.{⊎-elim}
 use Prim.Native.Nat.{ℕ, _+_, _-_, _≤_, _<_}
 use native.Mathlib.Omega.{arith}
@@ -9,16 +9,13 @@ use lib.ListN.{length}
 use Rattle.model.specs.Enumeration.{triples}
 use Rattle.model.specs.Checks.{cubeCheck}
 use Rattle.checks.specs.Cube.{CubeMeans}
-use Rattle.checks.specs.Table.{Of, triplesAs}
+use Rattle.checks.specs.Table.{triplesAs}
 use Rattle.checks.specs.declared.table.Triples.the-variants.{Hold}
 use Rattle.checks.proofs.Remaining.{firsts, seconds, thirds}
 use Rattle.checks.proofs.Passing.{of-few, of-serves}
 use Rattle.checks.proofs.Searching.{Left, left-all, enter-first, leave-first, enter-second, leave-second, all-hold, skip-first, skip-second, pass-third, fail-third, halt-third}
 use Rattle.checks.proofs.table.check_triples.Statement.{statement}
 use Rattle.checks.proofs.table.check_triples.Tie as tie
-use Rattle.checks.proofs.table.check_triples.Reads as reads
-use Rattle.checks.proofs.table.check_triples.Lts as lts
-use Rattle.checks.proofs.cube.cube_at.Reads as cube-at-reads
 
 abbrev Inv-loop2 : tie.InvT-loop2
 Inv-loop2 cells size bytes₀ budget found₀ a b c₀ bytes found c =

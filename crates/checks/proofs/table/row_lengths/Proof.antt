@@ -1,21 +1,16 @@
 -- `checks::table::row_lengths` meets its contract.
-use mathlib.Core.Path.{_≡_, refl, sym, ap, subst, _∙_}
-use mathlib.Core.List.{[], _∷_}
-use Prim.Native.Nat.{ℕ, _+_, _-_, _≤_, _<_}
+use mathlib.Core.Path.{_≡_, sym, ap, _∙_}
+use Prim.Native.Nat.{_+_, _-_, _≤_, _<_}
 use native.Mathlib.Omega.{arith}
-use lib.ListN.{length, getD}
+use lib.ListN.{getD}
 use Rattle.model.specs.Presentation.{Presentation}
 use Rattle.model.specs.Checks.{lengthCheck}
-use Rattle.engine.specs.Cells.{InRange}
 use Rattle.checks.specs.Table.{Of, row}
 use Rattle.engine.proofs.Rules.{inside}
 use Rattle.checks.proofs.Remaining.{pair, rowFrom, row-begins, row-some, row-none}
 use Rattle.checks.proofs.Passing.{equal-bytes, unequal-bytes, pair-passes, pair-fails, of-range, of-few}
 use Rattle.checks.proofs.table.row_lengths.Statement.{statement}
 use Rattle.checks.proofs.table.row_lengths.Tie as tie
-use Rattle.checks.proofs.table.row_lengths.Reads as reads
-use Rattle.checks.proofs.table.row_lengths.Lts as lts
-use Rattle.engine.proofs.cells.cell_at.Reads as cell-at-reads
 
 abbrev Inv-loop : tie.InvT-loop
 Inv-loop cells size a b₀ b =

@@ -1,8 +1,6 @@
 -- `checks::words::invert` meets its contract.
-use mathlib.Core.Path.{_≡_, refl, sym, ap, _∙_}
-use Prim.Native.Nat.{ℕ, _+_, _-_, _≤_, _<_}
 use native.Mathlib.Omega.{arith}
-use lib.ListN.{length, length-set}
+use lib.ListN.{length-set}
 use Rattle.checks.proofs.Inverting.{Inverting, inverting-start, inverting-turn, inverting-done}
 use Rattle.checks.proofs.words.invert.Statement.{statement}
 use Rattle.checks.proofs.words.invert.Tie as tie

@@ -1,6 +1,6 @@
 -- `checks::words::move_to_end` meets its contract.
 use mathlib.Core.Path.{_≡_, refl}
-use Prim.Native.Nat.{ℕ, _+_, _-_, _≤_, _<_}
+use Prim.Native.Nat.{_+_, _-_, _≤_}
 use native.Mathlib.Omega.{arith}
 use lib.ListN.{length, length-set}
 use Rattle.checks.proofs.Moving.{Moving, moving-start, moving-turn, moving-done}

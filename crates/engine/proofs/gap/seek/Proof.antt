@@ -1,16 +1,14 @@
 -- `engine::seek` meets its contract. The loop's invariant: no site begins before the gap, and the word and the length are those at entry.
-use mathlib.Core.Path.{_≡_, refl, sym, ap, _∙_}
+use mathlib.Core.Path.{_≡_, refl, _∙_}
 use mathlib.Core.Logic.{⊎-elim}
-use Prim.Native.Nat.{ℕ, _≤_, _<_, _-_}
+use Prim.Native.Nat.{_<_, _-_}
 use native.Mathlib.Omega.{arith}
 use borrow.Author.Needs.{needs}
 use lib.ListN.{length, length-set}
-use Rattle.engine.specs.Gap.{Searched, AtSite, AtEnd, wordAt}
+use Rattle.engine.specs.Gap.{Searched, wordAt}
 use Rattle.engine.proofs.Moves.{word-moves, move-back, move-first, move-forward}
 use Rattle.engine.proofs.gap.seek.Statement.{statement}
 use Rattle.engine.proofs.gap.seek.Tie as tie
-use Rattle.engine.proofs.gap.seek.Reads as reads
-use Rattle.engine.proofs.gap.seek.Lts as lts
 
 abbrev Inv-loop : tie.InvT-loop
 Inv-loop bytes₀ left₀ right₀ bytes left right =

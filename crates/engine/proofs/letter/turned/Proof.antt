@@ -1,9 +1,9 @@
 -- `engine::letter::turned` meets its contract.
-use mathlib.Core.Path.{_≡_, sym, ap, _∙_}
+use mathlib.Core.Path.{sym, ap, _∙_}
 use Prim.Native.Nat.{_+_, _-_}
 use native.Mathlib.Omega.{arith}
 use borrow.Author.Needs.{needs}
-use Rattle.model.specs.Word.{flip, letter, forward, back}
+use Rattle.model.specs.Word.{flip, back}
 use Rattle.engine.proofs.Letters.{letter-forward, letter-back}
 use Rattle.engine.proofs.letter.turned.Statement.{statement}
 use Rattle.engine.proofs.letter.turned.Tie as tie

@@ -1,16 +1,14 @@
 -- `engine::run::forward_letters` meets its contract.
 use mathlib.Core.Path.{_≡_, sym, ap, _∙_}
 use mathlib.Core.Logic.{⊎-elim}
-use Prim.Native.Nat.{ℕ, _+_, _-_, _≤_, _<_}
+use Prim.Native.Nat.{_-_, _≤_, _<_}
 use native.Mathlib.Omega.{arith}
-use lib.ListN.{length, take, getD}
+use lib.ListN.{length, take}
 use Rattle.model.specs.Word.{forwards}
 use Rattle.engine.specs.Gap.{letters}
 use Rattle.engine.proofs.Counting.{counts-none, counts-forward, counts-back}
 use Rattle.engine.proofs.run.forward_letters.Statement.{statement}
 use Rattle.engine.proofs.run.forward_letters.Tie as tie
-use Rattle.engine.proofs.run.forward_letters.Reads as reads
-use Rattle.engine.proofs.run.forward_letters.Lts as lts
 
 abbrev Inv-loop : tie.InvT-loop
 Inv-loop bytes end count₀ i₀ count i = (i ≤ end) × (count ≤ i) × (count ≡ length (forwards (letters (take i bytes))))

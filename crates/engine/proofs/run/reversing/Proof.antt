@@ -1,19 +1,15 @@
 -- `engine::run::reversing` meets its contract. The loop's invariant is `Progress`; each way out is a law of it.
-use mathlib.Core.Path.{_≡_, refl, sym, ap, subst, _∙_}
-use Prim.Native.Nat.{ℕ, _+_, _-_, _≤_, _<_}
+use mathlib.Core.Path.{subst, _∙_}
+use Prim.Native.Nat.{_+_, _-_}
 use native.Mathlib.Omega.{arith}
 use borrow.Author.Needs.{needs}
-use lib.ListN.{length, take}
+use lib.ListN.{length}
 use Rattle.engine.specs.Gap.{wordAt}
 use Rattle.engine.specs.Turn.{TurnMeans}
 use Rattle.engine.proofs.Counting.{counts-few}
 use Rattle.engine.proofs.Progress.{Progress, begun, serves-now, finishes, meets, stops, left-over, advances, count-equal, count-different}
 use Rattle.engine.proofs.run.reversing.Statement.{statement}
 use Rattle.engine.proofs.run.reversing.Tie as tie
-use Rattle.engine.proofs.run.reversing.Reads as reads
-use Rattle.engine.proofs.run.reversing.Lts as lts
-use Rattle.engine.proofs.run.forward_letters.Reads as forward-letters-reads
-use Rattle.engine.proofs.step.advance.Reads as advance-reads
 
 abbrev Inv-loop : tie.InvT-loop
 Inv-loop cells bytes₀ budget gap₀ steps₀ relations₀ bytes gap steps relations =

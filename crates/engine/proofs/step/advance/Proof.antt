@@ -1,15 +1,11 @@
 -- `engine::step::advance` meets its contract: the search keeps the word, and the step is taken at what it found.
-use mathlib.Core.Path.{_≡_, sym, subst, _∙_}
+use mathlib.Core.Path.{subst, _∙_}
 use Rattle.engine.specs.Gap.{SeekDone, wordAt}
 use Rattle.engine.specs.Turn.{TurnDone}
 use Rattle.engine.proofs.AtGap.{here, end-next}
 use borrow.Author.Needs.{needs}
 use Rattle.engine.proofs.step.advance.Statement.{statement}
 use Rattle.engine.proofs.step.advance.Tie as tie
-use Rattle.engine.proofs.step.advance.Reads as reads
-use Rattle.engine.proofs.step.advance.Lts as lts
-use Rattle.engine.proofs.gap.seek.Reads as seek-reads
-use Rattle.engine.proofs.step.step.Reads as step-reads
 
 seek-requires : tie.Need-seek-requires
 seek-requires c κs = search needs

@@ -1,8 +1,8 @@
 -- `engine::step::push_inverse` meets its contract. The loop's invariant: the inverse of the first `i` letters is written.
 use mathlib.Core.Path.{_≡_, subst}
-use Prim.Native.Nat.{ℕ, _+_, _-_, _≤_, _<_}
+use Prim.Native.Nat.{_+_, _-_, _≤_}
 use native.Mathlib.Omega.{arith}
-use lib.ListN.{length, take, drop, set, getD}
+use lib.ListN.{take, drop, set, getD}
 use Rattle.model.specs.Word.{inverse}
 use Rattle.engine.specs.Gap.{letters}
 use Rattle.engine.specs.Turn.{Pushed}

@@ -1,17 +1,10 @@
 -- `engine::step::step` meets its contract: each way out is a law of `Stepping`.
-use mathlib.Core.Path.{_≡_, refl, sym, ap, _∙_}
-use Prim.Native.Nat.{ℕ, _+_, _-_, _≤_, _<_}
+use mathlib.Core.Path.{refl, _∙_}
 use native.Mathlib.Omega.{arith}
-use lib.ListN.{length, take, drop, getD}
 use Rattle.engine.proofs.Stepping.{named, to-inside, from-inside, undefined-step, to-short, from-short, goes-on, no-room, stepped}
 use borrow.Author.Needs.{needs}
 use Rattle.engine.proofs.step.step.Statement.{statement}
 use Rattle.engine.proofs.step.step.Tie as tie
-use Rattle.engine.proofs.step.step.Reads as reads
-use Rattle.engine.proofs.step.step.Lts as lts
-use Rattle.engine.proofs.cells.cell_at.Reads as cell-at-reads
-use Rattle.engine.proofs.step.push_inverse.Reads as push-inverse-reads
-use Rattle.engine.proofs.step.push_word.Reads as push-word-reads
 
 sub-at : tie.Need-sub-at
 sub-at c = search needs

@@ -1,20 +1,10 @@
 -- `firmware::calls::braid_check` meets its contract.
-use mathlib.Core.Path.{_≡_, refl, sym, ap, subst, _∙_}
-use lib.ListN.{length}
-use Rattle.model.specs.Outcome.{answered}
-use Rattle.model.specs.Services.{listable}
-use Rattle.model.specs.Areas.{ChainArea}
-use Rattle.services.specs.Compare.{Meaning}
-use Rattle.firmware.specs.Told.{told, sizesTold, passedTold, verdictTold, passageTold, bytesTold}
+use mathlib.Core.Path.{ap, subst, _∙_}
+use Rattle.firmware.specs.Told.{told, passageTold}
 use Rattle.firmware.specs.Values.{Tells}
 use borrow.Author.Needs.{needs}
 use Rattle.firmware.proofs.calls.braid_check.Statement.{statement}
 use Rattle.firmware.proofs.calls.braid_check.Tie as tie
-use Rattle.firmware.proofs.calls.braid_check.Reads as reads
-use Rattle.firmware.proofs.calls.braid_check.Lts as lts
-use Rattle.firmware.proofs.calls.tell.Reads as tell-reads
-use Rattle.firmware.proofs.numbers.of_checked.Reads as of-checked-reads
-use Rattle.services.proofs.check.check.Reads as check-reads
 
 check-requires : tie.Need-check-requires
 check-requires c κs = search needs

@@ -1,20 +1,10 @@
 -- `firmware::calls::braid_clear` meets its contract.
-use mathlib.Core.Path.{_≡_, refl, sym, ap, subst, _∙_}
-use lib.ListN.{length}
-use Rattle.model.specs.Outcome.{answered}
-use Rattle.model.specs.Services.{listable}
-use Rattle.model.specs.Areas.{ChainArea}
-use Rattle.services.specs.Compare.{Meaning}
-use Rattle.firmware.specs.Told.{told, sizesTold, passedTold, verdictTold, passageTold, bytesTold}
+use mathlib.Core.Path.{ap, subst, _∙_}
+use Rattle.firmware.specs.Told.{told, passedTold}
 use Rattle.firmware.specs.Values.{Tells}
 use borrow.Author.Needs.{needs}
 use Rattle.firmware.proofs.calls.braid_clear.Statement.{statement}
 use Rattle.firmware.proofs.calls.braid_clear.Tie as tie
-use Rattle.firmware.proofs.calls.braid_clear.Reads as reads
-use Rattle.firmware.proofs.calls.braid_clear.Lts as lts
-use Rattle.firmware.proofs.calls.tell.Reads as tell-reads
-use Rattle.firmware.proofs.numbers.of_cleared.Reads as of-cleared-reads
-use Rattle.services.proofs.clear.clear.Reads as clear-reads
 
 clear-requires : tie.Need-clear-requires
 clear-requires c κs = search needs

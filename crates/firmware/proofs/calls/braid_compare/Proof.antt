@@ -1,20 +1,13 @@
 -- `firmware::calls::braid_compare` meets its contract.
-use mathlib.Core.Path.{_≡_, refl, sym, ap, subst, _∙_}
+use mathlib.Core.Path.{ap, subst, _∙_}
 use lib.ListN.{length}
 use Rattle.model.specs.Outcome.{answered}
-use Rattle.model.specs.Services.{listable}
-use Rattle.model.specs.Areas.{ChainArea}
 use Rattle.services.specs.Compare.{Meaning}
-use Rattle.firmware.specs.Told.{told, sizesTold, passedTold, verdictTold, passageTold, bytesTold}
+use Rattle.firmware.specs.Told.{told, verdictTold}
 use Rattle.firmware.specs.Values.{Tells}
 use borrow.Author.Needs.{needs}
 use Rattle.firmware.proofs.calls.braid_compare.Statement.{statement}
 use Rattle.firmware.proofs.calls.braid_compare.Tie as tie
-use Rattle.firmware.proofs.calls.braid_compare.Reads as reads
-use Rattle.firmware.proofs.calls.braid_compare.Lts as lts
-use Rattle.firmware.proofs.calls.tell.Reads as tell-reads
-use Rattle.firmware.proofs.numbers.of_compared.Reads as of-compared-reads
-use Rattle.services.proofs.compare.compare.Reads as compare-reads
 
 compare-requires : tie.Need-compare-requires
 compare-requires c κs = search needs

@@ -1,20 +1,10 @@
 -- `firmware::calls::braid_pack_table` meets its contract.
-use mathlib.Core.Path.{_≡_, refl, sym, ap, subst, _∙_}
-use lib.ListN.{length}
-use Rattle.model.specs.Outcome.{answered}
-use Rattle.model.specs.Services.{listable}
-use Rattle.model.specs.Areas.{ChainArea}
-use Rattle.services.specs.Compare.{Meaning}
-use Rattle.firmware.specs.Told.{told, sizesTold, passedTold, verdictTold, passageTold, bytesTold}
+use mathlib.Core.Path.{ap, subst, _∙_}
+use Rattle.firmware.specs.Told.{told, bytesTold}
 use Rattle.firmware.specs.Values.{Tells}
 use borrow.Author.Needs.{needs}
 use Rattle.firmware.proofs.calls.braid_pack_table.Statement.{statement}
 use Rattle.firmware.proofs.calls.braid_pack_table.Tie as tie
-use Rattle.firmware.proofs.calls.braid_pack_table.Reads as reads
-use Rattle.firmware.proofs.calls.braid_pack_table.Lts as lts
-use Rattle.firmware.proofs.calls.tell.Reads as tell-reads
-use Rattle.firmware.proofs.numbers.of_packed.Reads as of-packed-reads
-use Rattle.services.proofs.pack_table.pack.Reads as pack-reads
 
 pack-requires : tie.Need-pack-requires
 pack-requires c κs = search needs

@@ -1,20 +1,10 @@
 -- `firmware::calls::braid_reverse` meets its contract.
-use mathlib.Core.Path.{_≡_, refl, sym, ap, subst, _∙_}
-use lib.ListN.{length}
-use Rattle.model.specs.Outcome.{answered}
-use Rattle.model.specs.Services.{listable}
-use Rattle.model.specs.Areas.{ChainArea}
-use Rattle.services.specs.Compare.{Meaning}
-use Rattle.firmware.specs.Told.{told, sizesTold, passedTold, verdictTold, passageTold, bytesTold}
+use mathlib.Core.Path.{ap, subst, _∙_}
+use Rattle.firmware.specs.Told.{told, sizesTold}
 use Rattle.firmware.specs.Values.{Tells}
 use borrow.Author.Needs.{needs}
 use Rattle.firmware.proofs.calls.braid_reverse.Statement.{statement}
 use Rattle.firmware.proofs.calls.braid_reverse.Tie as tie
-use Rattle.firmware.proofs.calls.braid_reverse.Reads as reads
-use Rattle.firmware.proofs.calls.braid_reverse.Lts as lts
-use Rattle.firmware.proofs.calls.tell.Reads as tell-reads
-use Rattle.firmware.proofs.numbers.of_reversed.Reads as of-reversed-reads
-use Rattle.services.proofs.reverse.reverse.Reads as reverse-reads
 
 reverse-requires : tie.Need-reverse-requires
 reverse-requires c κs = search needs

@@ -1,20 +1,10 @@
 -- `firmware::calls::braid_unpack_program` meets its contract.
-use mathlib.Core.Path.{_≡_, refl, sym, ap, subst, _∙_}
-use lib.ListN.{length}
-use Rattle.model.specs.Outcome.{answered}
-use Rattle.model.specs.Services.{listable}
-use Rattle.model.specs.Areas.{ChainArea}
-use Rattle.services.specs.Compare.{Meaning}
-use Rattle.firmware.specs.Told.{told, sizesTold, passedTold, verdictTold, passageTold, bytesTold}
+use mathlib.Core.Path.{ap, subst, _∙_}
+use Rattle.firmware.specs.Told.{told, bytesTold}
 use Rattle.firmware.specs.Values.{Tells}
 use borrow.Author.Needs.{needs}
 use Rattle.firmware.proofs.calls.braid_unpack_program.Statement.{statement}
 use Rattle.firmware.proofs.calls.braid_unpack_program.Tie as tie
-use Rattle.firmware.proofs.calls.braid_unpack_program.Reads as reads
-use Rattle.firmware.proofs.calls.braid_unpack_program.Lts as lts
-use Rattle.firmware.proofs.calls.tell.Reads as tell-reads
-use Rattle.firmware.proofs.numbers.of_packed.Reads as of-packed-reads
-use Rattle.services.proofs.unpack_program.unpack.Reads as unpack-reads
 
 unpack-requires : tie.Need-unpack-requires
 unpack-requires c κs = search needs

@@ -1,17 +1,9 @@
 -- `firmware::numbers::of_refusal` meets its contract.
-use mathlib.Core.Path.{_≡_, refl, sym, ap, _∙_}
-use Rattle.model.specs.Stated.{reversed, clearedAs, compared, checked, packedAs}
-use Rattle.firmware.specs.Told.{refusalTold, placeTold, told, sizesTold, passedTold, verdictTold, passageTold, bytesTold}
-use Rattle.firmware.proofs.Telling.{refused-told}
+use mathlib.Core.Path.{sym, ap, _∙_}
+use Rattle.firmware.specs.Told.{refusalTold}
 use borrow.Author.Needs.{needs}
 use Rattle.firmware.proofs.numbers.of_refusal.Statement.{statement}
 use Rattle.firmware.proofs.numbers.of_refusal.Tie as tie
-use Rattle.firmware.proofs.numbers.of_refusal.Reads as reads
-use Rattle.firmware.proofs.numbers.of_refusal.Lts as lts
-use Rattle.firmware.proofs.numbers.alone.Reads as alone-reads
-use Rattle.firmware.proofs.numbers.with_pair.Reads as with-pair-reads
-use Rattle.firmware.proofs.numbers.with_place.Reads as with-place-reads
-use Rattle.firmware.proofs.numbers.with_triple.Reads as with-triple-reads
 
 enum-told : tie.Need-enum-told
 enum-told c = search needs

@@ -1,14 +1,11 @@
 -- `firmware::numbers::of_reversed` meets its contract.
-use mathlib.Core.Path.{_≡_, refl, sym, ap, _∙_}
-use Rattle.model.specs.Stated.{reversed, clearedAs, compared, checked, packedAs}
-use Rattle.firmware.specs.Told.{refusalTold, placeTold, told, sizesTold, passedTold, verdictTold, passageTold, bytesTold}
+use mathlib.Core.Path.{sym, ap, _∙_}
+use Rattle.model.specs.Stated.{reversed}
+use Rattle.firmware.specs.Told.{told, sizesTold}
 use Rattle.firmware.proofs.Telling.{refused-told}
 use borrow.Author.Needs.{needs}
 use Rattle.firmware.proofs.numbers.of_reversed.Statement.{statement}
 use Rattle.firmware.proofs.numbers.of_reversed.Tie as tie
-use Rattle.firmware.proofs.numbers.of_reversed.Reads as reads
-use Rattle.firmware.proofs.numbers.of_reversed.Lts as lts
-use Rattle.firmware.proofs.numbers.of_refusal.Reads as of-refusal-reads
 
 enum-known-answer : tie.Need-enum-known-answer
 enum-known-answer c = search needs

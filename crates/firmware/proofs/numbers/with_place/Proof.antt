@@ -1,15 +1,9 @@
 -- `firmware::numbers::with_place` meets its contract.
-use mathlib.Core.Path.{_≡_, refl, sym, ap, _∙_}
-use Rattle.model.specs.Stated.{reversed, clearedAs, compared, checked, packedAs}
-use Rattle.firmware.specs.Told.{refusalTold, placeTold, told, sizesTold, passedTold, verdictTold, passageTold, bytesTold}
-use Rattle.firmware.proofs.Telling.{refused-told}
+use mathlib.Core.Path.{sym, ap, _∙_}
+use Rattle.firmware.specs.Told.{placeTold}
 use borrow.Author.Needs.{needs}
 use Rattle.firmware.proofs.numbers.with_place.Statement.{statement}
 use Rattle.firmware.proofs.numbers.with_place.Tie as tie
-use Rattle.firmware.proofs.numbers.with_place.Reads as reads
-use Rattle.firmware.proofs.numbers.with_place.Lts as lts
-use Rattle.firmware.proofs.numbers.alone.Reads as alone-reads
-use Rattle.firmware.proofs.numbers.with_triple.Reads as with-triple-reads
 
 enum-told : tie.Need-enum-told
 enum-told c = search needs

@@ -1,8 +1,8 @@
 -- `images::entry_at` meets its contract.
-use mathlib.Core.Path.{_≡_, subst}
-use Prim.Native.Nat.{ℕ, _+_, _*_, _≤_}
+use mathlib.Core.Path.{subst}
+use Prim.Native.Nat.{_+_, _*_, _≤_}
 use native.Mathlib.Omega.{arith}
-use Rattle.images.specs.Chains.{EntryDone, HasEntry}
+use Rattle.images.specs.Chains.{EntryDone}
 use Rattle.images.proofs.Entries.{near, index-small, entry-before, entry-answer, entry-stands}
 use borrow.Author.Needs.{needs}
 use Rattle.images.proofs.chains.entry_at.Statement.{statement}

@@ -1,6 +1,6 @@
 -- `images::next_entry` meets its contract.
-use mathlib.Core.Path.{_≡_, sym, subst}
-use Prim.Native.Nat.{ℕ, _+_, _<_}
+use mathlib.Core.Path.{subst}
+use Prim.Native.Nat.{_+_}
 use native.Mathlib.Omega.{arith}
 use Rattle.images.specs.Fields.{FieldDone, FieldAt, LetterDone, LetterAt}
 use Rattle.images.proofs.Entries.{offset-ends, first-refused, second-refused, entry-read}

@@ -1,8 +1,8 @@
 -- `images::read_chain` meets its contract. The loop's invariant: what was read so far, and that the rest of the reading is left.
-use mathlib.Core.Path.{_≡_, refl, sym, subst, ap, _∙_}
+use mathlib.Core.Path.{sym, subst, _∙_}
 use native.Mathlib.Omega.{arith}
 use borrow.Author.Needs.{needs}
-use Prim.Native.Nat.{ℕ, _+_, _-_, _<_, _≤_}
+use Prim.Native.Nat.{_+_, _-_, _≤_}
 use Rattle.bits.proofs.Width.{width-small}
 use Rattle.images.specs.Fields.{FieldDone, FieldAt}
 use Rattle.model.specs.Images.{entryField}

@@ -1,7 +1,5 @@
 -- `images::next_letter` meets its contract.
-use mathlib.Core.Path.{_≡_, sym, subst}
-use native.Mathlib.Omega.{arith}
-use Prim.Native.Nat.{ℕ, _<_}
+use mathlib.Core.Path.{subst}
 use Rattle.images.specs.Fields.{FieldDone, FieldAt}
 use Rattle.images.proofs.Reading.{letter-answered, letter-wrong, letter-ends}
 use borrow.Author.Needs.{needs}

@@ -1,7 +1,7 @@
 -- `images::pack_cells` meets its contract. The loop's invariant: after the number of letters, the rows passed are written.
-use mathlib.Core.Path.{_≡_, refl, sym, ap, subst, _∙_}
-use mathlib.Core.List.{List, [], _++_}
-use Prim.Native.Nat.{ℕ, _+_, _-_, _*_, _≤_, _<_}
+use mathlib.Core.Path.{_≡_, refl, sym, subst, _∙_}
+use mathlib.Core.List.{List, []}
+use Prim.Native.Nat.{_+_, _-_, _*_, _≤_}
 use native.Mathlib.Omega.{arith}
 use borrow.Author.Needs.{needs}
 use lib.ListN.{length, take, getD}
@@ -10,7 +10,7 @@ use Rattle.model.specs.Enumeration.{concatMap}
 use Rattle.model.specs.Bits.{digits}
 use Rattle.model.specs.Images.{pairBits}
 use Rattle.bits.proofs.Width.{width-small}
-use Rattle.images.specs.Tables.{HoldsRow, Listed}
+use Rattle.images.specs.Tables.{Listed}
 use Rattle.images.specs.Bitwise.{AppendedTo}
 use Rattle.images.proofs.Plainly.{table-row, table-width, table-more, table-all}
 use Rattle.images.proofs.Packwise.{to-none, to-field, to-more}

@@ -1,13 +1,13 @@
 -- `images::pack_row` meets its contract. The loop's invariant: the pairs passed are written.
-use mathlib.Core.Path.{_≡_, refl, sym, ap, subst, _∙_}
-use mathlib.Core.List.{List, [], _++_}
-use Prim.Native.Nat.{ℕ, _+_, _-_, _*_, _≤_, _<_}
+use mathlib.Core.Path.{_≡_, refl, sym, subst, _∙_}
+use mathlib.Core.List.{List}
+use Prim.Native.Nat.{_+_, _-_, _*_, _≤_, _<_}
 use native.Mathlib.Omega.{arith}
 use lib.ListN.{length, take, getD}
 use Rattle.model.specs.Presentation.{Complement, undefined}
 use Rattle.model.specs.Enumeration.{concatMap}
 use Rattle.model.specs.Images.{pairBits}
-use Rattle.images.specs.Tables.{HoldsPair, HoldsRow, Listed}
+use Rattle.images.specs.Tables.{HoldsPair, HoldsRow}
 use Rattle.images.specs.Bitwise.{AppendedTo}
 use Rattle.images.proofs.Plainly.{row-pair, row-more, row-all}
 use Rattle.images.proofs.Packwise.{to-none, to-more}

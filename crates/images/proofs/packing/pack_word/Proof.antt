@@ -1,13 +1,12 @@
 -- `images::pack_word` meets its contract. The loop's invariant: after the length, the letters passed are written.
-use mathlib.Core.Path.{_≡_, refl, sym, ap, subst, _∙_}
-use mathlib.Core.List.{List, _++_}
-use Prim.Native.Nat.{ℕ, _+_, _-_, _*_, _≤_, _<_}
+use mathlib.Core.Path.{_≡_, refl, subst, _∙_}
+use Prim.Native.Nat.{_+_, _-_, _*_, _≤_, _<_}
 use native.Mathlib.Omega.{arith}
 use lib.ListN.{length, take, getD}
 use Rattle.model.specs.Word.{Positive}
 use Rattle.model.specs.Enumeration.{concatMap}
 use Rattle.model.specs.Bits.{digits}
-use Rattle.model.specs.Images.{letterBits, wordBits}
+use Rattle.model.specs.Images.{letterBits}
 use Rattle.images.specs.Cells.{HoldsWord}
 use Rattle.images.specs.Bitwise.{AppendedTo}
 use Rattle.images.proofs.Packwise.{to-none, to-field, to-more, letter-in, letters-more, letters-all}

@@ -1,14 +1,13 @@
 -- `images::read_plain_pair` meets its contract.
-use mathlib.Core.Path.{_≡_, refl, sym, subst, _∙_}
-use Prim.Native.Nat.{ℕ, _+_, _≤_, _<_}
+use mathlib.Core.Path.{refl, sym, subst, _∙_}
+use Prim.Native.Nat.{_+_, _<_}
 use native.Mathlib.Omega.{arith}
 use borrow.Author.Needs.{needs}
 use lib.ListN.{length, set, getD, length-set}
-use Rattle.model.specs.Plain.{plainLetters}
 use Rattle.images.specs.Cells.{cellAt}
-use Rattle.images.specs.Tables.{WordFrom, bytesFrom, PlainWordDone, PlainPairDone}
+use Rattle.images.specs.Tables.{PlainWordDone, PlainPairDone}
 use Rattle.images.specs.declared.tables.TablePart.the-variants.{Next}
-use Rattle.images.proofs.Pairs.{cell-inside, back-inside, pair-ends, plain-undefined, plain-first-refused, plain-second-ends, plain-second-done}
+use Rattle.images.proofs.Pairs.{pair-ends, plain-undefined, plain-first-refused, plain-second-ends, plain-second-done}
 use Rattle.images.proofs.plain.read_plain_pair.Statement.{statement}
 use Rattle.images.proofs.plain.read_plain_pair.Tie as tie
 

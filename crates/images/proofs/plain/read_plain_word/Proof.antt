@@ -1,9 +1,8 @@
 -- `images::read_plain_word` meets its contract. The loop's invariant: the letters read stand in the cell, and the rest of the reading is left.
 use mathlib.Core.Path.{_≡_, refl, _∙_}
-use Prim.Native.Nat.{ℕ, _+_, _-_, _≤_, _<_}
+use Prim.Native.Nat.{_+_, _-_, _<_}
 use native.Mathlib.Omega.{arith}
-use borrow.Author.Needs.{needs}
-use lib.ListN.{length, set, getD, length-set}
+use lib.ListN.{length, getD, length-set}
 use Rattle.model.specs.Plain.{plainLetter, plainLetters}
 use Rattle.images.specs.Tables.{bytesFrom}
 use Rattle.images.proofs.Words.{Filled, letters-none, letters-more, letters-refused, word-from, length-wrong, plain-word-is, letter-ends, letter-none, letter-large, letter-read}

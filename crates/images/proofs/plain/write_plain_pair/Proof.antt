@@ -1,15 +1,12 @@
 -- `images::write_plain_pair` meets its contract.
-use mathlib.Core.Path.{_≡_, refl, sym, ap, subst, _∙_}
-use mathlib.Core.List.{List, []}
-use Prim.Native.Nat.{ℕ, _+_, _-_, _*_, _≤_, _<_}
+use mathlib.Core.Path.{_≡_, sym, ap, subst, _∙_}
+use Prim.Native.Nat.{ℕ}
 use native.Mathlib.Omega.{arith}
-use lib.ListN.{length, take, set, getD, length-set, length-append}
+use lib.ListN.{getD, length-set}
 use Rattle.model.specs.Word.{Positive}
-use Rattle.model.specs.Presentation.{Complement, undefined, complement}
-use Rattle.model.specs.Enumeration.{concatMap}
+use Rattle.model.specs.Presentation.{complement}
 use Rattle.model.specs.Plain.{plainWord, plainPair}
-use Rattle.images.specs.Cells.{HoldsWord, Letters, cellAt}
-use Rattle.images.specs.Tables.{HoldsPair, HoldsRow}
+use Rattle.images.specs.Cells.{HoldsWord, cellAt}
 use Rattle.images.specs.Bytewise.{Wrote}
 use Rattle.images.proofs.Plainly.{wrote-more, undefined-wrote, both-words}
 use borrow.Author.Needs.{needs}

@@ -1,14 +1,12 @@
 -- `images::write_plain_row` meets its contract. The loop's invariant: the pairs passed are written.
-use mathlib.Core.Path.{_≡_, refl, sym, ap, subst, _∙_}
-use mathlib.Core.List.{List, []}
-use Prim.Native.Nat.{ℕ, _+_, _-_, _*_, _≤_, _<_}
+use mathlib.Core.Path.{_≡_, refl, sym, subst, _∙_}
+use mathlib.Core.List.{List}
+use Prim.Native.Nat.{_+_, _-_, _*_, _≤_, _<_}
 use native.Mathlib.Omega.{arith}
-use lib.ListN.{length, take, set, getD, length-set, length-append}
-use Rattle.model.specs.Word.{Positive}
-use Rattle.model.specs.Presentation.{Complement, undefined, complement}
+use lib.ListN.{length, take, getD}
+use Rattle.model.specs.Presentation.{Complement, undefined}
 use Rattle.model.specs.Enumeration.{concatMap}
-use Rattle.model.specs.Plain.{plainWord, plainPair}
-use Rattle.images.specs.Cells.{HoldsWord, Letters, cellAt}
+use Rattle.model.specs.Plain.{plainPair}
 use Rattle.images.specs.Tables.{HoldsPair, HoldsRow}
 use Rattle.images.specs.Bytewise.{Wrote}
 use Rattle.images.proofs.Plainly.{wrote-none, wrote-more, pair-short, row-pair, row-more, row-all}

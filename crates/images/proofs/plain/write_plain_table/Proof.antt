@@ -1,13 +1,13 @@
 -- `images::write_plain_table` meets its contract. The loop's invariant: after the number of letters, the rows passed are written.
-use mathlib.Core.Path.{_≡_, refl, sym, ap, subst, _∙_}
-use mathlib.Core.List.{List, [], _∷_, _++_}
-use Prim.Native.Nat.{ℕ, _+_, _-_, _*_, _≤_, _<_}
+use mathlib.Core.Path.{_≡_, refl, subst, _∙_}
+use mathlib.Core.List.{List, [], _∷_}
+use Prim.Native.Nat.{_+_, _-_, _*_, _≤_}
 use native.Mathlib.Omega.{arith}
 use lib.ListN.{length, take, set, getD, length-set}
 use Rattle.model.specs.Presentation.{Complement}
 use Rattle.model.specs.Enumeration.{concatMap}
 use Rattle.model.specs.Plain.{plainPair}
-use Rattle.images.specs.Tables.{HoldsRow, Listed}
+use Rattle.images.specs.Tables.{Listed}
 use Rattle.images.specs.Bytewise.{Wrote}
 use Rattle.images.proofs.Plainly.{wrote-byte, wrote-none, wrote-more, table-row, table-width, table-more, table-all}
 use Rattle.images.proofs.plain.write_plain_table.Statement.{statement}

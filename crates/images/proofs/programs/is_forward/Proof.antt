@@ -1,10 +1,10 @@
 -- `images::is_forward` meets its contract. The loop's invariant: the word is forward where what is left of it is.
-use mathlib.Core.Path.{_≡_, refl, sym, ap, subst, _∙_}
-use Prim.Native.Nat.{ℕ, _+_, _-_, _≤_, _<_}
+use mathlib.Core.Path.{_≡_, refl, sym, subst, _∙_}
+use Prim.Native.Nat.{_-_, _≤_, _<_}
 use native.Mathlib.Omega.{arith}
 use borrow.Author.Needs.{needs}
-use lib.ListN.{length, drop, getD}
-use Rattle.model.specs.Word.{Word, byte, forward}
+use lib.ListN.{length, drop}
+use Rattle.model.specs.Word.{Word}
 use Rattle.model.specs.Outcome.{answered}
 use Rattle.model.specs.Images.{readProgram}
 use Rattle.model.specs.Services.{isForward}

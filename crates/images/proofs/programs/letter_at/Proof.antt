@@ -1,8 +1,8 @@
 -- `images::letter_at` meets its contract.
-use mathlib.Core.Path.{_≡_, subst}
-use Prim.Native.Nat.{ℕ, _+_, _*_, _≤_}
+use mathlib.Core.Path.{subst}
+use Prim.Native.Nat.{_+_, _*_, _≤_}
 use native.Mathlib.Omega.{arith}
-use Rattle.images.specs.Programs.{SignedDone, HasLetter}
+use Rattle.images.specs.Programs.{SignedDone}
 use Rattle.images.proofs.Letters.{near, index-small, letter-before, letter-answer, letter-stands}
 use borrow.Author.Needs.{needs}
 use Rattle.images.proofs.programs.letter_at.Statement.{statement}

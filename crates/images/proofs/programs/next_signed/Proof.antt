@@ -1,7 +1,7 @@
 -- `images::next_signed` meets its contract.
-use mathlib.Core.Path.{_≡_, sym, subst}
+use mathlib.Core.Path.{subst}
 use native.Mathlib.Omega.{arith}
-use Prim.Native.Nat.{ℕ, _+_, _<_}
+use Prim.Native.Nat.{_+_}
 use Rattle.images.specs.Fields.{FieldDone, FieldAt, LetterDone, LetterAt}
 use Rattle.images.proofs.Signed.{sign-ends, number-refused, signed-forward, signed-back}
 use borrow.Author.Needs.{needs}

@@ -1,5 +1,5 @@
 -- `images::read_forward` meets its contract.
-use mathlib.Core.Path.{_≡_, sym, subst, _∙_}
+use mathlib.Core.Path.{sym, subst, _∙_}
 use Rattle.images.specs.Programs.{ProgramDone, ProgramOf}
 use Rattle.images.proofs.Forward.{forward-refused, forward-read, back-read}
 use borrow.Author.Needs.{needs}

@@ -1,11 +1,11 @@
 -- `images::unpack_letters` meets its contract. The loop's invariant: the bytes passed stand in the area, which else is as it was.
-use mathlib.Core.Path.{_≡_, refl, sym, ap, subst, _∙_}
-use Prim.Native.Nat.{ℕ, _+_, _-_, _≤_, _<_}
+use mathlib.Core.Path.{_≡_, refl, ap, _∙_}
+use Prim.Native.Nat.{_+_, _-_, _≤_}
 use native.Mathlib.Omega.{arith}
 use borrow.Author.Needs.{needs}
-use lib.ListN.{length, set, getD, length-set}
+use lib.ListN.{length, set, length-set}
 use lib.Seq.{paste, paste-zero}
-use Rattle.model.specs.Word.{Word, byte, forward}
+use Rattle.model.specs.Word.{Word}
 use Rattle.model.specs.Outcome.{answered}
 use Rattle.model.specs.Images.{readProgram}
 use Rattle.model.specs.Plain.{plainProgram}

@@ -1,11 +1,11 @@
 -- `images::read_pair` meets its contract.
-use mathlib.Core.Path.{_≡_, refl, sym, ap, subst, _∙_}
-use Prim.Native.Nat.{ℕ, _+_, _-_, _≤_, _<_}
+use mathlib.Core.Path.{refl, sym, subst, _∙_}
+use Prim.Native.Nat.{_+_}
 use native.Mathlib.Omega.{arith}
-use lib.ListN.{length, set, length-set}
+use lib.ListN.{set, length-set}
 use Rattle.images.specs.Fields.{FieldDone, FieldAt}
 use Rattle.images.specs.Cells.{cellAt}
-use Rattle.images.specs.Tables.{WordDone, WordAt, PairAt, PairDone}
+use Rattle.images.specs.Tables.{WordDone, WordAt, PairAt}
 use Rattle.images.proofs.Pairs.{bit-ends, cell-inside, back-inside, pair-undefined, first-refused, second-done}
 use borrow.Author.Needs.{needs}
 use Rattle.images.proofs.tables.read_pair.Statement.{statement}

@@ -1,9 +1,9 @@
 -- `images::read_word` meets its contract. The loop's invariant: the letters read stand in the cell, and the rest of the reading is left.
-use mathlib.Core.Path.{_≡_, refl, sym, ap, subst, _∙_}
-use Prim.Native.Nat.{ℕ, _+_, _-_, _*_, _≤_, _<_}
+use mathlib.Core.Path.{refl, subst, _∙_}
+use Prim.Native.Nat.{_+_, _-_, _*_, _≤_, _<_}
 use native.Mathlib.Omega.{arith}
 use borrow.Author.Needs.{needs}
-use lib.ListN.{length, set, length-set}
+use lib.ListN.{length, length-set}
 use Rattle.model.specs.Images.{letterField, wordField}
 use Rattle.images.specs.Fields.{FieldDone, FieldAt, LetterDone, LetterAt, from}
 use Rattle.images.proofs.Words.{Filled, length-ends, word-is, letters-none, letters-more, letters-refused, word-from}

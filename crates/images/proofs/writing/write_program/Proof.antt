@@ -1,16 +1,15 @@
 -- `images::write_program` meets its contract. The loop's invariant: after the count, the letters passed are written.
-use mathlib.Core.Path.{_≡_, refl, sym, ap, subst, _∙_}
-use Prim.Native.Nat.{ℕ, suc, _+_, _-_, _*_, _≤_, _<_}
+use mathlib.Core.Path.{_≡_, sym, subst, _∙_}
+use Prim.Native.Nat.{suc, _+_, _-_, _*_, _≤_}
 use native.Mathlib.Omega.{arith}
 use native.Mathlib.Nat.{suc-mul, mul-le-mul-right}
-use native.Mathlib.Numerals.{add-one}
 use borrow.Author.Needs.{needs}
 use lib.ListN.{length, getD}
 use Rattle.model.specs.Word.{letter}
 use Rattle.model.specs.Bits.{digits}
 use Rattle.model.specs.Images.{signedBits}
 use Rattle.bits.proofs.Width.{width-small}
-use Rattle.images.specs.Written.{Appended, programBits}
+use Rattle.images.specs.Written.{Appended}
 use Rattle.images.proofs.Letters.{near}
 use Rattle.images.proofs.Appending.{appended-field, appended-none, appended-more, firstBits, first-length, first-more, first-none, first-all}
 use Rattle.images.proofs.writing.write_program.Statement.{statement}

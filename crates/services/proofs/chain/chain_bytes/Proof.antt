@@ -1,15 +1,12 @@
 -- `services::chain::chain_bytes` meets its contract.
 use mathlib.Core.Path.{ap}
-use Prim.Native.Nat.{ℕ, _+_, _*_, _/_, _≤_}
+use Prim.Native.Nat.{_+_, _*_, _/_, _≤_}
 use native.Mathlib.Nat.{mul-le-mul-left}
 use native.Mathlib.Omega.{arith}
 use Rattle.bits.proofs.Width.{width-small}
 use borrow.Author.Needs.{needs}
 use Rattle.services.proofs.chain.chain_bytes.Statement.{statement}
 use Rattle.services.proofs.chain.chain_bytes.Tie as tie
-use Rattle.services.proofs.chain.chain_bytes.Reads as reads
-use Rattle.services.proofs.chain.chain_bytes.Lts as lts
-use Rattle.bits.proofs.letter_width.Reads as letter-width-reads
 
 letter-width-requires : tie.Need-letter-width-requires
 letter-width-requires c κs = search needs

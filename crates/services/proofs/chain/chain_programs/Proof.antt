@@ -2,7 +2,7 @@
 use mathlib.Core.Path.{_≡_, refl, sym, ap, subst, _∙_}
 use mathlib.Core.List.{[], _∷_}
 use mathlib.Core.Logic.{⊎-elim}
-use Prim.Native.Nat.{ℕ, _+_, _-_, _≤_}
+use Prim.Native.Nat.{_-_}
 use native.Mathlib.Omega.{arith}
 use denote.Enum.Declared.{tagOf}
 use types.Run.{OneOf}
@@ -19,14 +19,6 @@ use Rattle.services.proofs.ChainService.{NotSame, lists-nothing, area-t
 use borrow.Author.Needs.{needs}
 use Rattle.services.proofs.chain.chain_programs.Statement.{statement}
 use Rattle.services.proofs.chain.chain_programs.Tie as tie
-use Rattle.services.proofs.chain.chain_programs.Reads as reads
-use Rattle.services.proofs.chain.chain_programs.Lts as lts
-use Rattle.chains.proofs.listing.list.Reads as list-reads
-use Rattle.services.proofs.areas.wipe.Reads as wipe-reads
-use Rattle.services.proofs.chain.chain_bytes.Reads as chain-bytes-reads
-use Rattle.services.proofs.compare.compare_programs.Reads as compare-programs-reads
-use Rattle.services.proofs.compare.load_pair.Reads as load-pair-reads
-use Rattle.services.proofs.compare.told.Reads as told-reads
 
 compare-programs-requires : tie.Need-compare-programs-requires
 compare-programs-requires c κs = search needs

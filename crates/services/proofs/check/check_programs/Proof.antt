@@ -1,15 +1,11 @@
 -- `services::check::check_programs` meets its contract.
-use mathlib.Core.Path.{_≡_, refl, sym, ap, subst, _∙_}
+use mathlib.Core.Path.{sym, ap, _∙_}
 use lib.ListN.{length, replicate}
 use Rattle.model.specs.Areas.{workspaceAfter}
 use Rattle.services.proofs.CheckService.{passage-wipes}
 use borrow.Author.Needs.{needs}
 use Rattle.services.proofs.check.check_programs.Statement.{statement}
 use Rattle.services.proofs.check.check_programs.Tie as tie
-use Rattle.services.proofs.check.check_programs.Reads as reads
-use Rattle.services.proofs.check.check_programs.Lts as lts
-use Rattle.services.proofs.areas.wipe.Reads as wipe-reads
-use Rattle.services.proofs.check.pass.Reads as pass-reads
 
 pass-requires : tie.Need-pass-requires
 pass-requires c κs = search needs

@@ -1,9 +1,9 @@
 -- `services::check::pass` meets its contract.
 use mathlib.Core.Path.{_≡_, refl, sym, ap, subst, _∙_}
-use Prim.Native.Nat.{ℕ, _+_, _-_, _≤_, _<_}
+use Prim.Native.Nat.{_+_, _-_}
 use native.Mathlib.Omega.{arith}
-use lib.ListN.{length, take}
-use Rattle.model.specs.Word.{Positive, positive}
+use lib.ListN.{length}
+use Rattle.model.specs.Word.{positive}
 use mathlib.Core.Bool.{cond}
 use Rattle.model.specs.Equivalence.{equal}
 use Rattle.model.specs.Outcome.{answered}
@@ -15,12 +15,6 @@ use Rattle.services.proofs.CheckService.{forward-count, loaded, loaded-
 use borrow.Author.Needs.{needs}
 use Rattle.services.proofs.check.pass.Statement.{statement}
 use Rattle.services.proofs.check.pass.Tie as tie
-use Rattle.services.proofs.check.pass.Reads as reads
-use Rattle.services.proofs.check.pass.Lts as lts
-use Rattle.images.proofs.programs.unpack_letters.Reads as unpack-letters-reads
-use Rattle.swaps.proofs.follow.follow.Reads as follow-reads
-use Rattle.swaps.proofs.follow.spells.Reads as spells-reads
-use Rattle.swaps.proofs.held.carry.Reads as carry-reads
 
 returns : tie.Need-returns
 returns c =

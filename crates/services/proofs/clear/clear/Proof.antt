@@ -11,10 +11,6 @@ use Rattle.services.proofs.ClearService.{clear-no-table, clear-runs}
 use borrow.Author.Needs.{needs}
 use Rattle.services.proofs.clear.clear.Statement.{statement}
 use Rattle.services.proofs.clear.clear.Tie as tie
-use Rattle.services.proofs.clear.clear.Reads as reads
-use Rattle.services.proofs.clear.clear.Lts as lts
-use Rattle.services.proofs.clear.clear_cells.Reads as clear-cells-reads
-use Rattle.services.proofs.loading.load_table.Reads as load-table-reads
 
 slice-aggregate-load-table : tie.Need-slice-aggregate-load-table
 slice-aggregate-load-table c = search needs

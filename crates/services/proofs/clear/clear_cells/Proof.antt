@@ -8,12 +8,6 @@ use Rattle.services.proofs.ClearService.{lengths-refuse, triples-clear,
 use borrow.Author.Needs.{needs}
 use Rattle.services.proofs.clear.clear_cells.Statement.{statement}
 use Rattle.services.proofs.clear.clear_cells.Tie as tie
-use Rattle.services.proofs.clear.clear_cells.Reads as reads
-use Rattle.services.proofs.clear.clear_cells.Lts as lts
-use Rattle.checks.proofs.table.check_lengths.Reads as check-lengths-reads
-use Rattle.checks.proofs.table.check_triples.Reads as check-triples-reads
-use Rattle.services.proofs.areas.wipe.Reads as wipe-reads
-use Rattle.services.proofs.clear.triples_answer.Reads as triples-answer-reads
 
 check-lengths-requires : tie.Need-check-lengths-requires
 check-lengths-requires c κs = search needs

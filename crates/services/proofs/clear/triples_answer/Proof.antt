@@ -5,8 +5,6 @@ use Rattle.services.specs.Clear.{triplesRefusal}
 use borrow.Author.Needs.{needs}
 use Rattle.services.proofs.clear.triples_answer.Statement.{statement}
 use Rattle.services.proofs.clear.triples_answer.Tie as tie
-use Rattle.services.proofs.clear.triples_answer.Reads as reads
-use Rattle.services.proofs.clear.triples_answer.Lts as lts
 
 enum-told : tie.Need-enum-told
 enum-told c = search needs

@@ -1,6 +1,5 @@
 -- `services::compare::compare_programs` meets its contract.
-use mathlib.Core.Path.{_≡_, refl, sym, ap, subst, _∙_}
-use Prim.Native.Nat.{ℕ, _+_, _-_, _≤_}
+use mathlib.Core.Path.{_≡_, sym, ap, subst, _∙_}
 use native.Mathlib.Omega.{arith}
 use lib.ListN.{length, replicate, length-replicate}
 use Rattle.model.specs.Presentation.{Presentation}
@@ -16,12 +15,6 @@ use Rattle.services.proofs.Comparing.{comparison-refused, unequal-progr
 use borrow.Author.Needs.{needs}
 use Rattle.services.proofs.compare.compare_programs.Statement.{statement}
 use Rattle.services.proofs.compare.compare_programs.Tie as tie
-use Rattle.services.proofs.compare.compare_programs.Reads as reads
-use Rattle.services.proofs.compare.compare_programs.Lts as lts
-use Rattle.services.proofs.areas.wipe.Reads as wipe-reads
-use Rattle.services.proofs.clear.clear_cells.Reads as clear-cells-reads
-use Rattle.services.proofs.compare.judge.Reads as judge-reads
-use Rattle.services.proofs.compare.run_pair.Reads as run-pair-reads
 
 clear-cells-requires : tie.Need-clear-cells-requires
 clear-cells-requires c κs = search needs

@@ -6,9 +6,6 @@ use Rattle.services.proofs.Comparing.{judged-unequal, judged-same, judg
 use borrow.Author.Needs.{needs}
 use Rattle.services.proofs.compare.judge.Statement.{statement}
 use Rattle.services.proofs.compare.judge.Tie as tie
-use Rattle.services.proofs.compare.judge.Reads as reads
-use Rattle.services.proofs.compare.judge.Lts as lts
-use Rattle.services.proofs.reverse.stop_refusal.Reads as stop-refusal-reads
 
 enum-known-ending : tie.Need-enum-known-ending
 enum-known-ending c = search needs

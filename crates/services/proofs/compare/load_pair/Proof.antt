@@ -1,18 +1,12 @@
 -- `services::compare::load_pair` meets its contract.
-use mathlib.Core.Path.{_≡_, refl, sym, ap, subst, _∙_}
-use Prim.Native.Nat.{ℕ, _+_, _-_, _≤_}
+use mathlib.Core.Path.{_≡_, _∙_}
 use native.Mathlib.Omega.{arith}
-use lib.ListN.{length, replicate}
 use Rattle.model.specs.Word.{positive}
 use Rattle.engine.proofs.Lettering.{length-positive}
 use Rattle.services.proofs.Pairs.{loads-pair}
 use borrow.Author.Needs.{needs}
 use Rattle.services.proofs.compare.load_pair.Statement.{statement}
 use Rattle.services.proofs.compare.load_pair.Tie as tie
-use Rattle.services.proofs.compare.load_pair.Reads as reads
-use Rattle.services.proofs.compare.load_pair.Lts as lts
-use Rattle.checks.proofs.words.invert.Reads as invert-reads
-use Rattle.images.proofs.programs.unpack_letters.Reads as unpack-letters-reads
 
 sub-right : tie.Need-sub-right
 sub-right c = search needs

@@ -1,17 +1,12 @@
 -- `services::compare::run_pair` meets its contract.
-use mathlib.Core.Path.{_≡_, refl, sym, ap, subst, _∙_}
-use Prim.Native.Nat.{ℕ, _+_, _-_, _≤_}
+use mathlib.Core.Path.{_≡_, refl, ap, subst, _∙_}
 use native.Mathlib.Omega.{arith}
-use lib.ListN.{length, replicate}
+use lib.ListN.{length}
 use Rattle.engine.specs.Run.{Reverses}
 use Rattle.services.proofs.Pairs.{pair-too-long}
 use borrow.Author.Needs.{needs}
 use Rattle.services.proofs.compare.run_pair.Statement.{statement}
 use Rattle.services.proofs.compare.run_pair.Tie as tie
-use Rattle.services.proofs.compare.run_pair.Reads as reads
-use Rattle.services.proofs.compare.run_pair.Lts as lts
-use Rattle.engine.proofs.run.reversing.Reads as reversing-reads
-use Rattle.services.proofs.compare.load_pair.Reads as load-pair-reads
 
 add-if1 : tie.Need-add-if1
 add-if1 c = search needs

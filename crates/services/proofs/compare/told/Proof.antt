@@ -4,8 +4,6 @@ use Rattle.services.specs.Compare.{toldAs}
 use borrow.Author.Needs.{needs}
 use Rattle.services.proofs.compare.told.Statement.{statement}
 use Rattle.services.proofs.compare.told.Tie as tie
-use Rattle.services.proofs.compare.told.Reads as reads
-use Rattle.services.proofs.compare.told.Lts as lts
 
 enum-known-judgement : tie.Need-enum-known-judgement
 enum-known-judgement c = search needs

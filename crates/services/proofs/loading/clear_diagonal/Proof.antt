@@ -1,16 +1,12 @@
 -- `services::loading::clear_diagonal` meets its contract.
-use mathlib.Core.Path.{_≡_, refl, sym, ap, subst, _∙_}
-use Prim.Native.Nat.{ℕ, _+_, _-_, _≤_, _<_}
+use mathlib.Core.Path.{_≡_, sym, subst}
+use Prim.Native.Nat.{_+_, _-_, _≤_}
 use native.Mathlib.Omega.{arith}
-use lib.ListN.{length, set}
-use Rattle.engine.specs.Cells.{InRange, cellAt}
+use lib.ListN.{set}
 use Rattle.services.specs.Loading.{Diagonal}
 use Rattle.services.proofs.Tables.{diagonal-none, diagonal-more}
 use Rattle.services.proofs.loading.clear_diagonal.Statement.{statement}
 use Rattle.services.proofs.loading.clear_diagonal.Tie as tie
-use Rattle.services.proofs.loading.clear_diagonal.Reads as reads
-use Rattle.services.proofs.loading.clear_diagonal.Lts as lts
-use Rattle.engine.proofs.cells.cell_at.Reads as cell-at-reads
 
 abbrev Inv-loop : tie.InvT-loop
 Inv-loop cells₀ a₀ cells a = (1 ≤ a) × (a ≤ 17) × Diagonal cells₀ cells (a - 1)

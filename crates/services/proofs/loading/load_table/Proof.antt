@@ -4,10 +4,6 @@ use Rattle.services.proofs.Tables.{table-loaded}
 use borrow.Author.Needs.{needs}
 use Rattle.services.proofs.loading.load_table.Statement.{statement}
 use Rattle.services.proofs.loading.load_table.Tie as tie
-use Rattle.services.proofs.loading.load_table.Reads as reads
-use Rattle.services.proofs.loading.load_table.Lts as lts
-use Rattle.images.proofs.tables.read_table.Reads as read-table-reads
-use Rattle.services.proofs.loading.clear_diagonal.Reads as clear-diagonal-reads
 
 read-table-requires : tie.Need-read-table-requires
 read-table-requires c κs = search needs

@@ -1,6 +1,6 @@
 -- `services::loading::run_program` meets its contract.
 use mathlib.Core.Path.{_≡_, refl, sym, ap, subst, _∙_}
-use Prim.Native.Nat.{ℕ, _+_, _-_}
+use Prim.Native.Nat.{_+_, _-_}
 use native.Mathlib.Omega.{arith}
 use lib.ListN.{length}
 use Rattle.model.specs.Presentation.{Presentation}
@@ -12,10 +12,6 @@ use Rattle.services.proofs.Programs.{too-long, word-searched, word-serv
 use borrow.Author.Needs.{needs}
 use Rattle.services.proofs.loading.run_program.Statement.{statement}
 use Rattle.services.proofs.loading.run_program.Tie as tie
-use Rattle.services.proofs.loading.run_program.Reads as reads
-use Rattle.services.proofs.loading.run_program.Lts as lts
-use Rattle.engine.proofs.run.reversing.Reads as reversing-reads
-use Rattle.images.proofs.programs.unpack_letters.Reads as unpack-letters-reads
 
 returns : tie.Need-returns
 returns c =

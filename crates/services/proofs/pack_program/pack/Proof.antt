@@ -1,13 +1,12 @@
 -- `services::pack_program::pack` meets its contract.
 use mathlib.Core.Path.{_≡_, sym, ap, subst, _∙_}
 use mathlib.Core.List.{map}
-use Prim.Native.Nat.{ℕ, _+_, _-_, _*_, _≤_, _<_}
+use Prim.Native.Nat.{_+_, _-_, _*_, _≤_}
 use native.Mathlib.Omega.{arith}
 use lib.ListN.{length, set, length-set}
 use Rattle.model.specs.declared.answers.Refusal.the-variants.{AnswerShort}
 use Rattle.model.specs.Word.{letter}
-use Rattle.model.specs.Bits.{bytesFor, pack, letterWidth}
-use Rattle.model.specs.Images.{programImage}
+use Rattle.model.specs.Bits.{bytesFor, pack}
 use Rattle.model.specs.Services.{packProgram}
 use Rattle.bits.proofs.Width.{width-small}
 use Rattle.bits.proofs.Packing.{length-packed}

@@ -1,7 +1,7 @@
 -- `services::pack_table::pack` meets its contract.
 use mathlib.Core.Path.{_≡_, refl, sym, ap, subst, _∙_}
 use mathlib.Core.List.{List, _++_}
-use Prim.Native.Nat.{ℕ, _+_, _-_, _/_, _≤_, _<_}
+use Prim.Native.Nat.{ℕ, _-_, _≤_}
 use native.Mathlib.Omega.{arith}
 use borrow.Author.Needs.{needs}
 use lib.ListN.{length, take, drop}
@@ -12,8 +12,6 @@ use Rattle.model.specs.Images.{pairBits, tableImage}
 use Rattle.model.specs.Services.{packTable}
 use Rattle.bits.proofs.Packing.{AreBytes, length-packed}
 use Rattle.images.specs.Tables.{PlainTableDone, PlainTableOf}
-use Rattle.images.specs.Bytewise.{HoldsSomeTable}
-use Rattle.images.specs.Bitwise.{AppendedTo}
 use Rattle.images.proofs.Appending.{bytes-first, zero-image, table-bits, table-image}
 use Rattle.services.proofs.Packing.{refused-keeps, answered-writes, short-area, long-area, plain-refused, plain-read}
 use Rattle.services.proofs.pack_table.pack.Statement.{statement}

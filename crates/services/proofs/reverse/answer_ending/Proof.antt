@@ -1,6 +1,6 @@
 -- `services::reverse::answer_ending` meets its contract.
 use mathlib.Core.Path.{sym, subst}
-use Prim.Native.Nat.{ℕ, _+_, _≤_}
+use Prim.Native.Nat.{_+_, _≤_}
 use native.Mathlib.Omega.{arith}
 use lib.ListN.{length}
 use Rattle.model.specs.declared.answers.Reversed.the-variants.{Refused}
@@ -10,10 +10,6 @@ use Rattle.services.proofs.Answers.{area-short, answer-written, met-ope
 use borrow.Author.Needs.{needs}
 use Rattle.services.proofs.reverse.answer_ending.Statement.{statement}
 use Rattle.services.proofs.reverse.answer_ending.Tie as tie
-use Rattle.services.proofs.reverse.answer_ending.Reads as reads
-use Rattle.services.proofs.reverse.answer_ending.Lts as lts
-use Rattle.services.proofs.areas.write_fraction.Reads as write-fraction-reads
-use Rattle.services.proofs.reverse.stop_refusal.Reads as stop-refusal-reads
 
 enum-known-ending : tie.Need-enum-known-ending
 enum-known-ending c = search needs

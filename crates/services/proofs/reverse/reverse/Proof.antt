@@ -16,11 +16,6 @@ use Rattle.services.proofs.ReverseService.{reverse-no-table, reverse-no
 use borrow.Author.Needs.{needs}
 use Rattle.services.proofs.reverse.reverse.Statement.{statement}
 use Rattle.services.proofs.reverse.reverse.Tie as tie
-use Rattle.services.proofs.reverse.reverse.Reads as reads
-use Rattle.services.proofs.reverse.reverse.Lts as lts
-use Rattle.images.proofs.programs.read_program.Reads as read-program-reads
-use Rattle.services.proofs.loading.load_table.Reads as load-table-reads
-use Rattle.services.proofs.reverse.reverse_program.Reads as reverse-program-reads
 
 slice-aggregate-load-table : tie.Need-slice-aggregate-load-table
 slice-aggregate-load-table c = search needs

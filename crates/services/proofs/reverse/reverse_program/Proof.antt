@@ -6,11 +6,6 @@ use Rattle.services.proofs.Answers.{finishable}
 use borrow.Author.Needs.{needs}
 use Rattle.services.proofs.reverse.reverse_program.Statement.{statement}
 use Rattle.services.proofs.reverse.reverse_program.Tie as tie
-use Rattle.services.proofs.reverse.reverse_program.Reads as reads
-use Rattle.services.proofs.reverse.reverse_program.Lts as lts
-use Rattle.services.proofs.areas.wipe.Reads as wipe-reads
-use Rattle.services.proofs.loading.run_program.Reads as run-program-reads
-use Rattle.services.proofs.reverse.answer_ending.Reads as answer-ending-reads
 
 run-program-requires : tie.Need-run-program-requires
 run-program-requires c κs = search needs

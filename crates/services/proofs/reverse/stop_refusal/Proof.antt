@@ -4,8 +4,6 @@ use Rattle.services.specs.Reverse.{stopRefusal}
 use borrow.Author.Needs.{needs}
 use Rattle.services.proofs.reverse.stop_refusal.Statement.{statement}
 use Rattle.services.proofs.reverse.stop_refusal.Tie as tie
-use Rattle.services.proofs.reverse.stop_refusal.Reads as reads
-use Rattle.services.proofs.reverse.stop_refusal.Lts as lts
 
 enum-told : tie.Need-enum-told
 enum-told c = search needs

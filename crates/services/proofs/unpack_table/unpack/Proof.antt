@@ -1,7 +1,7 @@
 -- `services::unpack_table::unpack` meets its contract.
 use mathlib.Core.Path.{_≡_, refl, sym, ap, subst, _∙_}
-use mathlib.Core.List.{List, _∷_, _++_}
-use Prim.Native.Nat.{ℕ, _+_, _≤_, _<_}
+use mathlib.Core.List.{_∷_, _++_}
+use Prim.Native.Nat.{_≤_}
 use native.Mathlib.Omega.{arith}
 use lib.ListN.{length, drop}
 use Rattle.model.specs.declared.answers.Refusal.the-variants.{AnswerShort}
@@ -9,7 +9,6 @@ use Rattle.model.specs.Enumeration.{concatMap}
 use Rattle.model.specs.Plain.{plainPair, plainTable}
 use Rattle.model.specs.Services.{unpackTable}
 use Rattle.images.specs.Tables.{TableDone, TableOf}
-use Rattle.images.specs.Bytewise.{Wrote}
 use Rattle.services.proofs.Packing.{refused-keeps, answered-writes, short-area, long-area, table-refused, table-read, plain-bytes, taken-first}
 use borrow.Author.Needs.{needs}
 use Rattle.services.proofs.unpack_table.unpack.Statement.{statement}

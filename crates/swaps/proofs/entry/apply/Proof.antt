@@ -1,9 +1,8 @@
 -- `swaps::entry::apply` meets its contract.
-use mathlib.Core.Path.{_≡_, refl, sym, ap, subst, _∙_}
-use Prim.Native.Nat.{ℕ, _+_, _-_, _≤_, _<_}
+use mathlib.Core.Path.{refl, sym, subst, _∙_}
+use Prim.Native.Nat.{_+_}
 use native.Mathlib.Omega.{arith}
 use borrow.Author.Tests.{not-true, not-false}
-use lib.ListN.{length, take, drop, getD}
 use Rattle.engine.specs.Cells.{InRange}
 use Rattle.images.specs.Chains.{entryOf}
 use Rattle.swaps.specs.Held.{heldAt}
@@ -12,12 +11,6 @@ use Rattle.swaps.proofs.Putting.{word-length}
 use borrow.Author.Needs.{needs}
 use Rattle.swaps.proofs.entry.apply.Statement.{statement}
 use Rattle.swaps.proofs.entry.apply.Tie as tie
-use Rattle.swaps.proofs.entry.apply.Reads as reads
-use Rattle.swaps.proofs.entry.apply.Lts as lts
-use Rattle.engine.proofs.cells.cell_at.Reads as cell-at-reads
-use Rattle.swaps.proofs.entry.replace.Reads as replace-reads
-use Rattle.swaps.proofs.held.carry.Reads as carry-reads
-use Rattle.swaps.proofs.side.stands_at.Reads as stands-at-reads
 
 cast-offset : tie.Need-cast-offset
 cast-offset c = search needs

@@ -1,16 +1,13 @@
 -- `swaps::entry::replace` meets its contract.
-use mathlib.Core.Path.{_≡_, refl, sym, ap, _∙_}
-use Prim.Native.Nat.{ℕ, _+_, _-_, _≤_, _<_}
+use mathlib.Core.Path.{refl}
+use Prim.Native.Nat.{_+_, _≤_}
 use native.Mathlib.Omega.{arith}
-use lib.ListN.{length, take, drop}
+use lib.ListN.{take, drop}
 use Rattle.swaps.proofs.Putting.{word-length}
 use Rattle.swaps.proofs.Replacing.{too-long, after-length, holds-made}
 use borrow.Author.Needs.{needs}
 use Rattle.swaps.proofs.entry.replace.Statement.{statement}
 use Rattle.swaps.proofs.entry.replace.Tie as tie
-use Rattle.swaps.proofs.entry.replace.Reads as reads
-use Rattle.swaps.proofs.entry.replace.Lts as lts
-use Rattle.swaps.proofs.side.put_side.Reads as put-side-reads
 
 add-end : tie.Need-add-end
 add-end c = search needs

@@ -1,7 +1,7 @@
 -- `swaps::follow::follow` meets its contract. The loop's invariant: what is left is to follow the entries from i on, from the word in the area.
 use mathlib.Core.Path.{_≡_, refl, sym, ap, subst, _∙_}
 use mathlib.Core.List.{List}
-use Prim.Native.Nat.{ℕ, _+_, _-_, _≤_, _<_}
+use Prim.Native.Nat.{_-_, _≤_}
 use native.Mathlib.Omega.{arith}
 use borrow.Author.Needs.{needs}
 use lib.ListN.{length, drop, getD}
@@ -23,11 +23,6 @@ use Rattle.swaps.proofs.Applying.{held-length}
 use Rattle.swaps.proofs.Following.{blank, entry-in-range, the-entries, follow-end, follow-breaks, follow-short, follow-on}
 use Rattle.swaps.proofs.follow.follow.Statement.{statement}
 use Rattle.swaps.proofs.follow.follow.Tie as tie
-use Rattle.swaps.proofs.follow.follow.Reads as reads
-use Rattle.swaps.proofs.follow.follow.Lts as lts
-use Rattle.bits.proofs.letter_width.Reads as letter-width-reads
-use Rattle.images.proofs.chains.entry_at.Reads as entry-at-reads
-use Rattle.swaps.proofs.entry.apply.Reads as apply-reads
 
 abbrev Inv-loop : tie.InvT-loop
 Inv-loop cells size chain count bytes₀ width left₀ right₀ i₀ bytes left right i =

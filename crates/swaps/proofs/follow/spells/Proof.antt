@@ -1,10 +1,9 @@
 -- `swaps::follow::spells` meets its contract.
-use mathlib.Core.Path.{_≡_, refl, sym, ap, _∙_}
-use mathlib.Core.List.{_∷_}
-use Prim.Native.Nat.{ℕ, _+_, _-_, _≤_, _<_}
+use mathlib.Core.Path.{_≡_, sym, ap, _∙_}
+use Prim.Native.Nat.{_-_, _≤_}
 use native.Mathlib.Omega.{arith}
 use borrow.Author.Needs.{needs}
-use lib.ListN.{length, take, drop, getD, length-take}
+use lib.ListN.{length, take, getD, length-take}
 use Rattle.model.specs.Word.{Positive, positive}
 use Rattle.model.specs.Equivalence.{equal}
 use Rattle.model.specs.Outcome.{answered}
@@ -14,10 +13,6 @@ use Rattle.engine.proofs.Lettering.{length-positive}
 use Rattle.swaps.proofs.Comparing.{lengths-differ, number-at, spelled-start, spelled-more, spelled-fails, Rest, rest-done}
 use Rattle.swaps.proofs.follow.spells.Statement.{statement}
 use Rattle.swaps.proofs.follow.spells.Tie as tie
-use Rattle.swaps.proofs.follow.spells.Reads as reads
-use Rattle.swaps.proofs.follow.spells.Lts as lts
-use Rattle.bits.proofs.letter_width.Reads as letter-width-reads
-use Rattle.images.proofs.programs.letter_at.Reads as letter-at-reads
 
 abbrev Inv-loop : tie.InvT-loop
 Inv-loop bytes letters program size count width i₀ i =

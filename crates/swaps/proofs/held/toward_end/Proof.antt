@@ -1,14 +1,11 @@
 -- `swaps::held::toward_end` meets its contract.
-use mathlib.Core.Path.{_≡_, refl, sym, ap, _∙_}
-use Prim.Native.Nat.{ℕ, _+_, _-_, _≤_, _<_}
+use Prim.Native.Nat.{_+_, _-_, _≤_}
 use native.Mathlib.Omega.{arith}
 use lib.ListN.{length, length-set}
 use Rattle.swaps.specs.Held.{Carried}
-use Rattle.swaps.proofs.Carrying.{carried-start, carried-left, carried-right, carried-at}
+use Rattle.swaps.proofs.Carrying.{carried-start, carried-left, carried-at}
 use Rattle.swaps.proofs.held.toward_end.Statement.{statement}
 use Rattle.swaps.proofs.held.toward_end.Tie as tie
-use Rattle.swaps.proofs.held.toward_end.Reads as reads
-use Rattle.swaps.proofs.held.toward_end.Lts as lts
 
 abbrev Inv-loop : tie.InvT-loop
 Inv-loop bytes₀ to left₀ right₀ bytes left right =

@@ -1,14 +1,10 @@
 -- `swaps::held::toward_start` meets its contract.
-use mathlib.Core.Path.{_≡_, refl, sym, ap, _∙_}
-use Prim.Native.Nat.{ℕ, _+_, _-_, _≤_, _<_}
+use Prim.Native.Nat.{_≤_}
 use native.Mathlib.Omega.{arith}
-use lib.ListN.{length, length-set}
 use Rattle.swaps.specs.Held.{Carried}
-use Rattle.swaps.proofs.Carrying.{carried-start, carried-left, carried-right, carried-at}
+use Rattle.swaps.proofs.Carrying.{carried-start, carried-right, carried-at}
 use Rattle.swaps.proofs.held.toward_start.Statement.{statement}
 use Rattle.swaps.proofs.held.toward_start.Tie as tie
-use Rattle.swaps.proofs.held.toward_start.Reads as reads
-use Rattle.swaps.proofs.held.toward_start.Lts as lts
 
 abbrev Inv-loop : tie.InvT-loop
 Inv-loop bytes₀ to left₀ right₀ bytes left right =

@@ -1,14 +1,12 @@
 -- `swaps::side::put_side` meets its contract.
-use mathlib.Core.Path.{_≡_, refl, sym, ap, _∙_}
-use Prim.Native.Nat.{ℕ, _+_, _-_, _≤_, _<_}
+use mathlib.Core.Path.{_≡_, refl, ap, _∙_}
+use Prim.Native.Nat.{_+_, _-_, _≤_}
 use native.Mathlib.Omega.{arith}
 use lib.ListN.{length, take, drop, set, getD, length-set}
 use lib.Seq.{paste, paste-zero}
 use Rattle.swaps.proofs.Putting.{put-more, put-all}
 use Rattle.swaps.proofs.side.put_side.Statement.{statement}
 use Rattle.swaps.proofs.side.put_side.Tie as tie
-use Rattle.swaps.proofs.side.put_side.Reads as reads
-use Rattle.swaps.proofs.side.put_side.Lts as lts
 
 abbrev Inv-loop : tie.InvT-loop
 Inv-loop bytes₀ at b cells from count i₀ bytes i =

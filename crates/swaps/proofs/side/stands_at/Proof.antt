@@ -1,15 +1,13 @@
 -- `swaps::side::stands_at` meets its contract.
-use mathlib.Core.Path.{_≡_, refl, sym, ap, _∙_}
+use mathlib.Core.Path.{_≡_, sym, _∙_}
 use mathlib.Core.List.{_∷_}
-use Prim.Native.Nat.{ℕ, _+_, _-_, _≤_, _<_}
+use Prim.Native.Nat.{_+_, _-_, _≤_}
 use native.Mathlib.Omega.{arith}
-use lib.ListN.{length, take, drop, getD, length-take, length-drop}
+use lib.ListN.{length, take, drop, length-take, length-drop}
 use Rattle.model.specs.Equivalence.{equal}
 use Rattle.swaps.proofs.Comparing.{lengths-differ, Rest, rest-start, rest-done, rest-more, rest-fails, whole-more, whole-fails}
 use Rattle.swaps.proofs.side.stands_at.Statement.{statement}
 use Rattle.swaps.proofs.side.stands_at.Tie as tie
-use Rattle.swaps.proofs.side.stands_at.Reads as reads
-use Rattle.swaps.proofs.side.stands_at.Lts as lts
 
 abbrev Inv-loop : tie.InvT-loop
 Inv-loop bytes at a cells from count i₀ i =
