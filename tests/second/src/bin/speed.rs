@@ -1,9 +1,10 @@
 //! The firmware's time beside that of the same gap algorithm in Rust, both in this process, turn by turn.
 //!
-//!     speed [--milliseconds M]
+//!     speed [--milliseconds M] [--words W]
 //!
 //! M is how long each side of a measure runs, in slices; the time shown is that of the fastest slice, which other work on the machine
-//! disturbs least. Every measure first looks that both sides give the same result. The closing lines hold the times against the targets.
+//! disturbs least. W is the most words of one length that are run in turn; without it, as many as have 100,000 steps together. Every
+//! measure first looks that both sides give the same result. The closing lines hold the times against the targets.
 use second::gap;
 use second::image::{program_image, table_image};
 use second::plain::plain_table;
@@ -58,6 +59,7 @@ impl Times {
 struct Measures {
     areas: Areas,
     slice: Duration,
+    words: usize,
     differences: usize,
 }
 
@@ -101,7 +103,7 @@ fn told<T>(result: Result<T, u8>, values: impl FnOnce(T) -> [u64; 4]) -> Told {
     result.map_or_else(|number| (number, [0; 4]), |answer| (0, values(answer)))
 }
 
-/// So many different inputs of one length that no run of them is foreseen move by move, as a log that is read once isn't.
+/// The steps that the words of one length have together, unless fewer words are asked for.
 const STEPS: u64 = 100_000;
 
 /// The images of the cases that are run in turn.
@@ -136,7 +138,7 @@ fn reverse(measures: &mut Measures, length: usize) -> (Times, Times) {
     let mut random = Random::new(length as u64);
     let image = table_image(&braid(4));
     let (mut programs, mut steps) = (Vec::new(), 0);
-    while steps < STEPS {
+    while steps < STEPS && programs.len() < measures.words {
         let (u, v) = (forward_word(&mut random, 4, length / 2), forward_word(&mut random, 4, length / 2));
         let program = program_image(4, &[undoing(&u), v].concat());
         let (result, values) = firmware::reverse(&image, &program, 65_535, &mut measures.areas.workspace, &mut measures.areas.answer);
@@ -163,7 +165,7 @@ fn reverse(measures: &mut Measures, length: usize) -> (Times, Times) {
     show_steps(&name, count, steps, whole, fixed)
 }
 
-/// Two joined words of that many moves, with as many steps between them as such words have: u (u\\v) w and v (v\\u) w.
+/// Two joined words of that many moves, with as many steps between them as such words have: u (u\v) w and v (v\u) w.
 fn joined(random: &mut Random, table: &Table, length: usize) -> [Word; 2] {
     let limits = Limits { allowance: 60_000, workspace: AREA };
     let mut longest = [Word::new(), Word::new()];
@@ -188,7 +190,7 @@ fn compare(measures: &mut Measures, length: usize) -> (Times, Times) {
     let table = braid(4);
     let image = table_image(&table);
     let (mut pairs, mut steps) = (Vec::new(), 0);
-    while steps < STEPS {
+    while steps < STEPS && pairs.len() < measures.words {
         let [first, second] = joined(&mut random, &table, length);
         let longer = [second.clone(), vec![1]].concat();
         let pair = [first, second, longer].map(|word| program_image(4, &word));
@@ -260,17 +262,20 @@ fn target(what: &str, found: f64, most: f64) -> bool {
 }
 
 fn main() -> ExitCode {
+    let (mut milliseconds, mut words) = (1_000, usize::MAX);
     let mut arguments = std::env::args().skip(1);
-    let milliseconds = match (arguments.next().as_deref(), arguments.next().map(|value| value.parse())) {
-        (None, _) => 1_000,
-        (Some("--milliseconds"), Some(Ok(number))) => number,
-        _ => {
-            eprintln!("speed [--milliseconds M]");
-            return ExitCode::from(2);
+    while let Some(flag) = arguments.next() {
+        match (flag.as_str(), arguments.next().map(|value| value.parse::<u64>())) {
+            ("--milliseconds", Some(Ok(number))) => milliseconds = number,
+            ("--words", Some(Ok(number))) if number > 0 => words = number as usize,
+            _ => {
+                eprintln!("speed [--milliseconds M] [--words W]");
+                return ExitCode::from(2);
+            }
         }
-    };
+    }
     let areas = Areas { workspace: vec![0; AREA], answer: vec![0; AREA] };
-    let mut measures = Measures { areas, slice: Duration::from_millis(milliseconds) / SLICES, differences: 0 };
+    let mut measures = Measures { areas, slice: Duration::from_millis(milliseconds) / SLICES, words, differences: 0 };
     println!("| measure | firmware, ns | Rust, ns | ratio |\n|---|---|---|---|");
     let reversed = [50, 500, 4_000].map(|length| reverse(&mut measures, length));
     let compared = [50, 500, 4_000].map(|length| compare(&mut measures, length));
