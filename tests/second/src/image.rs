@@ -33,7 +33,7 @@ pub enum Fault {
 }
 
 impl Fault {
-    /// The refusal, in a table's numbers or in a program's and chain's.
+    /// The refusal, where `ends` is the number for an image that ends early.
     fn refusal(self, ends: u8) -> Refusal {
         match self {
             Fault::Ends => Refusal::plain(ends),
@@ -124,14 +124,19 @@ fn table_fields(fields: &mut Fields) -> Result<Table, Fault> {
     Ok(table)
 }
 
-pub fn read_table(image: &[u8]) -> Result<Table, Refusal> {
+/// An image read whole: the refusals of its kind are three numbers that follow each other, for its end, its fields and its tail.
+fn whole<T>(image: &[u8], ends: u8, body: impl FnOnce(&mut Fields) -> Result<T, Fault>) -> Result<T, Refusal> {
     let mut fields = Fields::new(image);
-    let table = table_fields(&mut fields).map_err(|fault| fault.refusal(1))?;
+    let read = body(&mut fields).map_err(|fault| fault.refusal(ends))?;
     if fields.filled() {
-        Ok(table)
+        Ok(read)
     } else {
-        Err(Refusal::plain(3))
+        Err(Refusal::plain(ends + 2))
     }
+}
+
+pub fn read_table(image: &[u8]) -> Result<Table, Refusal> {
+    whole(image, 1, table_fields)
 }
 
 pub fn program_image(moves: u8, word: &[i8]) -> Vec<u8> {
@@ -156,13 +161,7 @@ fn program_fields(fields: &mut Fields, moves: u8) -> Result<Word, Fault> {
 }
 
 pub fn read_program(image: &[u8], moves: u8) -> Result<Word, Refusal> {
-    let mut fields = Fields::new(image);
-    let word = program_fields(&mut fields, moves).map_err(|fault| fault.refusal(4))?;
-    if fields.filled() {
-        Ok(word)
-    } else {
-        Err(Refusal::plain(6))
-    }
+    whole(image, 4, |fields| program_fields(fields, moves))
 }
 
 /// As `read_program`; 7 for a back move.
@@ -210,11 +209,5 @@ fn chain_fields(fields: &mut Fields, moves: u8) -> Result<Vec<Entry>, Fault> {
 }
 
 pub fn read_chain(image: &[u8], moves: u8) -> Result<Vec<Entry>, Refusal> {
-    let mut fields = Fields::new(image);
-    let entries = chain_fields(&mut fields, moves).map_err(|fault| fault.refusal(4))?;
-    if fields.filled() {
-        Ok(entries)
-    } else {
-        Err(Refusal::plain(6))
-    }
+    whole(image, 4, |fields| chain_fields(fields, moves))
 }
