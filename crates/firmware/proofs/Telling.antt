@@ -2,7 +2,7 @@
 use mathlib.Core.Path.{_≡_, sym, ap, _∙_}
 use Rattle.model.specs.Stated.{refusal}
 use Rattle.model.specs.declared.answers.Refusal.{Refusal}
-use Rattle.services.proofs.Early.{told as as-refused}
+use Rattle.images.proofs.Refusals.{told as as-refused}
 use Rattle.firmware.specs.declared.numbers.Numbers.{Numbers}
 use Rattle.firmware.specs.Told.{told, passedTold, refusalTold}
 

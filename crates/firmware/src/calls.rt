@@ -14,15 +14,15 @@ use crate::numbers::of_cleared;
 use crate::numbers::of_compared;
 use crate::numbers::of_packed;
 use crate::numbers::of_reversed;
+use packing::pack_program;
+use packing::pack_table;
+use packing::unpack_program;
+use packing::unpack_table;
 use services::chain::chain;
 use services::check::check;
 use services::clear::clear;
 use services::compare::compare;
-use services::pack_program;
-use services::pack_table;
 use services::reverse::reverse;
-use services::unpack_program;
-use services::unpack_table;
 
 // Sets all four values and gives the result.
 pub(crate) fn tell(numbers: Numbers, values: &mut [u64; 4]) -> u8

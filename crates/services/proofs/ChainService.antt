@@ -44,7 +44,7 @@ use Rattle.services.specs.Compare.{toldAs, Ended, Judged, LoadedPair, Se
 use Rattle.services.specs.Chain.{Area, ListedAs}
 use Rattle.services.specs.declared.compare.Judgement.{Judgement}
 use Rattle.services.specs.declared.compare.Judgement.the-variants.{Same, Different, Refused}
-use Rattle.services.proofs.Early.{told}
+use Rattle.images.proofs.Refusals.{told}
 use Rattle.services.proofs.Outcomes.{AsFound, still-refused}
 use Rattle.services.proofs.Reading.{pair-refused, pair-runs}
 use Rattle.services.proofs.Programs.{lettered-program}

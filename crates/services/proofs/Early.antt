@@ -1,7 +1,7 @@
 -- Reading refuses with small numbers only: 1 to 3 of a table, 4 to 6 of a program or chain, 7 of one that must be forward. So what is refused
 -- before the work begins leaves the workspace as found.
-use mathlib.Core.Path.{_≡_, refl, sym, ap, subst, _∙_}
-use mathlib.Core.List.{List, [], _∷_}
+use mathlib.Core.Path.{_≡_, sym, ap, subst, _∙_}
+use mathlib.Core.List.{List, []}
 use mathlib.Core.Bool.{Bool, true, false, not, cond}
 use Prim.Native.Nat.{ℕ, zero, suc, _+_, _≤_}
 use native.Mathlib.Omega.{arith}
@@ -9,14 +9,14 @@ use borrow.Author.Tests.{le-leb}
 use lib.Dec.{ltb, leb, eqb}
 use lib.ListN.{length, take, drop, replicate}
 use Rattle.model.specs.Word.{forwards}
-use Rattle.model.specs.Outcome.{Outcome, answered, refused, _>>=_, unless, mapped}
+use Rattle.model.specs.Outcome.{Outcome, answered, refused, _>>=_, unless}
 use Rattle.model.specs.Bits.{Read, bitsOf, field, finish, filling, letterWidth, number}
 use Rattle.model.specs.Images.{letterField, several, rowsOf, wordField, definedField, pairField, signedField, entryField, readTable, readProgram, readChain}
 use Rattle.model.specs.Services.{isForward, readForward}
-use Rattle.model.specs.Areas.{outputAfter, workspaceAfter}
-use Rattle.model.specs.Stated.{refusal, placeNumbers}
+use Rattle.model.specs.Areas.{workspaceAfter}
+use Rattle.model.specs.Stated.{refusal}
 use Rattle.model.specs.declared.answers.Refusal.{Refusal}
-use Rattle.model.specs.declared.answers.Refusal.the-variants.{TableEnds, TableField, TableTail, ImageEnds, ImageField, ImageTail, BackMove, UnequalLengths, CubeFails, OpenPair, AllowanceUsed, WorkspaceShort, AnswerShort, UnequalEnds}
+use Rattle.images.proofs.Refusals.{told}
 use Rattle.services.specs.Loading.{readPair}
 
 -- a refusal, if it is one, has a number of at most k
@@ -122,41 +122,7 @@ images-early table first second =
     (λ T. then 7 (readForward (T .size) first) _ (forward-early (T .size) first)
     (λ u. then 7 (readForward (T .size) second) _ (forward-early (T .size) second) (λ v. tt)))
 
--- A REFUSAL ON ITS WAY THROUGH
-
--- every refusal is a number with places, whatever the answer would have been
-pub record Told (r : Refusal) : Type 1 where
-  pub number : ℕ
-  pub places : List ℕ
-  pub is : {A : Type 0} → _≡_ {A = Outcome A} (refusal r) (refused number places)
-
-pub told : (r : Refusal) → Told r
-told TableEnds = record { number = 1; places = []; is = refl }
-told TableField = record { number = 2; places = []; is = refl }
-told TableTail = record { number = 3; places = []; is = refl }
-told ImageEnds = record { number = 4; places = []; is = refl }
-told ImageField = record { number = 5; places = []; is = refl }
-told ImageTail = record { number = 6; places = []; is = refl }
-told BackMove = record { number = 7; places = []; is = refl }
-told (UnequalLengths p) = record { number = 8; places = p .a ∷ p .b ∷ []; is = refl }
-told (CubeFails t) = record { number = 9; places = t .a ∷ t .b ∷ t .c ∷ []; is = refl }
-told (OpenPair p) = record { number = 10; places = p .a ∷ p .b ∷ []; is = refl }
-told (AllowanceUsed p) = record { number = 11; places = placeNumbers p; is = refl }
-told (WorkspaceShort p) = record { number = 12; places = placeNumbers p; is = refl }
-told AnswerShort = record { number = 13; places = []; is = refl }
-told UnequalEnds = record { number = 14; places = []; is = refl }
-
-module _ {A B : Type 0} (r : Refusal) where
-  pub refusal-then : (f : A → Outcome B) → (refusal r >>= f) ≡ refusal r
-  refusal-then f = let t = told r in ap (λ o. o >>= f) (t .is {A = A}) ∙ sym (t .is {A = B})
-
-  pub refusal-mapped : (f : A → B) → mapped f (refusal r) ≡ refusal r
-  refusal-mapped f = let t = told r in ap (mapped f) (t .is {A = A}) ∙ sym (t .is {A = B})
-
--- nothing is written, and an early refusal leaves the workspace as found
-pub refusal-output : {A : Type 0} (r : Refusal) (bytes : A → List ℕ) (area : List ℕ) → outputAfter bytes (refusal r) area ≡ area
-refusal-output {A} r bytes area = ap (λ o. outputAfter bytes o area) (told r .is {A = A})
-
+-- an early refusal leaves the workspace as found
 pub refusal-workspace : {A : Type 0} (B : Type 0) (r : Refusal) (o : Outcome A) (k : ℕ) → o ≡ refusal r → Early k o → k ≤ 8 → (area : List ℕ)
     → workspaceAfter {A = B} (refusal r) area ≡ area
 refusal-workspace {A} B r o k e h few area =

@@ -11,4 +11,3 @@ pub mod Reading
 pub mod Comparing
 pub mod ChainService
 pub mod CheckService
-pub mod Packing

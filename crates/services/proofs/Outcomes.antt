@@ -6,7 +6,8 @@ use Rattle.model.specs.Outcome.{Outcome, answered, _>>=_, mapped}
 use Rattle.model.specs.Areas.{outputAfter, workspaceAfter}
 use Rattle.model.specs.Stated.{refusal}
 use Rattle.model.specs.declared.answers.Refusal.{Refusal}
-use Rattle.services.proofs.Early.{Early, refusal-then, refusal-mapped, refusal-output, refusal-workspace}
+use Rattle.images.proofs.Refusals.{refusal-then, refusal-mapped, refusal-output}
+use Rattle.services.proofs.Early.{Early, refusal-workspace}
 
 module _ {A : Type 0} (o : Outcome A) (r : Refusal) (e : o ≡ refusal r) where
   pub still-refused : {B : Type 0} (f : A → Outcome B) → (o >>= f) ≡ refusal r

@@ -6,7 +6,7 @@ use lib.ListN.{length, take}
 use lib.Seq.{length-take-le}
 use Rattle.model.specs.Stated.{refusal}
 use Rattle.model.specs.declared.answers.Refusal.{Refusal}
-use Rattle.services.proofs.Early.{told}
+use Rattle.images.proofs.Refusals.{told}
 use Rattle.text.specs.Text.{refusedLabel, line, numbersText, outcomeText}
 use Rattle.text.specs.Put.{refusalNumbers}
 use Rattle.text.specs.Refusals.{Listed}

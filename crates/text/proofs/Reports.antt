@@ -16,7 +16,7 @@ use Rattle.model.specs.declared.answers.Refusal.{Refusal}
 use Rattle.theory.proofs.Impossible.{impossible}
 use Rattle.images.specs.Range.{All, LetterInRange}
 use Rattle.engine.proofs.Letters.{letter-forward, letter-back}
-use Rattle.services.proofs.Early.{told, refusal-mapped}
+use Rattle.images.proofs.Refusals.{told, refusal-mapped}
 use Rattle.services.proofs.Outcomes.{still-refused, goes-on}
 use Rattle.text.specs.Text.{letterText, wordText, bytesText, answerText, outcomeText, reading, report}
 

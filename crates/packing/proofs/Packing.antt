@@ -19,8 +19,7 @@ use Rattle.model.specs.Images.{readTable, readProgram, programImage, tableImage
 use Rattle.model.specs.Plain.{plainProgram, readPlainProgram, readPlainTable, plainPair, plainTable}
 use Rattle.model.specs.Enumeration.{concatMap}
 use Rattle.model.specs.Services.{fitted, unpackProgram, packProgram, packTable, unpackTable}
-use Rattle.images.proofs.Refusals.{refused-on}
-use Rattle.services.proofs.Early.{refusal-mapped, refusal-output}
+use Rattle.images.proofs.Refusals.{refused-on, refusal-mapped, refusal-output}
 
 -- the promise: the result is the outcome's, and the area is what the outcome leaves
 abbrev pub Kept : Outcome (List ℕ) → List ℕ → Packed → List ℕ → Type 0

@@ -1,4 +1,4 @@
--- `services::unpack_table::unpack` meets its contract.
+-- `packing::unpack_table::unpack` meets its contract.
 use mathlib.Core.Path.{_≡_, refl, sym, ap, subst, _∙_}
 use mathlib.Core.List.{_∷_, _++_}
 use Prim.Native.Nat.{_≤_}
@@ -9,10 +9,10 @@ use Rattle.model.specs.Enumeration.{concatMap}
 use Rattle.model.specs.Plain.{plainPair, plainTable}
 use Rattle.model.specs.Services.{unpackTable}
 use Rattle.images.specs.Tables.{TableDone, TableOf}
-use Rattle.services.proofs.Packing.{refused-keeps, answered-writes, short-area, long-area, table-refused, table-read, plain-bytes, taken-first}
+use Rattle.packing.proofs.Packing.{refused-keeps, answered-writes, short-area, long-area, table-refused, table-read, plain-bytes, taken-first}
 use borrow.Author.Needs.{needs}
-use Rattle.services.proofs.unpack_table.unpack.Statement.{statement}
-use Rattle.services.proofs.unpack_table.unpack.Tie as tie
+use Rattle.packing.proofs.unpack_table.unpack.Statement.{statement}
+use Rattle.packing.proofs.unpack_table.unpack.Tie as tie
 
 abbrev start : tie.After-known-told2 → tie.Start
 start c = c .before .before .before .before .before .before .before .before

@@ -1,4 +1,4 @@
--- `services::pack_program::pack` meets its contract.
+-- `packing::pack_program::pack` meets its contract.
 use mathlib.Core.Path.{_≡_, sym, ap, subst, _∙_}
 use mathlib.Core.List.{map}
 use Prim.Native.Nat.{_+_, _-_, _*_, _≤_}
@@ -15,10 +15,10 @@ use Rattle.images.specs.Bytewise.{PlainDone, PlainProgram}
 use Rattle.images.specs.Written.{Appended, programBits}
 use Rattle.images.proofs.Letters.{near}
 use Rattle.images.proofs.Appending.{program-length, program-bits, program-image, image-written}
-use Rattle.services.proofs.Packing.{refused-keeps, answered-writes, short-area, long-area, pack-table-refused, pack-program-refused, pack-read}
+use Rattle.packing.proofs.Packing.{refused-keeps, answered-writes, short-area, long-area, pack-table-refused, pack-program-refused, pack-read}
 use borrow.Author.Needs.{needs}
-use Rattle.services.proofs.pack_program.pack.Statement.{statement}
-use Rattle.services.proofs.pack_program.pack.Tie as tie
+use Rattle.packing.proofs.pack_program.pack.Statement.{statement}
+use Rattle.packing.proofs.pack_program.pack.Tie as tie
 
 abbrev start : tie.After-known-told2 → tie.Start
 start c = c .before .before .before .before .before .before .before

@@ -1,4 +1,4 @@
--- `services::pack_table::pack` meets its contract.
+-- `packing::pack_table::pack` meets its contract.
 use mathlib.Core.Path.{_≡_, refl, sym, ap, subst, _∙_}
 use mathlib.Core.List.{List, _++_}
 use Prim.Native.Nat.{ℕ, _-_, _≤_}
@@ -13,9 +13,9 @@ use Rattle.model.specs.Services.{packTable}
 use Rattle.bits.proofs.Packing.{AreBytes, length-packed}
 use Rattle.images.specs.Tables.{PlainTableDone, PlainTableOf}
 use Rattle.images.proofs.Appending.{bytes-first, zero-image, table-bits, table-image}
-use Rattle.services.proofs.Packing.{refused-keeps, answered-writes, short-area, long-area, plain-refused, plain-read}
-use Rattle.services.proofs.pack_table.pack.Statement.{statement}
-use Rattle.services.proofs.pack_table.pack.Tie as tie
+use Rattle.packing.proofs.Packing.{refused-keeps, answered-writes, short-area, long-area, plain-refused, plain-read}
+use Rattle.packing.proofs.pack_table.pack.Statement.{statement}
+use Rattle.packing.proofs.pack_table.pack.Tie as tie
 
 abbrev start : tie.After-known-told2 → tie.Start
 start c = c .before .before .before .before .before .before .before .before

@@ -1,4 +1,4 @@
--- `services::unpack_program::unpack` meets its contract.
+-- `packing::unpack_program::unpack` meets its contract.
 use mathlib.Core.Path.{ap, subst, _∙_}
 use Prim.Native.Nat.{_+_}
 use native.Mathlib.Omega.{arith}
@@ -10,10 +10,10 @@ use Rattle.model.specs.Plain.{plainProgram}
 use Rattle.model.specs.Services.{unpackProgram}
 use Rattle.images.specs.Tables.{SizeDone, SizeOf}
 use Rattle.images.specs.Programs.{ProgramDone, ProgramOf}
-use Rattle.services.proofs.Packing.{refused-keeps, answered-writes, short-area, long-area, unpack-table-refused, unpack-program-refused, unpack-read}
+use Rattle.packing.proofs.Packing.{refused-keeps, answered-writes, short-area, long-area, unpack-table-refused, unpack-program-refused, unpack-read}
 use borrow.Author.Needs.{needs}
-use Rattle.services.proofs.unpack_program.unpack.Statement.{statement}
-use Rattle.services.proofs.unpack_program.unpack.Tie as tie
+use Rattle.packing.proofs.unpack_program.unpack.Statement.{statement}
+use Rattle.packing.proofs.unpack_program.unpack.Tie as tie
 
 abbrev start : tie.After-known-told2 → tie.Start
 start c = c .before .before .before .before .before .before .before
