@@ -4,6 +4,7 @@ pub mod Range
 pub mod Cells
 pub mod Tables
 pub mod Chains
+pub mod Held
 pub mod Written
 pub mod Bytewise
 pub mod Bitwise

@@ -13,8 +13,8 @@ ghost use Rattle.model.specs.Images.{wordBits, pairBits};
 ghost use Rattle.images.specs.Cells.{HoldsWord, Letters};
 ghost use Rattle.images.specs.Tables.{HoldsPair, HoldsRow, Listed};
 ghost use Rattle.images.specs.Written.{WidthOf};
-ghost use Rattle.images.specs.Bitwise.{AppendedTo, WordIn, PairIn, Room};
-ghost use Rattle.images.specs.Bytewise.{HoldsSomeRow, HoldsSomeTable};
+ghost use Rattle.images.specs.Held.{HoldsSomeWord, HoldsSomePair, HoldsSomeRow, HoldsSomeTable};
+ghost use Rattle.images.specs.Bitwise.{AppendedTo, Room};
 
 // A word of a table image, from its cell; the position after it.
 pub fn pack_word(
@@ -25,7 +25,7 @@ pub fn pack_word(
     out: &mut [u8],
     at: usize,
 ) -> usize
-    requires { ⌜ WordIn size (now cells) cell × WidthOf size width × (cell + 16 ≤ length (now cells)) × Room (now out) at 64 ⌝ }
+    requires { ⌜ HoldsSomeWord size (now cells) cell × WidthOf size width × (cell + 16 ≤ length (now cells)) × Room (now out) at 64 ⌝ }
     ensures word { λ r. ⌜ ((x : Positive) → HoldsWord size (now (cells .entry)) cell x → AppendedTo (now (out .entry)) at (wordBits size x) (now (out .exit)) r) ⌝ }
     ensures length { λ r. ⌜ length (now (out .exit)) ≡ length (now (out .entry)) ⌝ }
     ensures near { λ r. ⌜ r ≤ at + 64 ⌝ }
@@ -54,7 +54,7 @@ pub fn pack_pair(
     out: &mut [u8],
     at: usize,
 ) -> usize
-    requires { ⌜ PairIn size (now cells) a b × Letters a b × WidthOf size width × (length (now cells) ≡ 4096) × Room (now out) at 129 ⌝ }
+    requires { ⌜ HoldsSomePair size (now cells) a b × Letters a b × WidthOf size width × (length (now cells) ≡ 4096) × Room (now out) at 129 ⌝ }
     ensures pair { λ r. ⌜ ((pair : Complement) → HoldsPair size (now (cells .entry)) a b pair → AppendedTo (now (out .entry)) at (pairBits size pair) (now (out .exit)) r) ⌝ }
     ensures length { λ r. ⌜ length (now (out .exit)) ≡ length (now (out .entry)) ⌝ }
     ensures near { λ r. ⌜ r ≤ at + 129 ⌝ }

@@ -15,7 +15,8 @@ ghost use Rattle.model.specs.Enumeration.{concatMap};
 ghost use Rattle.model.specs.Plain.{plainWord, plainPair};
 ghost use Rattle.images.specs.Cells.{HoldsWord, Letters};
 ghost use Rattle.images.specs.Tables.{HoldsPair, HoldsRow, Listed, PlainBefore, PlainWordDone, PlainPairDone, PlainRowDone, PlainTableDone};
-ghost use Rattle.images.specs.Bytewise.{PlainDone, HoldsSome, HoldsSomePair, HoldsSomeRow, HoldsSomeTable, Wrote};
+ghost use Rattle.images.specs.Held.{HoldsSomeWord, HoldsSomePair, HoldsSomeRow, HoldsSomeTable};
+ghost use Rattle.images.specs.Bytewise.{PlainDone, Wrote};
 
 pub enum PlainRead {
     Accepted,
@@ -170,7 +171,7 @@ pub fn read_plain_table(plain: &[u8], cells: &mut [u8]) -> TableRead
 
 // A word of a table in plain form, from its cell; the place after it.
 pub fn write_plain_word(cells: &[u8], cell: usize, out: &mut [u8], at: usize) -> usize
-    requires { ⌜ HoldsSome (now cells) cell × (cell + 16 ≤ length (now cells)) × (at + 16 ≤ length (now out)) ⌝ }
+    requires { ⌜ ((size : ℕ) × HoldsSomeWord size (now cells) cell) × (cell + 16 ≤ length (now cells)) × (at + 16 ≤ length (now out)) ⌝ }
     ensures length { λ r. ⌜ length (now (out .exit)) ≡ length (now (out .entry)) ⌝ }
     ensures word { λ r. ⌜ ((size : ℕ) (x : Positive) → HoldsWord size (now (cells .entry)) cell x → Wrote (now (out .entry)) at (plainWord x) (now (out .exit)) r) ⌝ }
 {
@@ -187,7 +188,7 @@ pub fn write_plain_word(cells: &[u8], cell: usize, out: &mut [u8], at: usize) ->
 
 // A pair of a table in plain form, from its cells; the place after it.
 pub fn write_plain_pair(cells: &[u8], a: u8, b: u8, out: &mut [u8], at: usize) -> usize
-    requires { ⌜ HoldsSomePair (now cells) a b × Letters a b × (length (now cells) ≡ 4096) × (at + 32 ≤ length (now out)) ⌝ }
+    requires { ⌜ ((size : ℕ) × HoldsSomePair size (now cells) a b) × Letters a b × (length (now cells) ≡ 4096) × (at + 32 ≤ length (now out)) ⌝ }
     ensures length { λ r. ⌜ length (now (out .exit)) ≡ length (now (out .entry)) ⌝ }
     ensures pair { λ r. ⌜ ((size : ℕ) (pair : Complement) → HoldsPair size (now (cells .entry)) a b pair → Wrote (now (out .entry)) at (plainPair pair) (now (out .exit)) r) ⌝ }
 {

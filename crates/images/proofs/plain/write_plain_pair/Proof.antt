@@ -20,10 +20,10 @@ first-byte : (c : tie.After-shared-slice-known2) → getD (start c .args .cells 
 first-byte c = ap (λ i. getD (start c .args .cells .now) i 0) (sym (c .before .before .cell-of .ensures))
 
 words : (c : tie.Else1)
-    → (x : Positive) × (y : Positive) × (start (c .before) .pre .0 .pair ≡ complement x y) × HoldsWord (start (c .before) .pre .0 .size) (start (c .before) .args .cells .now) (cellAt (start (c .before) .args .a) (start (c .before) .args .b)) x × HoldsWord (start (c .before) .pre .0 .size) (start (c .before) .args .cells .now) (cellAt (start (c .before) .args .b) (start (c .before) .args .a)) y
+    → (x : Positive) × (y : Positive) × (start (c .before) .pre .0 .1 .pair ≡ complement x y) × HoldsWord (start (c .before) .pre .0 .0) (start (c .before) .args .cells .now) (cellAt (start (c .before) .args .a) (start (c .before) .args .b)) x × HoldsWord (start (c .before) .pre .0 .0) (start (c .before) .args .cells .now) (cellAt (start (c .before) .args .b) (start (c .before) .args .a)) y
 words c =
     let s = start (c .before) in
-    both-words (s .pre .0 .size) (s .args .cells .now) (s .args .a) (s .args .b) (s .pre .0 .pair) (s .pre .0 .holds) (λ e. c .if1 .left (sym (first-byte (c .before)) ∙ e))
+    both-words (s .pre .0 .0) (s .args .cells .now) (s .args .a) (s .args .b) (s .pre .0 .1 .pair) (s .pre .0 .1 .holds) (λ e. c .if1 .left (sym (first-byte (c .before)) ∙ e))
 
 wrote-first : (c : tie.After-write-plain-word) (size : ℕ) (x : Positive) → HoldsWord size (start (c .before .before .before) .args .cells .now) (cellAt (start (c .before .before .before) .args .a) (start (c .before .before .before) .args .b)) x
     → Wrote (start (c .before .before .before) .args .out .now) (start (c .before .before .before) .args .at) (plainWord x) (c .write-plain-word .last .1 .1 .0) (c .write-plain-word .result)
@@ -61,7 +61,7 @@ write-plain-word-requires c κs =
     let k = c .before .before in
     let s = start k in
     let w = words (c .before) in (
-      record { size = s .pre .0 .size; word = w .0; holds = subst (λ i. HoldsWord (s .pre .0 .size) (s .args .cells .now) i (w .0)) (sym (k .before .before .cell-of .ensures)) (w .3) },
+      (s .pre .0 .0, record { word = w .0; holds = subst (λ i. HoldsWord (s .pre .0 .0) (s .args .cells .now) i (w .0)) (sym (k .before .before .cell-of .ensures)) (w .3) }),
       omega (arith, k .before .before .cell-of .ensures, s .pre .1 .a-small, s .pre .1 .b-small, s .pre .2),
       omega (arith, s .pre .3),
     )
@@ -72,8 +72,8 @@ write-plain-word-requires-2 c κs =
     let k = v .before .before .before in
     let s = start k in
     let w = words (v .before .before) in
-    let e = wrote-first v (s .pre .0 .size) (w .0) (w .3) in (
-      record { size = s .pre .0 .size; word = w .1; holds = subst (λ i. HoldsWord (s .pre .0 .size) (s .args .cells .now) i (w .1)) (sym (k .before .cell-of2 .ensures)) (w .4) },
+    let e = wrote-first v (s .pre .0 .0) (w .0) (w .3) in (
+      (s .pre .0 .0, record { word = w .1; holds = subst (λ i. HoldsWord (s .pre .0 .0) (s .args .cells .now) i (w .1)) (sym (k .before .cell-of2 .ensures)) (w .4) }),
       omega (arith, k .before .cell-of2 .ensures, s .pre .1 .a-small, s .pre .1 .b-small, s .pre .2),
       omega (arith, s .pre .3, e .next-is, w .3 .in-range .short, v .write-plain-word .ensures .0),
     )

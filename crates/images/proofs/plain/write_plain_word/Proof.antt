@@ -20,7 +20,7 @@ abbrev μ-loop : tie.MeasureT-loop
 μ-loop cells cell out₀ at first count k₀ out k = count - k
 
 few : (c : tie.After-shared-slice-known Inv-loop μ-loop) → getD (c .before .args .cells .now) (c .before .args .cell) 0 < 16
-few c = omega (arith, c .before .pre .0 .holds .count, c .before .pre .0 .holds .in-range .short)
+few c = omega (arith, c .before .pre .0 .1 .holds .count, c .before .pre .0 .1 .holds .in-range .short)
 
 abbrev start : tie.After-shared-slice-known2 Inv-loop μ-loop → tie.Start Inv-loop μ-loop
 start c = c .before .before .before .before
