@@ -1,24 +1,26 @@
 -- The letters of an accepted program, one by one. What the forward test and the unpacking of a program make of them.
 use mathlib.Core.Path.{_≡_, refl, sym, ap, subst, _∙_}
 use mathlib.Core.List.{List, [], _∷_, _++_, append-assoc}
-use mathlib.Core.Bool.{true, false}
+use mathlib.Core.Bool.{true, false, cond}
 use Prim.Native.Nat.{ℕ, suc, _+_, _*_, _≤_, _<_}
 use native.Mathlib.Omega.{arith}
 use native.Mathlib.Numerals.{add-one}
 use native.Mathlib.Nat.{mul-le-mul-left}
+use borrow.Author.Tests.{eq-eqb, ne-eqb}
 use lib.ListN.{length, take, drop, set, getD, length-map, List·getD-map}
 use lib.Seq.{drop-cons, drop-length, paste, paste-suc, take-all}
-use Rattle.model.specs.Word.{Letter, forward, back, Word, byte}
+use Rattle.model.specs.Word.{forward, back, Word, byte}
 use Rattle.model.specs.Outcome.{answered, refused}
 use Rattle.model.specs.Bits.{letterWidth}
-use Rattle.model.specs.Images.{signedField, readProgram}
+use Rattle.model.specs.Images.{signed, signedField, readProgram}
 use Rattle.model.specs.Plain.{plainProgram}
 use Rattle.model.specs.Services.{isForward}
+use Rattle.bits.specs.Fields.{Inside}
 use Rattle.bits.proofs.Width.{width-small}
-use Rattle.images.specs.Fields.{from, Before}
-use Rattle.images.specs.Range.{LetterInRange}
+use Rattle.images.specs.Fields.{from, Before, FieldAt}
 use Rattle.images.specs.Programs.{SignedAt, Accepted, HasLetter, written}
-use Rattle.images.proofs.Several.{same-answer, all-at}
+use Rattle.images.proofs.Several.{same-answer}
+use Rattle.images.proofs.Signed.{sign-of}
 use Rattle.images.proofs.RoundTrip.{program-in-range}
 use Rattle.images.proofs.Placed.{letter-placed, letter-inside}
 
@@ -39,12 +41,14 @@ module _ (image : List ℕ) (size width i : ℕ) (p : HasLetter image size width
       subst (λ k. signedField size (from image (12 + i * (1 + k))) ≡ answered (record { value = getD w i (forward 0); rest = from image (12 + i * (1 + k) + (1 + k)) }))
       (sym (p .width-is)) (letter-placed size (p .few) image w e i l (forward 0))
 
+  ends-inside : 12 + i * (1 + width) + (1 + width) ≤ 8 * length image
+  ends-inside =
+      subst (λ k. 12 + i * (1 + k) + (1 + k) ≤ 8 * length image) (sym (p .width-is)) (letter-inside size (p .few) image (p .word) (p .read) i (p .inside))
+
   pub letter-before : Before image (12 + i * (1 + width)) size width
   letter-before =
-      let l : 12 + i * (1 + width) + (1 + width) ≤ 8 * length image =
-      subst (λ k. 12 + i * (1 + k) + (1 + k) ≤ 8 * length image) (sym (p .width-is)) (letter-inside size (p .few) image (p .word) (p .read) i (p .inside)) in
       record {
-        inside = omega arith;
+        inside = omega (arith, ends-inside);
         small = omega (arith, near i width index-small (p .narrow));
         some = p .some;
         few = p .few;
@@ -55,6 +59,14 @@ module _ (image : List ℕ) (size width i : ℕ) (p : HasLetter image size width
   pub letter-answer : (x : ℕ) → SignedAt image (12 + i * (1 + width)) size width x → (w : Word) → readProgram size image ≡ answered w → x ≡ byte (getD w i (forward 0))
   letter-answer x s w e =
       sym (s .written) ∙ ap (λ r. byte (r .value)) (same-answer _ (record { value = getD w i (forward 0); rest = from image (12 + i * (1 + width) + (1 + width)) }) (sym (s .read) ∙ stands w e))
+
+  -- the first bit of a letter is its sign
+  pub sign-inside : Inside image (12 + i * (1 + width)) 1
+  sign-inside = record { narrow = omega arith; inside = omega (arith, ends-inside); small = omega (arith, near i width index-small (p .narrow)) }
+
+  pub letter-sign : (sign : ℕ) → FieldAt image (12 + i * (1 + width)) 1 sign → (w : Word) → readProgram size image ≡ answered w → (a : ℕ) × (signed sign a ≡ getD w i (forward 0))
+  letter-sign sign s w e =
+      sign-of image (12 + i * (1 + width)) size width sign s (getD w i (forward 0)) (from image (12 + i * (1 + width) + (1 + width))) (stands w e)
 
   pub letter-stands : (n : ℕ) → signedField size (from image (12 + i * (1 + width))) ≡ refused n [] → ⊥
   letter-stands n e =
@@ -83,26 +95,16 @@ count-of image size count a w e = ap length (same-answer w (a .program .word) (s
 
 -- FORWARD
 
--- the byte of a letter in range tells its sign
-forward-first : (n : ℕ) (x : Letter) (w : Word) → n ≤ 16 → LetterInRange n x → byte x < 128 → isForward (x ∷ w) ≡ isForward w
-forward-first n (forward a) w few h l = refl
-forward-first n (back a) w few h l = absurd (omega arith)
-
-back-first : (n : ℕ) (x : Letter) (w : Word) → n ≤ 16 → LetterInRange n x → 128 ≤ byte x → isForward (x ∷ w) ≡ false
-back-first n (forward a) w few h l = absurd (omega (arith, h .small))
-back-first n (back a) w few h l = refl
-
-module _ (image : List ℕ) (size : ℕ) (few : size ≤ 16) (w : Word) (e : readProgram size image ≡ answered w) (i : ℕ) (h : i < length w) where
-  letter-range : LetterInRange size (getD w i (forward 0))
-  letter-range = all-at (LetterInRange size) w i (forward 0) (program-in-range size few image w e .letters) h
-
-  pub forward-more : byte (getD w i (forward 0)) < 128 → isForward w ≡ isForward (drop i w) → isForward w ≡ isForward (drop (i + 1) w)
-  forward-more l r =
+module _ (sign a : ℕ) (w : Word) (i : ℕ) (h : i < length w) (e : signed sign a ≡ getD w i (forward 0)) where
+  pub forward-more : sign ≡ 0 → isForward w ≡ isForward (drop i w) → isForward w ≡ isForward (drop (i + 1) w)
+  forward-more z r =
       r ∙ (ap isForward (drop-cons w i (forward 0) h)
-      ∙ (forward-first size (getD w i (forward 0)) (drop (suc i) w) few letter-range l ∙ ap (λ k. isForward (drop k w)) (sym (add-one i))))
+      ∙ (ap (λ x. isForward (x ∷ drop (suc i) w)) (sym e ∙ ap (λ t. cond t (forward a) (back a)) (eq-eqb sign 0 z))
+      ∙ ap (λ k. isForward (drop k w)) (sym (add-one i))))
 
-  pub back-found : 128 ≤ byte (getD w i (forward 0)) → isForward w ≡ isForward (drop i w) → isForward w ≡ false
-  back-found l r = r ∙ (ap isForward (drop-cons w i (forward 0) h) ∙ back-first size (getD w i (forward 0)) (drop (suc i) w) few letter-range l)
+  pub back-found : (sign ≡ 0 → ⊥) → isForward w ≡ isForward (drop i w) → isForward w ≡ false
+  back-found z r =
+      r ∙ (ap isForward (drop-cons w i (forward 0) h) ∙ ap (λ x. isForward (x ∷ drop (suc i) w)) (sym e ∙ ap (λ t. cond t (forward a) (back a)) (ne-eqb sign 0 z)))
 
 pub forward-all : (w : Word) (i : ℕ) → length w ≡ i → isForward w ≡ isForward (drop i w) → isForward w ≡ true
 forward-all w i l r = r ∙ (ap (λ k. isForward (drop k w)) (sym l) ∙ ap isForward (drop-length w))

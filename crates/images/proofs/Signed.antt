@@ -1,5 +1,5 @@
 -- A program's next letter: its sign, then its number. The byte that the code makes of them is the letter's.
-use mathlib.Core.Path.{_≡_, refl, ap, _∙_}
+use mathlib.Core.Path.{_≡_, refl, sym, ap, _∙_}
 use mathlib.Core.List.{List, []}
 use mathlib.Core.Bool.{cond}
 use Prim.Native.Nat.{ℕ, _+_}
@@ -10,6 +10,7 @@ use Rattle.model.specs.Bits.{Read, field}
 use Rattle.model.specs.Images.{letterField, signedField, signed}
 use Rattle.images.specs.Fields.{FieldAt, LetterAt, from}
 use Rattle.images.specs.Programs.{SignedAt}
+use Rattle.images.proofs.Several.{same-answer, answer-of}
 
 module _ (image : List ℕ) (at size width : ℕ) where
   after-number : ℕ → Outcome (Read ℕ) → Outcome (Read Letter)
@@ -27,6 +28,13 @@ module _ (image : List ℕ) (at size width : ℕ) where
     signed-is : signedField size (from image at) ≡ after-number sign (letterField 4 5 size (from image (at + 1)))
     unfolding after-sign after-number
     signed-is = ap after-sign (s .read 4)
+
+    -- the sign that was read is the letter's
+    pub sign-of : (x : Letter) (rest : List ℕ) → signedField size (from image at) ≡ answered (record { value = x; rest = rest }) → (a : ℕ) × (signed sign a ≡ x)
+    unfolding after-number
+    sign-of x rest e =
+        let o = answer-of (letterField 4 5 size (from image (at + 1))) (λ a. answered (record { value = signed sign (a .value); rest = a .rest })) (record { value = x; rest = rest }) (sym signed-is ∙ e) in
+        (o .0 .value, ap (λ r. r .value) (same-answer (record { value = signed sign (o .0 .value); rest = o .0 .rest }) (record { value = x; rest = rest }) (o .2)))
 
     pub number-refused : (n : ℕ) → letterField 4 5 size (from image (at + 1)) ≡ refused n [] → signedField size (from image at) ≡ refused n []
     unfolding after-number

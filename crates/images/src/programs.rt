@@ -86,7 +86,7 @@ pub fn letter_at(image: &[u8], size: u8, width: usize, i: usize) -> u8
     }
 }
 
-// Whether an accepted program has no back letter.
+// Whether an accepted program has no back letter, by the letters' signs alone.
 pub fn is_forward(image: &[u8], size: u8, count: u16) -> bool
     requires { ⌜ Accepted (now image) size count ⌝ }
     ensures { λ r. ⌜ ((w : Word) → readProgram size (now (image .entry)) ≡ answered w → r ≡ isForward w) ⌝ }
@@ -94,7 +94,8 @@ pub fn is_forward(image: &[u8], size: u8, count: u16) -> bool
     let width = bits::letter_width(size) as usize;
     let mut i: u16 = 0;
     while i < count {
-        if letter_at(image, size, width, i as usize) >= 128 {
+        let at = 12 + (i as usize) * (1 + width);
+        if bits::read_field(image, at, 1) != 0 {
             return false;
         }
         i += 1;
