@@ -21,7 +21,8 @@ pub enum Turn {
     Stepped { gap: Gap, pair: Pair },
 }
 
-// Writes the word of a cell just before `right`, from its last letter on; the place where it begins.
+// Writes the word of a cell just before `right`, from its last letter on; the place where it begins. The loop reads the word's length anew
+// each time: with a length that it knows, the compiler spreads the loop over code for long words, and most words have one or two letters.
 pub fn push_word(bytes: &mut [u8], right: usize, cells: &[u8], at: usize) -> usize
     requires { ⌜ CellFits (now cells) at (now bytes) right ⌝ }
     ensures place { λ r. ⌜ r ≡ right - getD (now (cells .entry)) at 0 ⌝ }
@@ -29,7 +30,7 @@ pub fn push_word(bytes: &mut [u8], right: usize, cells: &[u8], at: usize) -> usi
 {
     let mut next = right;
     let mut i = cells[at] as usize;
-    while i > 0 {
+    while right - next < cells[at] as usize {
         next -= 1;
         bytes[next] = cells[at + i];
         i -= 1;
@@ -37,8 +38,7 @@ pub fn push_word(bytes: &mut [u8], right: usize, cells: &[u8], at: usize) -> usi
     next
 }
 
-// Writes the inverse of the word of a cell just before `right`; the place where it begins. The loop reads the word's length anew each time:
-// with a length that it knows, the compiler spreads the loop over code for long words, and most words have one or two letters.
+// Writes the inverse of the word of a cell just before `right`; the place where it begins. The loop reads the length anew as in `push_word`.
 pub fn push_inverse(bytes: &mut [u8], right: usize, cells: &[u8], at: usize) -> usize
     requires { ⌜ CellFits (now cells) at (now bytes) right ⌝ }
     ensures place { λ r. ⌜ r ≡ right - getD (now (cells .entry)) at 0 ⌝ }
