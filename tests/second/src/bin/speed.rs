@@ -1,10 +1,11 @@
 //! The firmware's time beside that of the same gap algorithm in Rust, both in this process, turn by turn.
 //!
-//!     speed [--milliseconds M] [--words W]
+//!     speed [--milliseconds M] [--steps S] [--words W]
 //!
 //! M is how long each side of a measure runs, in slices; the time shown is that of the fastest slice, which other work on the machine
-//! disturbs least. W is the most words of one length that are run in turn; without it, as many as have 100,000 steps together. Every
-//! measure first looks that both sides give the same result. The closing lines hold the times against the targets.
+//! disturbs least. The words of one length that are run in turn have S steps together, 100,000 without the flag: the last word's allowance
+//! is what is left of them. W is the most words of one length. Every measure first looks that both sides give the same result. The closing
+//! lines hold the times against the targets.
 use second::gap;
 use second::image::{program_image, table_image};
 use second::plain::plain_table;
@@ -42,8 +43,8 @@ struct Times {
 
 impl Times {
     /// What each of `units` costs beyond the fixed part.
-    fn beyond(self, fixed: Times, units: u64) -> Times {
-        let each = |whole: f64, fixed: f64| (whole - fixed) / units as f64;
+    fn beyond(self, fixed: Times, units: f64) -> Times {
+        let each = |whole: f64, fixed: f64| (whole - fixed) / units;
         Times { firmware: each(self.firmware, fixed.firmware), rust: each(self.rust, fixed.rust) }
     }
 
@@ -59,6 +60,7 @@ impl Times {
 struct Measures {
     areas: Areas,
     slice: Duration,
+    steps: u64,
     words: usize,
     differences: usize,
 }
@@ -76,25 +78,30 @@ impl Measures {
         began.elapsed().as_nanos() as f64 / calls as f64
     }
 
-    /// The time of one call on each side, where so many calls go through all cases.
-    fn calls(&mut self, name: &str, cases: usize, one: Side, two: Side) -> Times {
-        for _ in 0..cases {
-            let (told, rust) = (one(&mut self.areas), two(&mut self.areas));
-            if told != rust {
-                println!("{name}: the firmware gives {told:?}, Rust {rust:?}");
-                self.differences += 1;
+    /// The times of one call of each kind on each side, where so many calls go through all cases. The kinds take turns as the sides do.
+    fn calls<const KINDS: usize>(&mut self, name: &str, cases: usize, kinds: [(Side, Side); KINDS]) -> [Times; KINDS] {
+        for (one, two) in kinds {
+            for _ in 0..cases {
+                let (told, rust) = (one(&mut self.areas), two(&mut self.areas));
+                if told != rust {
+                    println!("{name}: the firmware gives {told:?}, Rust {rust:?}");
+                    self.differences += 1;
+                }
             }
         }
-        let mut times = Times { firmware: f64::INFINITY, rust: f64::INFINITY };
+        let mut times = [Times { firmware: f64::INFINITY, rust: f64::INFINITY }; KINDS];
         for _ in 0..SLICES {
-            times.firmware = times.firmware.min(self.nanoseconds(cases, one));
-            times.rust = times.rust.min(self.nanoseconds(cases, two));
+            for ((one, two), fastest) in kinds.into_iter().zip(&mut times) {
+                fastest.firmware = fastest.firmware.min(self.nanoseconds(cases, one));
+                fastest.rust = fastest.rust.min(self.nanoseconds(cases, two));
+            }
         }
         times
     }
 
     fn call(&mut self, name: &str, one: Side, two: Side) -> Times {
-        self.calls(name, 1, one, two)
+        let [times] = self.calls(name, 1, [(one, two)]);
+        times
     }
 }
 
@@ -103,32 +110,54 @@ fn told<T>(result: Result<T, u8>, values: impl FnOnce(T) -> [u64; 4]) -> Told {
     result.map_or_else(|number| (number, [0; 4]), |answer| (0, values(answer)))
 }
 
-/// The steps that the words of one length have together, unless fewer words are asked for.
-const STEPS: u64 = 100_000;
+/// Images, and the allowance that their call gets.
+#[derive(Clone)]
+struct Case<T> {
+    images: T,
+    allowance: u16,
+}
 
-/// The images of the cases that are run in turn.
+/// The cases that are run in turn. `steps` are those of all together, and `fixed` is the allowance under which the fixed part of a call is
+/// measured: a call with it reads the same images and begins the same reversing.
+#[derive(Clone)]
 struct Cases<T> {
-    images: Vec<T>,
+    cases: Vec<Case<T>>,
+    steps: u64,
+    fixed: u16,
     next: Cell<usize>,
 }
 
 impl<T> Cases<T> {
-    fn new(images: Vec<T>) -> Cases<T> {
-        Cases { images, next: Cell::new(0) }
+    /// As many as have the measure's steps together, unless fewer words are asked for. `steps` are those of one case, unless its allowance
+    /// is used up.
+    fn new(
+        measures: &mut Measures,
+        fixed: u16,
+        mut images: impl FnMut() -> T,
+        steps: impl Fn(&mut Areas, &T, u16) -> Option<u64>,
+    ) -> Cases<T> {
+        let mut all = Cases { cases: Vec::new(), steps: 0, fixed, next: Cell::new(0) };
+        while all.steps + u64::from(fixed) < measures.steps && all.cases.len() < measures.words {
+            let allowance = (measures.steps - all.steps).min(65_535) as u16;
+            let images = images();
+            all.steps += steps(&mut measures.areas, &images, allowance).unwrap_or(allowance.into());
+            all.cases.push(Case { images, allowance });
+        }
+        all
     }
 
-    fn next(&self) -> &T {
+    fn next(&self) -> &Case<T> {
         let at = self.next.get();
-        self.next.set((at + 1) % self.images.len());
-        &self.images[at]
+        self.next.set((at + 1) % self.cases.len());
+        &self.cases[at]
     }
 }
 
-/// Shows the time of a call and of a step, where the cases have so many steps together.
-fn show_steps(name: &str, cases: usize, steps: u64, whole: Times, fixed: Times) -> (Times, Times) {
-    let each = steps / cases as u64;
-    whole.show(&format!("{name}, {each} steps: the call"));
-    let step = whole.beyond(fixed, each);
+/// Shows the time of a call and of a step, from the times of a whole call and of its fixed part.
+fn show_steps<T>(name: &str, cases: &Cases<T>, [whole, fixed]: [Times; 2]) -> (Times, Times) {
+    let each = cases.steps as f64 / cases.cases.len() as f64;
+    whole.show(&format!("{name}, {each:.0} steps: the call"));
+    let step = whole.beyond(fixed, each - f64::from(cases.fixed));
     step.show(&format!("{name}: a step"));
     (whole, step)
 }
@@ -137,32 +166,40 @@ fn show_steps(name: &str, cases: usize, steps: u64, whole: Times, fixed: Times) 
 fn reverse(measures: &mut Measures, length: usize) -> (Times, Times) {
     let mut random = Random::new(length as u64);
     let image = table_image(&braid(4));
-    let (mut programs, mut steps) = (Vec::new(), 0);
-    while steps < STEPS && programs.len() < measures.words {
+    let program = || {
         let (u, v) = (forward_word(&mut random, 4, length / 2), forward_word(&mut random, 4, length / 2));
-        let program = program_image(4, &[undoing(&u), v].concat());
-        let (result, values) = firmware::reverse(&image, &program, 65_535, &mut measures.areas.workspace, &mut measures.areas.answer);
-        // A run that uses the whole allowance has taken that many steps.
-        steps += if result == 0 { values[2] } else { 65_535 };
-        programs.push(program);
-    }
-    let (count, ours, other) = (programs.len(), Cases::new(programs.clone()), Cases::new(programs));
-    let firmware = |allowance: u16| {
-        let (image, ours) = (&image, &ours);
-        move |areas: &mut Areas| firmware::reverse(image, ours.next(), allowance, &mut areas.workspace, &mut areas.answer)
+        program_image(4, &[undoing(&u), v].concat())
     };
-    let rust = |allowance: u16| {
+    let ours = Cases::new(measures, 0, program, |areas, program, allowance| {
+        let (result, values) = firmware::reverse(&image, program, allowance, &mut areas.workspace, &mut areas.answer);
+        (result == 0).then_some(values[2])
+    });
+    let other = ours.clone();
+    let firmware = |most: u16| {
+        let (image, ours) = (&image, &ours);
+        move |areas: &mut Areas| {
+            let case = ours.next();
+            firmware::reverse(image, &case.images, case.allowance.min(most), &mut areas.workspace, &mut areas.answer)
+        }
+    };
+    let rust = |most: u16| {
         let (image, other) = (&image, &other);
         move |areas: &mut Areas| {
-            told(gap::reverse(image, other.next(), allowance, &mut areas.workspace, &mut areas.answer), |(n, d, steps)| {
+            let case = other.next();
+            told(gap::reverse(image, &case.images, case.allowance.min(most), &mut areas.workspace, &mut areas.answer), |(n, d, steps)| {
                 [n as u64, d as u64, steps.into(), 0]
             })
         }
     };
     let name = format!("reverse, {length} moves");
-    let whole = measures.calls(&name, count, &firmware(65_535), &rust(65_535));
-    let fixed = measures.calls(&name, count, &firmware(0), &rust(0));
-    show_steps(&name, count, steps, whole, fixed)
+    let kinds: [(Side, Side); 2] = [(&firmware(65_535), &rust(65_535)), (&firmware(ours.fixed), &rust(ours.fixed))];
+    let times = measures.calls(&name, ours.cases.len(), kinds);
+    show_steps(&name, &ours, times)
+}
+
+/// The least allowance that clears a table.
+fn least_clearing(areas: &mut Areas, image: &[u8]) -> u16 {
+    (0..=65_535).find(|&allowance| firmware::clear(image, allowance, &mut areas.workspace).0 == 0).expect("a table that clears")
 }
 
 /// Two joined words of that many moves, with as many steps between them as such words have: u (u\v) w and v (v\u) w.
@@ -189,37 +226,33 @@ fn compare(measures: &mut Measures, length: usize) -> (Times, Times) {
     let mut random = Random::new(length as u64);
     let table = braid(4);
     let image = table_image(&table);
-    let (mut pairs, mut steps) = (Vec::new(), 0);
-    while steps < STEPS && pairs.len() < measures.words {
-        let [first, second] = joined(&mut random, &table, length);
-        let longer = [second.clone(), vec![1]].concat();
-        let pair = [first, second, longer].map(|word| program_image(4, &word));
-        let (_, values) = firmware::compare(&image, &pair[0], &pair[1], 65_535, &mut measures.areas.workspace);
-        steps += values[1];
-        pairs.push(pair);
-    }
-    let (count, ours, other) = (pairs.len(), Cases::new(pairs.clone()), Cases::new(pairs));
-    // Programs of unequal length are read and the table is cleared, but no step is taken.
-    let firmware = |second: usize| {
+    let programs = || joined(&mut random, &table, length).map(|word| program_image(4, &word));
+    let least = least_clearing(&mut measures.areas, &image);
+    let ours = Cases::new(measures, least, programs, |areas, [first, second], allowance| {
+        let (result, values) = firmware::compare(&image, first, second, allowance, &mut areas.workspace);
+        (result == 0).then_some(values[1])
+    });
+    let other = ours.clone();
+    let firmware = |most: u16| {
         let (image, ours) = (&image, &ours);
         move |areas: &mut Areas| {
-            let pair = ours.next();
-            firmware::compare(image, &pair[0], &pair[second], 65_535, &mut areas.workspace)
+            let case = ours.next();
+            firmware::compare(image, &case.images[0], &case.images[1], case.allowance.min(most), &mut areas.workspace)
         }
     };
-    let rust = |second: usize| {
+    let rust = |most: u16| {
         let (image, other) = (&image, &other);
         move |areas: &mut Areas| {
-            let pair = other.next();
-            told(gap::compare(image, &pair[0], &pair[second], 65_535, &mut areas.workspace), |(same, steps)| {
+            let case = other.next();
+            told(gap::compare(image, &case.images[0], &case.images[1], case.allowance.min(most), &mut areas.workspace), |(same, steps)| {
                 [u64::from(!same), steps.into(), 0, 0]
             })
         }
     };
     let name = format!("compare, {length} moves each");
-    let whole = measures.calls(&name, count, &firmware(1), &rust(1));
-    let fixed = measures.calls(&name, count, &firmware(2), &rust(2));
-    show_steps(&name, count, steps, whole, fixed)
+    let kinds: [(Side, Side); 2] = [(&firmware(65_535), &rust(65_535)), (&firmware(ours.fixed), &rust(ours.fixed))];
+    let times = measures.calls(&name, ours.cases.len(), kinds);
+    show_steps(&name, &ours, times)
 }
 
 fn clear(measures: &mut Measures) {
@@ -262,20 +295,21 @@ fn target(what: &str, found: f64, most: f64) -> bool {
 }
 
 fn main() -> ExitCode {
-    let (mut milliseconds, mut words) = (1_000, usize::MAX);
+    let (mut milliseconds, mut steps, mut words) = (1_000, 100_000, usize::MAX);
     let mut arguments = std::env::args().skip(1);
     while let Some(flag) = arguments.next() {
         match (flag.as_str(), arguments.next().map(|value| value.parse::<u64>())) {
             ("--milliseconds", Some(Ok(number))) => milliseconds = number,
+            ("--steps", Some(Ok(number))) if number >= 100 => steps = number,
             ("--words", Some(Ok(number))) if number > 0 => words = number as usize,
             _ => {
-                eprintln!("speed [--milliseconds M] [--words W]");
+                eprintln!("speed [--milliseconds M] [--steps S, 100 or more] [--words W]");
                 return ExitCode::from(2);
             }
         }
     }
     let areas = Areas { workspace: vec![0; AREA], answer: vec![0; AREA] };
-    let mut measures = Measures { areas, slice: Duration::from_millis(milliseconds) / SLICES, words, differences: 0 };
+    let mut measures = Measures { areas, slice: Duration::from_millis(milliseconds) / SLICES, steps, words, differences: 0 };
     println!("| measure | firmware, ns | Rust, ns | ratio |\n|---|---|---|---|");
     let reversed = [50, 500, 4_000].map(|length| reverse(&mut measures, length));
     let compared = [50, 500, 4_000].map(|length| compare(&mut measures, length));
