@@ -1,10 +1,10 @@
--- More of a field, read by a bit and written by a run. The loops of `read_field` and `write_field` take these steps.
+-- More of a field, read by a bit and written by a run: the steps that `read_field` and `write_field` take.
 use mathlib.Core.Path.{_≡_, refl, sym, ap, _∙_}
 use mathlib.Core.List.{List, [], _∷_, _++_, append-assoc}
 use Prim.Native.Nat.{ℕ, zero, suc, _+_, _-_, _*_, _/_, _^_, _≤_, _<_}
 use native.Mathlib.Omega.{arith}
 use native.Mathlib.Numerals.{add-one}
-use native.Mathlib.Nat.{add-assoc, div-one}
+use native.Mathlib.Nat.{add-assoc}
 use lib.ListN.{length, take, drop, getD, length-append, length-drop, take-append-drop}
 use lib.Seq.{take-suc, getD-drop, length-take-le, drop-drop}
 use lib.Pow.{pow-mono, shr-shr}
@@ -89,19 +89,25 @@ written-more xs ys zs at i k v inside first next =
           ∙ ap (λ l. take at bits ++ (digits (i + k) v ++ l)) (drop-drop k (at + i) bits ∙ ap (λ n. drop n bits) (add-assoc at i k)))));
     }
 
--- the next run of a field: k digits of the value after its first i
-pub written-next : (xs ys zs : List ℕ) (at width value i k : ℕ) → Inside xs at width → i + k ≤ width
-    → Written xs at i (value / 2 ^ (width - i)) ys → Written ys (at + i) k (value / 2 ^ (width - i - k)) zs
-    → Written xs at (i + k) (value / 2 ^ (width - (i + k))) zs
-written-next xs ys zs at width value i k inside h first next =
-    let e : value / 2 ^ (width - i) ≡ value / 2 ^ (width - i - k) / 2 ^ k =
-    ap (λ n. value / 2 ^ n) {x = width - i} {y = width - i - k + k} (omega arith) ∙ sym (shr-shr value (width - i - k) k) in
-    let d : width - (i + k) ≡ width - i - k = omega arith in
-    rw d (written-more xs ys zs at i k (value / 2 ^ (width - i - k)) (omega (arith, inside .inside)) (rw e at first) next)
+-- a field in two runs, and in three of which the second is a byte
+module _ (xs ys zs : List ℕ) (at width value i : ℕ) (inside : at + width ≤ 8 * length xs) where
+  pub written-two : i ≤ width → Written xs at i (value / 2 ^ (width - i)) ys → Written ys (at + i) (width - i) value zs → Written xs at width value zs
+  written-two h first next =
+      let all : i + (width - i) ≡ width = omega arith in
+      rw all at (written-more xs ys zs at i (width - i) value (omega arith) first next)
 
--- after the last run the whole field is written
-pub written-whole : (xs ys : List ℕ) (at width value i : ℕ) → i ≡ width → Written xs at i (value / 2 ^ (width - i)) ys → Written xs at width value ys
-written-whole xs ys at width value i e w =
-    let none : width - i ≡ 0 = omega arith in
-    let all : value / 2 ^ (width - i) ≡ value = ap (λ n. value / 2 ^ n) none ∙ div-one value in
-    rw (all, e) at w
+  written-first : i + 8 ≤ width → Written xs at i (value / 2 ^ (width - i)) ys → Written ys (at + i) 8 (value / 2 ^ (width - i - 8)) zs
+      → Written xs at (i + 8) (value / 2 ^ (width - (i + 8))) zs
+  written-first h first next =
+      let e : value / 2 ^ (width - i) ≡ value / 2 ^ (width - i - 8) / 2 ^ 8 =
+      ap (λ n. value / 2 ^ n) {x = width - i} {y = width - i - 8 + 8} (omega arith) ∙ sym (shr-shr value (width - i - 8) 8) in
+      let d : width - (i + 8) ≡ width - i - 8 = omega arith in
+      rw d (written-more xs ys zs at i 8 (value / 2 ^ (width - i - 8)) (omega arith) (rw e at first) next)
+
+pub written-three : (xs ys zs ws : List ℕ) (at width value i : ℕ) → at + width ≤ 8 * length xs → i + 8 ≤ width
+    → Written xs at i (value / 2 ^ (width - i)) ys → Written ys (at + i) 8 (value / 2 ^ (width - i - 8)) zs → Written zs (at + i + 8) (width - i - 8) value ws
+    → Written xs at width value ws
+written-three xs ys zs ws at width value i inside h first second third =
+    let place : at + i + 8 ≡ at + (i + 8) = omega arith in
+    let left : width - i - 8 ≡ width - (i + 8) = omega arith in
+    written-two xs zs ws at width value (i + 8) inside h (written-first xs ys zs at width value i inside h first second) (rw (place, left) at third)

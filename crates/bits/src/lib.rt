@@ -35,15 +35,6 @@ pub fn read_field(bytes: &[u8], at: usize, width: usize) -> u16
     value
 }
 
-// How many of the next bits lie in the byte of the first, out of those that are left.
-fn run_length(at: usize, left: usize) -> usize
-    requires { ⌜ 1 ≤ left ⌝ }
-    ensures { λ r. ⌜ (1 ≤ r) × (r ≤ left) × (at % 8 + r ≤ 8) ⌝ }
-{
-    let room = 8 - at % 8;
-    if room < left { room } else { left }
-}
-
 // Writes the last `count` digits of a value into a run of bits within one byte, and changes no other bit: the byte is put together anew from
 // the bits before the run, the run and the bits after it. At 16 bits, since a `span` or a `weight` may be 2 ^ 8.
 fn write_run(bytes: &mut [u8], at: usize, count: usize, value: u16)
@@ -59,16 +50,25 @@ fn write_run(bytes: &mut [u8], at: usize, count: usize, value: u16)
     bytes[place] = ((head * span + value % span) * weight + old % weight) as u8;
 }
 
-// Writes the last `width` digits of a value into a field, a byte's share at a time, and changes no other bit.
+// Writes the last `width` digits of a value into a field, and changes no other bit: a run in each of the one to three bytes that it reaches into.
 pub fn write_field(bytes: &mut [u8], at: usize, width: usize, value: u16)
     requires { ⌜ Inside (now bytes) at width ⌝ }
     ensures { λ r. ⌜ Written (now (bytes .entry)) at width value (now (bytes .exit)) ⌝ }
 {
-    let mut i: usize = 0;
-    while i < width {
-        let left = width - i;
-        let count = run_length(at + i, left);
-        write_run(bytes, at + i, count, value >> (left - count));
-        i += count;
+    if width == 0 {
+        return;
     }
+    let room = 8 - at % 8;
+    if width <= room {
+        write_run(bytes, at, width, value);
+        return;
+    }
+    let rest = width - room;
+    write_run(bytes, at, room, value >> rest);
+    if rest <= 8 {
+        write_run(bytes, at + room, rest, value);
+        return;
+    }
+    write_run(bytes, at + room, 8, value >> (rest - 8));
+    write_run(bytes, at + room + 8, rest - 8, value);
 }
