@@ -289,7 +289,7 @@ fn packing(measures: &mut Measures) {
 
 /// Prints a target and whether it is met.
 fn target(what: &str, found: f64, most: f64) -> bool {
-    let met = found <= most;
+    let met = found > 0.0 && found <= most;
     println!("{what}: {found:.2}, target {most}: {}", if met { "met" } else { "MISSED" });
     met
 }
@@ -322,6 +322,10 @@ fn main() -> ExitCode {
         println!("{name}: at least {rate:.0} million steps a second");
         let slowest = rows.iter().flat_map(|(whole, step)| [whole.ratio(), step.ratio()]).fold(0.0, f64::max);
         met &= target(&format!("{name}, the firmware's time beside Rust's, at most"), slowest, BESIDE_RUST);
+        if rows.iter().any(|(_, step)| !(step.firmware > 0.0 && step.rust > 0.0)) {
+            println!("{name}: a call took less time than its fixed part; run longer, by --milliseconds");
+            met = false;
+        }
         let flat = rows[2].1.firmware / rows[0].1.firmware;
         met &= target(&format!("{name}, a step at 4,000 moves beside one at 50"), flat, FLAT);
     }
