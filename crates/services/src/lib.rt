@@ -1,4 +1,4 @@
-// The services of document 01, over images and lent areas.
+// The services of document 01 over images and lent areas, but for packing.
 mod areas;
 pub mod chain;
 pub mod check;
