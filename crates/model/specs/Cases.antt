@@ -8,7 +8,7 @@ use Rattle.model.specs.Word.{forward, back}
 use Rattle.model.specs.Presentation.{undefined, complement, complete}
 use Rattle.model.specs.Equivalence.{Entry, applied}
 use Rattle.model.specs.Reversing.{next, run, reversing}
-use Rattle.model.specs.Checks.{residue, under, side, against, cubeAt, cleared}
+use Rattle.model.specs.Checks.{under, side, against, cubeAt, cleared}
 use Rattle.model.specs.Outcome.{answered, refused}
 use Rattle.model.specs.Bits.{field, finish}
 use Rattle.model.specs.Images.{readTable, readProgram, readChain, tableImage, programImage, chainImage}
@@ -61,9 +61,6 @@ triples =
     (clear braidBytes 65535 32768 gives answered tt) ∷
     -- with n below 3 there are no triples
     (clear (image open2) 0 0 gives answered tt) ∷
-    -- "L is 1, R is empty"
-    (side broken3 65535 32768 1 2 3 gives residue (1 ∷ [])) ∷
-    (side broken3 65535 32768 2 1 3 gives residue []) ∷
     -- R alone is defined
     (clear (image (three (complement [] []) undefined (complement (3 ∷ []) (2 ∷ [])))) 65535 32768 gives refused 9 (1 ∷ 2 ∷ 3 ∷ [])) ∷
     -- L alone is defined
@@ -251,7 +248,7 @@ unfolding tableImage programImage chainImage plainTable field finish readTable r
 further-holds =
     record {
       endings-hold = (refl, (refl, (refl, (refl, (refl, (refl, (refl, (refl, (refl, (refl, (refl, (refl, (refl, (refl, (refl, tt)))))))))))))));
-      triples-hold = (refl, (refl, (refl, (refl, (refl, (refl, (refl, (refl, (refl, (refl, (refl, (refl, (refl, (refl, (refl, (refl, (refl, (refl, (refl, tt)))))))))))))))))));
+      triples-hold = (refl, (refl, (refl, (refl, (refl, (refl, (refl, (refl, (refl, (refl, (refl, (refl, (refl, (refl, (refl, (refl, (refl, tt)))))))))))))))));
       tables-hold = (refl, (refl, (refl, (refl, (refl, (refl, (refl, (refl, (refl, (refl, (refl, (refl, (refl, (refl, (refl, (refl, (refl, (refl, (refl, (refl, (refl, (refl, (refl, (refl, (refl, (refl, tt))))))))))))))))))))))))));
       programs-hold = (refl, (refl, (refl, (refl, (refl, (refl, (refl, (refl, (refl, (refl, (refl, (refl, (refl, (refl, (refl, (refl, (refl, (refl, (refl, (refl, (refl, (refl, (refl, (refl, tt))))))))))))))))))))))));
       comparisons-hold = (refl, (refl, (refl, (refl, (refl, (refl, (refl, (refl, tt))))))));

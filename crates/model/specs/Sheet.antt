@@ -5,7 +5,7 @@ use Rattle.model.specs.Word.{forward, back}
 use Rattle.model.specs.Presentation.{complete}
 use Rattle.model.specs.Equivalence.{applied}
 use Rattle.model.specs.Reversing.{next, run, reversing}
-use Rattle.model.specs.Checks.{under, side, against, cubeAt, cleared}
+use Rattle.model.specs.Checks.{residue, under, side, against, cubeAt, cleared}
 use Rattle.model.specs.Outcome.{answered, refused}
 use Rattle.model.specs.Bits.{field, finish}
 use Rattle.model.specs.Images.{readTable, readProgram, readChain, tableImage, programImage, chainImage}
@@ -39,11 +39,13 @@ sheet =
     -- 10, 11: "n = 2, pair open: reversing -1 2 gives 10 with 1, 2; comparing 1 with 2 gives different"
     (reverse (image open2) (log 2 (back 1 ∷ forward 2 ∷ [])) 65535 32768 32768 gives refused 10 (1 ∷ 2 ∷ [])) ∷
     (compare (image open2) (pattern 2 (1 ∷ [])) (pattern 2 (2 ∷ [])) 65535 32768 gives answered (different-after 0)) ∷
-    -- 12: "9 with 1, 2, 3"
+    -- 12: "9 with 1, 2, 3 (L is 1, R is empty)"
     (clear (image broken3) 65535 32768 gives refused 9 (1 ∷ 2 ∷ 3 ∷ [])) ∷
+    (side broken3 65535 32768 1 2 3 gives residue (1 ∷ [])) ∷
+    (side broken3 65535 32768 2 1 3 gives residue []) ∷
     -- 13: "compare gives 8 with 1, 2"
     (compare (image unequal2) (pattern 2 []) (pattern 2 []) 65535 32768 gives refused 8 (1 ∷ 2 ∷ [])) ∷ []
 
 pub sheet-holds : All sheet
 unfolding tableImage programImage chainImage field finish readTable readProgram readChain readForward reverse compare comparison check followed applied clear cleared under side against cubeAt reversing run next complete
-sheet-holds = (refl, (refl, (refl, (refl, (refl, (refl, (refl, (refl, (refl, (refl, (refl, (refl, (refl, (refl, tt))))))))))))))
+sheet-holds = (refl, (refl, (refl, (refl, (refl, (refl, (refl, (refl, (refl, (refl, (refl, (refl, (refl, (refl, (refl, (refl, tt))))))))))))))))
