@@ -12,6 +12,7 @@ use lib.Dec.{ltb, eqb}
 use lib.ListN.{length, take, drop, getD, replicate, length-append, length-take, length-drop, length-replicate, take-append-drop}
 use lib.Seq.{take-at, drop-at, take-append-le, take-append-add, length-take-le}
 use Rattle.model.specs.Bits.{digits, number, bitsOf, packed, bytesFor, pack, allZero, filling}
+use Rattle.model.specs.Range.{AreBytes}
 use Rattle.bits.proofs.Digits.{AreBits, length-digits, bits-append, number-bound, number-of-digits, digits-of-number}
 use Rattle.bits.proofs.Bytes.{length-bits}
 use Rattle.bits.proofs.Fields.{bits-take, bits-drop}
@@ -21,10 +22,6 @@ below-or a b = elim (decLt a b) [ yes p ↦ inl p | no p ↦ inr (not-below p) ]
   where
     not-below : (a < b → ⊥) → b ≤ a
     not-below p = omega arith
-
--- every element is a byte
-abbrev pub AreBytes : List ℕ → Type 0
-AreBytes xs = (i : ℕ) → getD xs i 0 < 256
 
 pub zeros-are-bits : (n : ℕ) → AreBits (replicate n 0)
 zeros-are-bits zero = tt

@@ -16,7 +16,8 @@ use Rattle.model.specs.Areas.{begins}
 use Rattle.bits.specs.Fields.{Inside, Written}
 use Rattle.bits.proofs.Digits.{AreBits, length-digits, digits-are-bits, bits-append}
 use Rattle.bits.proofs.Bytes.{length-bits, bits-of-append}
-use Rattle.bits.proofs.Packing.{AreBytes, pack-filling, bits-injective, packed-of}
+use Rattle.model.specs.Range.{AreBytes}
+use Rattle.bits.proofs.Packing.{pack-filling, bits-injective, packed-of}
 use Rattle.chains.specs.Slots.{slotWidth, slotAt, Layout}
 use Rattle.chains.proofs.Parts.{part-within, part-whole, empty-of}
 use Rattle.chains.proofs.Placing.{placed-at, written-placed, slot-small}

@@ -16,7 +16,7 @@ use Rattle.engine.specs.Cells.{Lettered}
 use Rattle.engine.proofs.Letters.{letters-append, length-letters}
 use Rattle.engine.proofs.Lettering.{length-negative}
 use Rattle.engine.proofs.Runs.{run-begun}
-use Rattle.bits.proofs.Packing.{AreBytes}
+use Rattle.model.specs.Range.{AreBytes}
 use Rattle.chains.specs.declared.moves.Place.{Place}
 use Rattle.chains.specs.Slots.{Layout}
 use Rattle.chains.specs.Course.{Task, Settled, Course, Situation, Complete}

@@ -22,7 +22,8 @@ use Rattle.bits.specs.Fields.{Written}
 use Rattle.bits.proofs.Digits.{AreBits, length-digits, digits-are-bits, bits-append, digits-joined}
 use Rattle.bits.proofs.Width.{letter-fits}
 use Rattle.bits.proofs.Bytes.{length-bits, bits-of-append, bits-store}
-use Rattle.bits.proofs.Packing.{AreBytes, pack-bits, packed-bytes, length-packed, bits-injective, and-first, and-second}
+use Rattle.model.specs.Range.{AreBytes}
+use Rattle.bits.proofs.Packing.{pack-bits, packed-bytes, length-packed, bits-injective, and-first, and-second}
 use Rattle.images.specs.Programs.{written}
 use Rattle.images.specs.Written.{Appended, WidthOf, programBits}
 use Rattle.images.proofs.Placed.{length-signed}

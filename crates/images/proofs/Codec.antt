@@ -15,7 +15,7 @@ use Rattle.model.specs.Bits.{Read, field, digits, number}
 use Rattle.model.specs.Images.{several, rowsOf}
 use Rattle.bits.proofs.Digits.{AreBits, length-digits, number-bound, number-of-digits, digits-of-number}
 use Rattle.bits.proofs.Fields.{bits-take}
-use Rattle.images.specs.Range.{All, Rows}
+use Rattle.model.specs.Range.{All, Rows}
 use Rattle.images.proofs.Several.{answer-of, same-answer}
 
 -- the parts of an outcome in order: what the first answers, and what follows from it

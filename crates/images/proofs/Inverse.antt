@@ -16,7 +16,7 @@ use Rattle.model.specs.Bits.{Read, field, digits, letterWidth}
 use Rattle.model.specs.Images.{several, letterField, letterBits, wordField, wordBits, pairField, pairBits, definedField, signed, signedField, signedBits, entryField, entryBits}
 use Rattle.bits.proofs.Digits.{AreBits}
 use Rattle.bits.proofs.Width.{letter-fits}
-use Rattle.images.specs.Range.{All, GeneratorInRange, LetterInRange, WordInRange, PairInRange, EntryInRange}
+use Rattle.model.specs.Range.{All, GeneratorInRange, LetterInRange, WordInRange, PairInRange, EntryInRange}
 use Rattle.images.proofs.Several.{answer-of, same-answer}
 use Rattle.images.proofs.Codec.{Codec, then, field-codec, several-codec, input-rest, bits-suffix, not-refused}
 

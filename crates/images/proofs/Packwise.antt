@@ -13,7 +13,7 @@ use Rattle.model.specs.Bits.{digits, letterWidth}
 use Rattle.model.specs.Images.{letterBits, wordBits, pairBits}
 use Rattle.bits.specs.Fields.{Written}
 use Rattle.bits.proofs.Digits.{length-digits}
-use Rattle.images.specs.Range.{GeneratorInRange}
+use Rattle.model.specs.Range.{GeneratorInRange}
 use Rattle.images.specs.Cells.{HoldsWord, cellAt}
 use Rattle.images.specs.Tables.{HoldsPair}
 use Rattle.images.specs.Bitwise.{AppendedTo}

@@ -14,8 +14,7 @@ use Rattle.model.specs.Outcome.{Outcome, answered, _>>=_, unless}
 use Rattle.model.specs.Bits.{Read}
 use Rattle.model.specs.Images.{several, rowsOf}
 use Rattle.model.specs.Plain.{plainWord, plainPair, plainTable, plainProgram, nextByte, plainLetter, plainLetters, plainDefined, plainPairAt, readPlainTable, namesLetter, plainLettersSigned, readPlainProgram}
-use Rattle.bits.proofs.Packing.{AreBytes}
-use Rattle.images.specs.Range.{All, Rows, GeneratorInRange, LetterInRange, WordInRange, PairInRange, ProgramInRange, TableInRange}
+use Rattle.model.specs.Range.{AreBytes, All, Rows, GeneratorInRange, LetterInRange, WordInRange, PairInRange, ProgramInRange, TableInRange}
 use Rattle.images.proofs.Appending.{named-positive, named-small}
 use Rattle.images.proofs.Several.{answer-of, same-answer}
 use Rattle.images.proofs.Codec.{Codec, then, several-codec, rows-codec, not-refused}

@@ -15,8 +15,8 @@ use Rattle.model.specs.Bits.{Read, field, finish, filling, digits, bitsOf, byte
 use Rattle.model.specs.Images.{several, rowsOf, letterBits, wordBits, pairField, pairBits, signedField, signedBits, entryField, entryBits, readTable, tableImage, readProgram, programImage, readChain, chainImage}
 use Rattle.bits.proofs.Digits.{AreBits, digits-are-bits, bits-append}
 use Rattle.bits.proofs.Bytes.{bits-are-bits}
-use Rattle.bits.proofs.Packing.{AreBytes, pack-bits, pack-filling, packed-of}
-use Rattle.images.specs.Range.{All, Rows, LetterInRange, PairInRange, EntryInRange, ProgramInRange, TableInRange, ChainInRange}
+use Rattle.model.specs.Range.{AreBytes, All, Rows, LetterInRange, PairInRange, EntryInRange, ProgramInRange, TableInRange, ChainInRange}
+use Rattle.bits.proofs.Packing.{pack-bits, pack-filling, packed-of}
 use Rattle.images.proofs.Several.{answer-of, same-answer, bind-assoc}
 use Rattle.images.proofs.Codec.{Codec, then, field-codec, rows-codec, input-rest, bits-suffix}
 use Rattle.images.proofs.Inverse.{counted, counted-codec, signed-codec, pair-codec, entry-codec}
@@ -206,3 +206,6 @@ table-reads-back T h = table-is (tableImage T) ∙ image-reads-back 3 tableBody 
 pub table-image-of : (bytes : List ℕ) → AreBytes bytes → (T : Presentation) → readTable bytes ≡ answered T → (bytes ≡ tableImage T) × TableInRange T
 unfolding tableImage tableBits
 table-image-of bytes bs T e = image-stood-there 3 tableBody tableBits TableInRange table-codec bytes bs T (λ T h. table-are-bits T) (sym (table-is bytes) ∙ e)
+
+pub table-in-range : (bytes : List ℕ) (T : Presentation) → readTable bytes ≡ answered T → TableInRange T
+table-in-range bytes T e = image-in-range 3 tableBody tableBits TableInRange table-codec bytes T (sym (table-is bytes) ∙ e)

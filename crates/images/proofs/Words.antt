@@ -18,7 +18,7 @@ use Rattle.model.specs.Images.{letterField, wordField, several}
 use Rattle.model.specs.Plain.{nextByte, plainLetter, plainLetters}
 use Rattle.bits.proofs.Packing.{below-or}
 use Rattle.images.specs.Fields.{FieldAt, from}
-use Rattle.images.specs.Range.{All, GeneratorInRange}
+use Rattle.model.specs.Range.{All, GeneratorInRange}
 use Rattle.images.specs.Tables.{KeptOutside, WordFrom, bytesFrom}
 use Rattle.images.proofs.Several.{after, after-none, several-step, several-refused, several-done}
 

@@ -6,7 +6,7 @@ use Prim.Native.Nat.{ℕ, _+_, _-_, _*_, _≤_, _<_}
 use lib.ListN.{length, getD}
 use Rattle.model.specs.Word.{Positive}
 use Rattle.model.specs.Presentation.{Presentation, Complement, undefined, complement, complete}
-use Rattle.images.specs.Range.{WordInRange}
+use Rattle.model.specs.Range.{WordInRange}
 
 -- two letters that a table can have
 pub record Letters (a b : ℕ) : Type 0 where

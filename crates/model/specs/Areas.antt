@@ -4,7 +4,7 @@ use mathlib.Core.Bool.{cond}
 use mathlib.Core.Path.{_≡_}
 use Prim.Native.Nat.{ℕ, _≤_}
 use lib.Dec.{leb}
-use lib.ListN.{length, drop, replicate}
+use lib.ListN.{length, take, drop, replicate}
 use Rattle.model.specs.Word.{Positive}
 use Rattle.model.specs.Presentation.{Presentation}
 use Rattle.model.specs.Equivalence.{Entry, Leads}
@@ -20,6 +20,11 @@ begins bytes area = bytes ++ drop (length bytes) area
 abbrev pub outputAfter : {A : Type 0} → (A → List ℕ) → Outcome A → List ℕ → List ℕ
 outputAfter bytes (answered x) area = begins (bytes x) area
 outputAfter bytes (refused n ps) area = area
+
+-- what is written reads back: the first k bytes of the area, where k bytes were written, are read as what the input was read as
+abbrev pub ReadsBack : {A : Type 0} → Outcome A → (List ℕ → Outcome A) → Outcome ℕ → List ℕ → Type 0
+ReadsBack subject read (answered k) area = read (take k area) ≡ subject
+ReadsBack subject read (refused n ps) area = Unit {0}
 
 -- "Reverse: N then D, unpacked, in the answer area"
 abbrev pub fractionBytes : Fraction → List ℕ

@@ -4,7 +4,7 @@ use mathlib.Core.List.{List, [], _∷_, _++_}
 use mathlib.Core.Bool.{Bool, true, false, _&&_, cond}
 use mathlib.Core.Option.{Option, none, some}
 use mathlib.Core.Path.{_≡_}
-use Prim.Native.Nat.{ℕ, _+_}
+use Prim.Native.Nat.{ℕ, _+_, _≤_}
 use lib.Dec.{eqb}
 use lib.ListN.{length, take, drop}
 use Rattle.model.specs.Word.{Positive}
@@ -41,6 +41,15 @@ applied T u e = cond (eqb (e .a) (e .b)) none (related u e (complete T (e .a) (e
 abbrev pub Leads : Presentation → Positive → List Entry → Positive → Type 0
 Leads T u [] v = u ≡ v
 Leads T u (e ∷ es) v = (w : Positive) × (applied T u e ≡ some w) × Leads T w es v
+
+-- every word on the way, the first and the last included, has at most `width` letters
+abbrev pub Fits : (T : Presentation) (width : ℕ) (u : Positive) (es : List Entry) (v : Positive) → Leads T u es v → Type 0
+Fits T width u [] v h = length u ≤ width
+Fits T width u (e ∷ es) v h = (length u ≤ width) × Fits T width (h .0) es v (h .2)
+
+-- the entries lead from u to v by words that fit
+abbrev pub LeadsWithin : Presentation → ℕ → Positive → List Entry → Positive → Type 0
+LeadsWithin T width u es v = (h : Leads T u es v) × Fits T width u es v h
 
 -- "Two such words are joined if a finite chain of swaps, perhaps of none, leads from one to the other."
 abbrev pub Joined : Presentation → Positive → Positive → Type 0

@@ -3,6 +3,7 @@ pub mod Presentation
 pub mod Equivalence
 pub mod Reversing
 pub mod Enumeration
+pub mod Range
 pub mod Outcome
 pub mod Checks
 pub mod Bits

@@ -1,16 +1,20 @@
--- What can be packed: the words, programs, tables and chains that an image can hold. Document 01, "Moves, tables, programs".
+-- What is in range: bytes, and the words, programs, tables and chains that an image can hold. Document 01, "Moves, tables, programs".
 use mathlib.Core.List.{List, [], _∷_}
 use mathlib.Core.Path.{_≡_}
 use Prim.Native.Nat.{ℕ, zero, suc, _≤_, _<_}
-use lib.ListN.{length}
+use lib.ListN.{length, getD}
 use Rattle.model.specs.Word.{Letter, forward, back, Word, Positive}
 use Rattle.model.specs.Presentation.{Presentation, Complement, undefined, complement}
 use Rattle.model.specs.Equivalence.{Entry}
 
 -- every element
 abbrev pub All : {A : Type 0} → (A → Type 0) → List A → Type 0
 All P [] = Unit {0}
 All P (x ∷ xs) = P x × All P xs
+
+-- an area or image: every element is a byte
+abbrev pub AreBytes : List ℕ → Type 0
+AreBytes xs = (i : ℕ) → getD xs i 0 < 256
 
 -- "moves, numbered 1 to n"
 pub record GeneratorInRange (n a : ℕ) : Type 0 where

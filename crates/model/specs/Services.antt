@@ -121,14 +121,18 @@ unfoldable pub followed : Presentation → ℕ → ℕ → Positive → List Ent
 followed T width k u [] v = answered (cond (equal u v) joins ends-elsewhere)
 followed T width k u (e ∷ es) v = followedBy width k (λ w. followed T width (suc k) w es v) (applied T u e)
 
--- the programs before the chain image; refusal 12: "the first program .. is longer than it". "It needs no cleared table."
+-- a chain from u to v; refusal 12: "the first program .. is longer than it"
+abbrev pub passage : Presentation → ℕ → Positive → List Entry → Positive → Outcome Passage
+passage T width u es v = cond (ltb width (length u)) (refused 12 []) (followed T width 0 u es v)
+
+-- the programs before the chain image. "It needs no cleared table."
 unfoldable pub check : List ℕ → List ℕ → List ℕ → List ℕ → ℕ → Outcome Passage
 check table first second entries width =
     readTable table >>= λ T.
     readForward (T .size) first >>= λ u.
     readForward (T .size) second >>= λ v.
     readChain (T .size) entries >>= λ es.
-    cond (ltb width (length u)) (refused 12 []) (followed T width 0 u es v)
+    passage T width u es v
 
 -- PACK AND UNPACK
 
@@ -142,7 +146,13 @@ packTable plain area = readPlainTable plain >>= λ T. fitted area (tableImage T)
 unfoldable pub unpackTable : List ℕ → ℕ → Outcome (List ℕ)
 unpackTable table area = readTable table >>= λ T. fitted area (plainTable T)
 
--- "a program always comes with its table's image"
+-- "a program always comes with its table's image": the program that an image, or a plain form, holds under it
+abbrev pub programUnder : List ℕ → List ℕ → Outcome Word
+programUnder table program = readTable table >>= λ T. readProgram (T .size) program
+
+abbrev pub plainProgramUnder : List ℕ → List ℕ → Outcome Word
+plainProgramUnder table plain = readTable table >>= λ T. readPlainProgram (T .size) plain
+
 unfoldable pub packProgram : List ℕ → List ℕ → ℕ → Outcome (List ℕ)
 packProgram table plain area =
     readTable table >>= λ T.

@@ -1,5 +1,5 @@
 -- The two equations of a packing service's promise, from its outcome. Then the outcome of each service, from those of the readers.
-use mathlib.Core.Path.{_≡_, sym, ap, _∙_}
+use mathlib.Core.Path.{_≡_, sym, ap, subst, _∙_}
 use mathlib.Core.List.{List, [], _∷_}
 use Prim.Native.Nat.{ℕ, _+_, _≤_, _<_}
 use native.Mathlib.Omega.{arith}
@@ -13,25 +13,32 @@ use Rattle.model.specs.declared.answers.Packed.the-variants.{Written, Refused}
 use Rattle.model.specs.Presentation.{Presentation}
 use Rattle.model.specs.Word.{Word}
 use Rattle.model.specs.Outcome.{Outcome, answered, refused, _>>=_, unless, mapped}
-use Rattle.model.specs.Areas.{begins, outputAfter}
+use Rattle.model.specs.Areas.{begins, outputAfter, ReadsBack}
 use Rattle.model.specs.Stated.{refusal, packedAs}
 use Rattle.model.specs.Images.{readTable, readProgram, programImage, tableImage}
 use Rattle.model.specs.Plain.{plainProgram, readPlainProgram, readPlainTable, plainPair, plainTable}
 use Rattle.model.specs.Enumeration.{concatMap}
 use Rattle.model.specs.Services.{fitted, unpackProgram, packProgram, packTable, unpackTable}
-use Rattle.images.proofs.Refusals.{refused-on, refusal-mapped, refusal-output}
+use Rattle.images.proofs.Refusals.{told, refused-on, refusal-mapped, refusal-output}
 
--- the promise: the result is the outcome's, and the area is what the outcome leaves
-abbrev pub Kept : Outcome (List ℕ) → List ℕ → Packed → List ℕ → Type 0
-Kept outcome before r after = (packedAs r ≡ mapped length outcome) × (after ≡ outputAfter (λ b. b) outcome before)
+-- the promise: the result is the outcome's, the area is what the outcome leaves, and what is written reads back as the subject
+abbrev pub Kept : {A : Type 0} → Outcome A → (List ℕ → Outcome A) → Outcome (List ℕ) → List ℕ → Packed → List ℕ → Type 0
+Kept subject read outcome before r after =
+    (packedAs r ≡ mapped length outcome) × ((after ≡ outputAfter (λ b. b) outcome before) × ReadsBack subject read (packedAs r) after)
 
-pub refused-keeps : (outcome : Outcome (List ℕ)) (area : List ℕ) (r : Refusal) → outcome ≡ refusal r → Kept outcome area (Refused r) area
-refused-keeps outcome area r e =
-    (sym (refusal-mapped r length) ∙ ap (mapped length) (sym e), sym (refusal-output r (λ b. b) area) ∙ ap (λ o. outputAfter (λ b. b) o area) (sym e))
+module _ {A : Type 0} (subject : Outcome A) (read : List ℕ → Outcome A) (outcome : Outcome (List ℕ)) (area : List ℕ) where
+  pub refused-keeps : (r : Refusal) → outcome ≡ refusal r → Kept subject read outcome area (Refused r) area
+  refused-keeps r e = (
+    sym (refusal-mapped r length) ∙ ap (mapped length) (sym e),
+    (sym (refusal-output r (λ b. b) area) ∙ ap (λ o. outputAfter (λ b. b) o area) (sym e), subst (λ o. ReadsBack subject read o area) (sym (told r .is)) tt),
+  )
 
-pub answered-writes : (outcome : Outcome (List ℕ)) (area bytes after : List ℕ) (k : ℕ) → outcome ≡ answered bytes → length bytes ≡ k → after ≡ begins bytes area → Kept outcome area (Written k) after
-answered-writes outcome area bytes after k e n w =
-    (ap answered (sym n) ∙ ap (mapped length) (sym e), w ∙ ap (λ o. outputAfter (λ b. b) o area) (sym e))
+  pub answered-writes : (bytes after : List ℕ) (k : ℕ) → outcome ≡ answered bytes → length bytes ≡ k → after ≡ begins bytes area → read bytes ≡ subject
+      → Kept subject read outcome area (Written k) after
+  answered-writes bytes after k e n w back = (
+    ap answered (sym n) ∙ ap (mapped length) (sym e),
+    (w ∙ ap (λ o. outputAfter (λ b. b) o area) (sym e), ap read (ap (take k) w ∙ take-at bytes (drop (length bytes) area) k n) ∙ back),
+  )
 
 -- refusal 13, or not
 pub short-area : (area : ℕ) (bytes : List ℕ) → area < length bytes → fitted area bytes ≡ refused 13 []

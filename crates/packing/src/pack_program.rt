@@ -10,13 +10,14 @@ use model::answers::Refusal;
 ghost use mathlib.Core.Path.{_≡_};
 ghost use lib.ListN.{length};
 ghost use Rattle.model.specs.Outcome.{mapped};
-ghost use Rattle.model.specs.Areas.{outputAfter};
+ghost use Rattle.model.specs.Areas.{outputAfter, ReadsBack};
 ghost use Rattle.model.specs.Stated.{packedAs};
-ghost use Rattle.model.specs.Services.{packProgram};
+ghost use Rattle.model.specs.Services.{packProgram, programUnder, plainProgramUnder};
 
 pub fn pack(table: &[u8], program: &[u8], area: &mut [u8]) -> Packed
     ensures stated { λ r. ⌜ packedAs r ≡ mapped length (packProgram (now (table .entry)) (now (program .entry)) (length (now (area .entry)))) ⌝ }
     ensures area { λ r. ⌜ now (area .exit) ≡ outputAfter (λ b. b) (packProgram (now (table .entry)) (now (program .entry)) (length (now (area .entry)))) (now (area .entry)) ⌝ }
+    ensures readable { λ r. ⌜ ReadsBack (plainProgramUnder (now (table .entry)) (now (program .entry))) (programUnder (now (table .entry))) (packedAs r) (now (area .exit)) ⌝ }
 {
     match tables::table_size(table) {
         TableRead::Refused(refusal) => Packed::Refused(refusal),

@@ -9,14 +9,17 @@ use model::answers::Refusal;
 ghost use mathlib.Core.Path.{_≡_};
 ghost use lib.ListN.{length};
 ghost use Rattle.model.specs.Outcome.{mapped};
-ghost use Rattle.model.specs.Areas.{outputAfter};
+ghost use Rattle.model.specs.Areas.{outputAfter, ReadsBack};
 ghost use Rattle.model.specs.Stated.{packedAs};
+ghost use Rattle.model.specs.Images.{readTable};
+ghost use Rattle.model.specs.Plain.{readPlainTable};
 ghost use Rattle.model.specs.Services.{packTable};
 
 // The image is made in a local area first, so that its length is known before anything is written.
 pub fn pack(plain: &[u8], area: &mut [u8]) -> Packed
     ensures stated { λ r. ⌜ packedAs r ≡ mapped length (packTable (now (plain .entry)) (length (now (area .entry)))) ⌝ }
     ensures area { λ r. ⌜ now (area .exit) ≡ outputAfter (λ b. b) (packTable (now (plain .entry)) (length (now (area .entry)))) (now (area .entry)) ⌝ }
+    ensures readable { λ r. ⌜ ReadsBack (readPlainTable (now (plain .entry))) readTable (packedAs r) (now (area .exit)) ⌝ }
 {
     let mut cells = [0u8; 4096];
     match plain::read_plain_table(plain, &mut cells) {

@@ -9,13 +9,14 @@ use model::answers::Refusal;
 ghost use mathlib.Core.Path.{_≡_};
 ghost use lib.ListN.{length};
 ghost use Rattle.model.specs.Outcome.{mapped};
-ghost use Rattle.model.specs.Areas.{outputAfter};
+ghost use Rattle.model.specs.Areas.{outputAfter, ReadsBack};
 ghost use Rattle.model.specs.Stated.{packedAs};
-ghost use Rattle.model.specs.Services.{unpackProgram};
+ghost use Rattle.model.specs.Services.{unpackProgram, programUnder, plainProgramUnder};
 
 pub fn unpack(table: &[u8], program: &[u8], area: &mut [u8]) -> Packed
     ensures stated { λ r. ⌜ packedAs r ≡ mapped length (unpackProgram (now (table .entry)) (now (program .entry)) (length (now (area .entry)))) ⌝ }
     ensures area { λ r. ⌜ now (area .exit) ≡ outputAfter (λ b. b) (unpackProgram (now (table .entry)) (now (program .entry)) (length (now (area .entry)))) (now (area .entry)) ⌝ }
+    ensures readable { λ r. ⌜ ReadsBack (programUnder (now (table .entry)) (now (program .entry))) (plainProgramUnder (now (table .entry))) (packedAs r) (now (area .exit)) ⌝ }
 {
     match tables::table_size(table) {
         TableRead::Refused(refusal) => Packed::Refused(refusal),

@@ -9,14 +9,17 @@ use model::answers::Refusal;
 ghost use mathlib.Core.Path.{_≡_};
 ghost use lib.ListN.{length};
 ghost use Rattle.model.specs.Outcome.{mapped};
-ghost use Rattle.model.specs.Areas.{outputAfter};
+ghost use Rattle.model.specs.Areas.{outputAfter, ReadsBack};
 ghost use Rattle.model.specs.Stated.{packedAs};
+ghost use Rattle.model.specs.Images.{readTable};
+ghost use Rattle.model.specs.Plain.{readPlainTable};
 ghost use Rattle.model.specs.Services.{unpackTable};
 
 // The plain form is made in a local area first, so that its length is known before anything is written.
 pub fn unpack(table: &[u8], area: &mut [u8]) -> Packed
     ensures stated { λ r. ⌜ packedAs r ≡ mapped length (unpackTable (now (table .entry)) (length (now (area .entry)))) ⌝ }
     ensures area { λ r. ⌜ now (area .exit) ≡ outputAfter (λ b. b) (unpackTable (now (table .entry)) (length (now (area .entry)))) (now (area .entry)) ⌝ }
+    ensures readable { λ r. ⌜ ReadsBack (readTable (now (table .entry))) readPlainTable (packedAs r) (now (area .exit)) ⌝ }
 {
     let mut cells = [0u8; 4096];
     match tables::read_table(table, &mut cells) {

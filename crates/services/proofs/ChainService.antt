@@ -9,12 +9,12 @@ use borrow.Author.Tests.{lt-ltb, le-ltb}
 use lib.Dec.{ltb}
 use lib.ListN.{length, length-append}
 use Rattle.model.specs.Word.{Word, Positive, positive, negative}
-use Rattle.model.specs.Presentation.{Presentation}
+use Rattle.model.specs.Presentation.{Presentation, complete}
 use Rattle.model.specs.Equivalence.{Entry}
 use Rattle.model.specs.Reversing.{finished, room, reversing}
 use Rattle.model.specs.Outcome.{Outcome, answered, refused, _>>=_, unless}
-use Rattle.model.specs.Images.{readProgram}
-use Rattle.model.specs.Services.{Verdict, same-after, different-after, comparison, chainBytes, listable, chain}
+use Rattle.model.specs.Images.{readProgram, chainImage}
+use Rattle.model.specs.Services.{Verdict, same-after, different-after, readForward, comparison, chainBytes, listable, chain}
 use Rattle.model.specs.Areas.{Compares, Listed, ChainArea}
 use Rattle.model.specs.Stated.{refusal}
 use Rattle.model.specs.declared.answers.Refusal.{Refusal}
@@ -24,11 +24,14 @@ use Rattle.theory.proofs.Impossible.{impossible}
 use Rattle.theory.proofs.Reversal.{reversing-long}
 use Rattle.theory.proofs.Endings.{reversing-finishes}
 use Rattle.theory.proofs.Leftmost.{counted-within}
+use Rattle.theory.proofs.Equiv.{Homogeneous}
 use Rattle.theory.proofs.Clearing.{clear-homogeneous}
+use Rattle.theory.proofs.Passages.{lead-joins}
+use Rattle.theory.proofs.Comparison.{answered-clear}
 use Rattle.theory.proofs.Verdicts.{demand-three, settled-same, settled-different, stopped-by-budget, stopped-by-room}
 use Rattle.theory.proofs.Verdicts.{Settled as TheorySettled}
-use Rattle.images.specs.Range.{EntryInRange, ProgramInRange}
-use Rattle.images.specs.Range.{All as Every}
+use Rattle.model.specs.Range.{EntryInRange, ProgramInRange}
+use Rattle.model.specs.Range.{All as Every}
 use Rattle.images.specs.Programs.{ForwardOf}
 use Rattle.images.proofs.RoundTrip.{chain-reads-back, program-in-range}
 use Rattle.engine.specs.Cells.{Lettered}
@@ -41,13 +44,14 @@ use Rattle.chains.proofs.Layouts.{room-for-fewer}
 use Rattle.checks.specs.Table.{Of}
 use Rattle.services.specs.Loading.{Images, readPair}
 use Rattle.services.specs.Compare.{toldAs, Ended, Judged, LoadedPair, Settled, settled, by-allowance, by-memory, Meaning}
-use Rattle.services.specs.Chain.{Area, ListedAs}
+use Rattle.services.specs.Chain.{Area, ListedAs, JoinsChecked, ListedChecks}
 use Rattle.services.specs.declared.compare.Judgement.{Judgement}
 use Rattle.services.specs.declared.compare.Judgement.the-variants.{Same, Different, Refused}
 use Rattle.images.proofs.Refusals.{told}
 use Rattle.services.proofs.Outcomes.{AsFound, still-refused}
 use Rattle.services.proofs.Reading.{pair-refused, pair-runs}
 use Rattle.services.proofs.Programs.{lettered-program}
+use Rattle.services.proofs.CheckService.{check-runs}
 
 -- A VERDICT THAT LISTS NOTHING
 
@@ -220,3 +224,41 @@ module _ (table first second before after : List ℕ) where
   area-listed T u v c (answered (same-after k)) l = (T, u, v, c, l)
   area-listed T u v c (answered (different-after k)) l = l
   area-listed T u v c (refused n ps) l = l
+
+-- and what check says of it
+module _ (table first second : List ℕ) (steps width : ℕ) (before after : List ℕ) where
+  -- the table cleared, so the relations keep lengths
+  even-after : (T : Presentation) (u v : Positive) → Compares table first second T u v → (k : ℕ)
+      → answered (same-after k) ≡ chain table first second steps width (length before) → Homogeneous (λ a. 1) (complete T)
+  even-after T u v c k e =
+      clear-homogeneous T steps width
+      (answered-clear T u v steps width
+      (told-of table first second steps width (length before) (T .size) (comparison T u v steps width) (same-after k)
+      (sym (e ∙ chain-runs table first second steps width (length before) T u v c))))
+
+  joins-checked : (T : Presentation) (u v : Positive) → Compares table first second T u v → (k : ℕ)
+      → answered (same-after k) ≡ chain table first second steps width (length before) → Listed T u v k before after
+      → JoinsChecked table first second before after
+  joins-checked T u v c k e l =
+      record {
+        image = chainImage (T .size) (l .entries);
+        written = l .written;
+        joined = λ T′ u′ v′ c′ room h.
+            check-runs table first second (chainImage (T .size) (l .entries)) room T u v c (T .size) refl (l .entries) (l .readable)
+            ∙ lead-joins T (even-after T u v c k e) room u (l .entries) v (l .leads) (omega (arith, h, ap length (same-first T′ u′ v′ c′)));
+      }
+    where
+      same-first : (T′ : Presentation) (u′ v′ : Positive) → Compares table first second T′ u′ v′ → u ≡ u′
+      same-first T′ u′ v′ c′ =
+          let one = c .table-read in
+          let two = c′ .table-read in
+          let sizes : T .size ≡ T′ .size = cc in
+          let read : readForward (T .size) first ≡ answered u′ = rw sizes (c′ .first-read) in
+          let first-one = c .first-read in
+          cc
+
+  pub listed-checks : (o : Outcome Verdict) → o ≡ chain table first second steps width (length before) → ChainArea table first second before after o
+      → ListedChecks table first second before after o
+  listed-checks (answered (same-after k)) e (T, u, v, c, l) = joins-checked T u v c k e l
+  listed-checks (answered (different-after k)) e a = tt
+  listed-checks (refused n ps) e a = tt

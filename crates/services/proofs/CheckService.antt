@@ -11,19 +11,23 @@ use lib.ListN.{length, take, drop, replicate, length-append, length-take, length
 use lib.Seq.{drop-length}
 use Rattle.model.specs.Word.{Positive, positive}
 use Rattle.model.specs.Presentation.{Presentation}
-use Rattle.model.specs.Equivalence.{Entry, applied}
+use Rattle.model.specs.Equivalence.{Entry, applied, Joined}
 use Rattle.model.specs.Outcome.{Outcome, answered, refused, _>>=_}
 use Rattle.model.specs.Images.{readChain}
 use Rattle.model.specs.Plain.{plainProgram}
-use Rattle.model.specs.Services.{Passage, readForward, followedBy, followed, check}
+use Rattle.model.specs.Services.{Passage, joins, readForward, followedBy, followed, passage, check}
 use Rattle.model.specs.Areas.{Compares, workspaceAfter}
 use Rattle.model.specs.Stated.{refusal}
 use Rattle.model.specs.declared.answers.Refusal.{Refusal}
+use Rattle.theory.specs.Passages.{Passes, arrives, broken, elsewhere, starts-long, grows-long}
+use Rattle.theory.proofs.Impossible.{impossible}
+use Rattle.theory.proofs.Passages.{passage-exactly}
+use Rattle.images.proofs.Several.{answer-of}
 use Rattle.images.specs.Programs.{written, ForwardOf}
 use Rattle.swaps.specs.Held.{heldAt, Placed, Carried}
 use Rattle.swaps.proofs.Applying.{held-length}
 use Rattle.services.specs.Loading.{Images, readPair}
-use Rattle.services.specs.Check.{passage}
+use Rattle.services.specs.Check.{CheckMeaning}
 use Rattle.services.proofs.Early.{chain-early}
 use Rattle.services.proofs.Outcomes.{AsFound, goes-on, reading-refused}
 use Rattle.services.proofs.Programs.{written-end}
@@ -121,3 +125,29 @@ module _ (table first second entries : List ℕ) (width : ℕ) where
 
     pub check-runs : (es : List Entry) → readChain size entries ≡ answered es → check table first second entries width ≡ passage T width u es v
     check-runs es e = reads-chain ∙ goes-on (readChain size entries) es e _
+
+  pub check-says : (o : Outcome Passage) → o ≡ check table first second entries width → CheckMeaning table first second entries width o
+  check-says o e =
+      record {
+        joins-joined = λ h T u v c.
+            let list = answer-of (readChain (T .size) entries) (λ es. passage T width u es v) joins (sym (e ∙ reads-chain T u v c (T .size) refl) ∙ h) in
+            joined T u v (list .0) (passage-exactly T width u (list .0) v (answered joins) .0 (list .2));
+        exactly = λ T u v c es r o′. (
+          λ h. passage-exactly T width u es v o′ .0 (sym (is T u v c es r) ∙ h),
+          λ p. is T u v c es r ∙ passage-exactly T width u es v o′ .1 p,
+        );
+      }
+    where
+      is : (T : Presentation) (u v : Positive) → Compares table first second T u v → (es : List Entry) → readChain (T .size) entries ≡ answered es
+          → o ≡ passage T width u es v
+      is T u v c es r = e ∙ check-runs T u v c (T .size) refl es r
+
+      by : (T : Presentation) (u v : Positive) (es : List Entry) (o : Outcome Passage) → o ≡ answered joins → Passes T width u es v o → Joined T u v
+      by T u v es o h (arrives l) = (es, l .0)
+      by T u v es o h (broken before x after w p l q) = impossible (cc)
+      by T u v es o h (elsewhere w l d) = impossible (cc)
+      by T u v es o h (starts-long l) = impossible (cc)
+      by T u v es o h (grows-long before x after w w′ p l q long) = impossible (cc)
+
+      joined : (T : Presentation) (u v : Positive) (es : List Entry) → Passes T width u es v (answered joins) → Joined T u v
+      joined T u v es p = by T u v es (answered joins) refl p

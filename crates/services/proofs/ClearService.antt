@@ -1,11 +1,11 @@
 -- Clearing a loaded table, and the outcome of clear.
-use mathlib.Core.Path.{_≡_, refl, sym, ap, _∙_}
+use mathlib.Core.Path.{_≡_, refl, sym, ap, subst, _∙_}
 use mathlib.Core.List.{List}
 use Prim.Native.Nat.{ℕ}
 use lib.ListN.{length, replicate}
 use Rattle.model.specs.Presentation.{Presentation}
 use Rattle.model.specs.Enumeration.{pairs, triples}
-use Rattle.model.specs.Outcome.{answered}
+use Rattle.model.specs.Outcome.{Outcome, answered}
 use Rattle.model.specs.Checks.{lengthCheck, cubeCheck, cleared}
 use Rattle.model.specs.Images.{readTable}
 use Rattle.model.specs.Services.{clear}
@@ -16,11 +16,13 @@ use Rattle.model.specs.declared.answers.Stop.the-variants.{Budget, Room}
 use Rattle.model.specs.declared.answers.Refusal.{Refusal}
 use Rattle.model.specs.declared.answers.Refusal.the-variants.{UnequalLengths}
 use Rattle.model.specs.declared.answers.Cleared.the-variants.{Refused}
+use Rattle.theory.specs.Cube.{CubeMeaning}
+use Rattle.theory.proofs.Checked.{cube-exactly}
 use Rattle.checks.specs.Table.{triplesAs, LengthsMean, TriplesMean}
 use Rattle.checks.specs.declared.table.Lengths.the-variants.{Equal, Unequal}
 use Rattle.checks.specs.declared.table.Triples.{Triples}
 use Rattle.checks.specs.declared.table.Triples.the-variants.{Hold, Fail, Halt}
-use Rattle.services.specs.Clear.{triplesRefusal, ClearMeans}
+use Rattle.services.specs.Clear.{triplesRefusal, ClearMeans, ClearMeaning}
 use Rattle.services.proofs.Outcomes.{still-refused, goes-on}
 
 -- what is said of the triples is what is answered
@@ -60,3 +62,6 @@ module _ (table : List ℕ) (steps width : ℕ) where
   pub clear-runs : (T : Presentation) → readTable table ≡ answered T → clear table steps width ≡ cleared T steps width
   unfolding clear
   clear-runs T e = goes-on (readTable table) T e (λ T. cleared T steps width)
+
+  pub clear-says : (o : Outcome (Unit {0})) → o ≡ clear table steps width → ClearMeaning table o
+  clear-says o e T t = subst (CubeMeaning T) (sym (e ∙ clear-runs T t)) (cube-exactly T steps width)

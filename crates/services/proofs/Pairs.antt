@@ -12,7 +12,7 @@ use Rattle.model.specs.Images.{readProgram}
 use Rattle.model.specs.Plain.{plainProgram}
 use Rattle.model.specs.declared.answers.Ending.the-variants.{Stopped}
 use Rattle.model.specs.declared.answers.Stop.the-variants.{Room}
-use Rattle.images.specs.Range.{ProgramInRange}
+use Rattle.model.specs.Range.{ProgramInRange}
 use Rattle.images.specs.Programs.{written, ForwardOf}
 use Rattle.images.proofs.RoundTrip.{program-in-range}
 use Rattle.engine.specs.Gap.{letters}

@@ -9,7 +9,7 @@ use lib.Seq.{getD-set-same, getD-set-other, getD-take, getD-drop, length-take-le
 use Rattle.model.specs.Word.{Positive, positive}
 use Rattle.model.specs.Presentation.{Presentation, Complement, undefined, complement, complete}
 use Rattle.theory.proofs.Complete.{complete-same}
-use Rattle.images.specs.Range.{All, GeneratorInRange}
+use Rattle.model.specs.Range.{All, GeneratorInRange}
 use Rattle.images.specs.Cells.{HoldsWord, Holds}
 use Rattle.images.specs.Cells.{Stands as CellsRead}
 use Rattle.engine.specs.Cells.{cellAt, InRange, Lettered, Word-at, Cell, Stands}

@@ -1,13 +1,13 @@
 -- What listing a chain after a comparison of two loaded programs comes to.
 use mathlib.Core.List.{List}
 use mathlib.Core.Path.{_≡_}
-use Prim.Native.Nat.{ℕ}
+use Prim.Native.Nat.{ℕ, _≤_}
 use lib.ListN.{length}
 use Rattle.model.specs.Word.{Positive}
 use Rattle.model.specs.Presentation.{Presentation}
 use Rattle.model.specs.Outcome.{Outcome, answered, refused, _>>=_}
-use Rattle.model.specs.Services.{Verdict, same-after, different-after, readForward, comparison, listable}
-use Rattle.model.specs.Areas.{Listed, workspaceAfter}
+use Rattle.model.specs.Services.{Verdict, same-after, different-after, readForward, comparison, listable, joins, check}
+use Rattle.model.specs.Areas.{begins, Compares, Listed, workspaceAfter}
 use Rattle.model.specs.Stated.{compared}
 use Rattle.model.specs.declared.answers.Compared.{Compared}
 use Rattle.checks.specs.Table.{Of}
@@ -26,3 +26,17 @@ pub record Lists (cells : List ℕ) (size : ℕ) (first second : List ℕ) (budg
   pub wiped : workspace′ ≡ workspaceAfter (compared r) workspace
   pub lists : (T : Presentation) → Of cells size T → (u v : Positive) → readForward size first ≡ answered u → readForward size second ≡ answered v
       → ListedAs T u v budget (length workspace) before after r
+
+-- the area begins with an image that check answers with `joins`, in every workspace that holds the first program: under a table that clears
+-- no word on the way is longer
+pub record JoinsChecked (table first second before after : List ℕ) : Type 0 where
+  pub image : List ℕ
+  pub written : after ≡ begins image before
+  pub joined : (T : Presentation) (u v : Positive) → Compares table first second T u v → (room : ℕ) → length u ≤ room
+      → check table first second image room ≡ answered joins
+
+-- what is listed passes check
+abbrev pub ListedChecks : List ℕ → List ℕ → List ℕ → List ℕ → List ℕ → Outcome Verdict → Type 0
+ListedChecks table first second before after (answered (same-after k)) = JoinsChecked table first second before after
+ListedChecks table first second before after (answered (different-after k)) = Unit {0}
+ListedChecks table first second before after (refused n ps) = Unit {0}

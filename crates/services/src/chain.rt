@@ -7,7 +7,7 @@ ghost use Rattle.model.specs.Areas.{workspaceAfter, ChainArea};
 ghost use Rattle.model.specs.Stated.{compared};
 ghost use Rattle.services.specs.Loading.{Forward};
 ghost use Rattle.services.specs.Compare.{Meaning};
-ghost use Rattle.services.specs.Chain.{Lists};
+ghost use Rattle.services.specs.Chain.{Lists, ListedChecks};
 use crate::areas::wipe;
 use crate::compare::Judgement;
 use crate::compare::compare_programs;
@@ -78,6 +78,7 @@ pub fn chain(
     ensures stated { λ r. ⌜ compared r ≡ chain (now (table .entry)) (now (first .entry)) (now (second .entry)) allowance (length (now (workspace .entry))) (length (now (answer .entry))) ⌝ }
     ensures workspace { λ r. ⌜ now (workspace .exit) ≡ workspaceAfter (chain (now (table .entry)) (now (first .entry)) (now (second .entry)) allowance (length (now (workspace .entry))) (length (now (answer .entry)))) (now (workspace .entry)) ⌝ }
     ensures area { λ r. ⌜ ChainArea (now (table .entry)) (now (first .entry)) (now (second .entry)) (now (answer .entry)) (now (answer .exit)) (compared r) ⌝ }
+    ensures checks { λ r. ⌜ ListedChecks (now (table .entry)) (now (first .entry)) (now (second .entry)) (now (answer .entry)) (now (answer .exit)) (compared r) ⌝ }
     ensures meaning { λ r. ⌜ Meaning (now (table .entry)) (now (first .entry)) (now (second .entry)) allowance (length (now (workspace .entry))) (λ T v. listable (T .size) (length (now (answer .entry))) v) (compared r) ⌝ }
 {
     let mut cells = [0u8; 4096];

@@ -4,7 +4,7 @@ ghost use lib.ListN.{length};
 ghost use Rattle.model.specs.Services.{check};
 ghost use Rattle.model.specs.Areas.{workspaceAfter};
 ghost use Rattle.model.specs.Stated.{checked};
-ghost use Rattle.services.specs.Check.{ForwardChain, PassageMeans, Checks};
+ghost use Rattle.services.specs.Check.{ForwardChain, PassageMeans, Checks, CheckMeaning};
 use crate::areas::wipe;
 use crate::loading::PairRead;
 use crate::loading::read_pair;
@@ -95,6 +95,7 @@ pub fn check(
 ) -> Checked
     ensures stated { λ r. ⌜ checked r ≡ check (now (table .entry)) (now (first .entry)) (now (second .entry)) (now (entries .entry)) (length (now (workspace .entry))) ⌝ }
     ensures workspace { λ r. ⌜ now (workspace .exit) ≡ workspaceAfter (check (now (table .entry)) (now (first .entry)) (now (second .entry)) (now (entries .entry)) (length (now (workspace .entry)))) (now (workspace .entry)) ⌝ }
+    ensures meaning { λ r. ⌜ CheckMeaning (now (table .entry)) (now (first .entry)) (now (second .entry)) (now (entries .entry)) (length (now (workspace .entry))) (checked r) ⌝ }
 {
     let mut cells = [0u8; 4096];
     let read = read_pair(table, first, second, &mut cells);

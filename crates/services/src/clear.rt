@@ -5,7 +5,7 @@ ghost use Rattle.model.specs.Services.{clear};
 ghost use Rattle.model.specs.Areas.{workspaceAfter};
 ghost use Rattle.model.specs.Stated.{clearedAs};
 ghost use Rattle.checks.specs.Table.{Sized};
-ghost use Rattle.services.specs.Clear.{triplesRefusal, ClearMeans};
+ghost use Rattle.services.specs.Clear.{triplesRefusal, ClearMeans, ClearMeaning};
 use crate::areas::wipe;
 use crate::loading::load_table;
 use checks::table::Lengths;
@@ -52,6 +52,7 @@ pub(crate) fn clear_cells(cells: &[u8], size: u8, budget: u16, workspace: &mut [
 pub fn clear(table: &[u8], allowance: u16, workspace: &mut [u8]) -> Cleared
     ensures stated { λ r. ⌜ clearedAs r ≡ clear (now (table .entry)) allowance (length (now (workspace .entry))) ⌝ }
     ensures workspace { λ r. ⌜ now (workspace .exit) ≡ workspaceAfter (clear (now (table .entry)) allowance (length (now (workspace .entry)))) (now (workspace .entry)) ⌝ }
+    ensures meaning { λ r. ⌜ ClearMeaning (now (table .entry)) (clearedAs r) ⌝ }
 {
     let mut cells = [0u8; 4096];
     let read = load_table(table, &mut cells);

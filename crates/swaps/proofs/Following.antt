@@ -16,7 +16,7 @@ use Rattle.model.specs.Outcome.{Outcome, answered, refused}
 use Rattle.model.specs.Services.{Passage, joins, breaks, ends-elsewhere, followedBy, followed}
 use Rattle.model.specs.Images.{readChain}
 use Rattle.images.specs.Chains.{ChainOf}
-use Rattle.images.specs.Range.{All, EntryInRange}
+use Rattle.model.specs.Range.{All, EntryInRange}
 
 abbrev pub blank : Entry
 blank = record { offset = 0; a = 0; b = 0 }

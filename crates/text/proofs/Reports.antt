@@ -14,7 +14,7 @@ use Rattle.model.specs.Areas.{begins}
 use Rattle.model.specs.Stated.{refusal, Sizes, sizes}
 use Rattle.model.specs.declared.answers.Refusal.{Refusal}
 use Rattle.theory.proofs.Impossible.{impossible}
-use Rattle.images.specs.Range.{All, LetterInRange}
+use Rattle.model.specs.Range.{All, LetterInRange}
 use Rattle.engine.proofs.Letters.{letter-forward, letter-back}
 use Rattle.images.proofs.Refusals.{told, refusal-mapped}
 use Rattle.services.proofs.Outcomes.{still-refused, goes-on}

@@ -1,21 +1,24 @@
--- What the two checks of a table show where they pass: each reversing, each side and each triple, and from the lists of pairs and triples
--- all of them. Document 01, "The two checks of a table"; a triple's rule is the cube property of document 004.
+-- What the two checks of a table show: each reversing, each side and each triple, and from the lists of pairs and triples all of them. A
+-- triple passes only where the cube rule holds and fails only where it does not. Document 01, "The two checks of a table"; a triple's rule is the cube property of document 004.
 use mathlib.Core.Path.{_≡_, refl, sym, ap, subst, subst₂, _∙_}
 use mathlib.Core.Logic.{_≢_}
 use mathlib.Core.List.{List, [], _∷_, _++_, List·Memᴰ, List·Memᴰ·head, List·Memᴰ·tail}
 use mathlib.Core.Bool.{Bool, true, false, cond}
 use Prim.Native.Nat.{ℕ, _-_, _≤_, _<_}
+use native.Mathlib.Omega.{arith}
 use lib.ListN.{length}
 use Rattle.model.specs.Word.{Positive, positive, negative}
-use Rattle.model.specs.Presentation.{Presentation, complement, complete}
-use Rattle.model.specs.Reversing.{Ending, finished, open-pair, stopped, reversing, Residual, NoResidual, EndsEmpty}
+use Rattle.model.specs.Presentation.{Presentation, Complement, undefined, complement, complete}
+use Rattle.model.specs.Reversing.{budget, room, Ending, finished, open-pair, stopped, reversing, Finishes, Residual, NoResidual, EndsEmpty}
 use Rattle.model.specs.Enumeration.{Two, Three, pairs, triples}
+use Rattle.model.specs.Range.{All}
 use Rattle.model.specs.Outcome.{Outcome, answered, refused, _>>=_}
 use Rattle.model.specs.Checks.{balanced, lengthCheck, Side, CubeRule, both-undefined, both-defined, Residue, residue, missing, halted, ofEnding, andThen, CubeVerdict, holds, fails, halts, empties, bothMissing, bothThere, whereDefined, reported, under, side, against, cubeAt, cubeCheck, cleared}
+use Rattle.theory.specs.Cube.{Obeys, Says, FirstBroken, CubeMeaning}
 use Rattle.theory.proofs.Impossible.{impossible}
 use Rattle.theory.proofs.Leftmost.{open-unfinished}
 use Rattle.theory.proofs.Endings.{Ends, reversing-ends}
-use Rattle.theory.proofs.Residuals.{same-residual}
+use Rattle.theory.proofs.Residuals.{same-residual, same-side, open-rule}
 use Rattle.theory.proofs.Enumerated.{pairs-have, triples-have}
 
 -- WHAT ONE REVERSING OF A CHECK SHOWS
@@ -43,17 +46,6 @@ module _ (T : Presentation) (steps : ℕ) where
       go : (end : Ending) → ofEnding end ≡ missing → Ends T steps width (negative u ++ positive v) end → NoResidual T u v
       go (finished m d k r) e t = impossible (cc)
       go (open-pair a b k) e t = λ n d r. open-unfinished T (t .reached .run) (t .here) (t .undefined-there) n d (r .1)
-      go (stopped s) e t = impossible (cc)
-
-  empties-holds : (width : ℕ) (u v : Positive) → empties (reversing T steps width (negative u ++ positive v)) ≡ holds
-      → EndsEmpty T (negative u ++ positive v)
-  empties-holds width u v h = go (reversing T steps width (negative u ++ positive v)) h (ended width u v)
-    where
-      go : (end : Ending) → empties end ≡ holds → Ends T steps width (negative u ++ positive v) end → EndsEmpty T (negative u ++ positive v)
-      go (finished [] [] k r) e t = (k, t .run)
-      go (finished [] (x ∷ d) k r) e t = impossible (cc)
-      go (finished (x ∷ n) d k r) e t = impossible (cc)
-      go (open-pair a b k) e t = impossible (cc)
       go (stopped s) e t = impossible (cc)
 
 -- WHAT ONE SIDE SHOWS
@@ -108,40 +100,97 @@ module _ (T : Presentation) (steps width a b c : ℕ) where
 -- WHAT ONE TRIPLE SHOWS
 
 module _ (T : Presentation) (steps : ℕ) where
-  defined-rule : (width a b c : ℕ) (l : Positive) → Side T a b c l → (r : Residue) → side T steps (width - length l) b a c ≡ r
-      → bothThere (λ r. empties (reversing T steps width (negative l ++ positive r))) r ≡ holds → CubeRule T a b c
-  defined-rule width a b c l s (residue r) e h =
-      both-defined l r s (side-there T steps (width - length l) b a c e) (empties-holds T steps width l r h)
-  defined-rule width a b c l s missing e h = impossible (cc)
-  defined-rule width a b c l s (halted t) e h = impossible (cc)
+  -- two words that were worked out for L and R: the rule is that these two empty
+  compared-says : (width a b c : ℕ) (l r : Positive) → Side T a b c l → Side T b a c r
+      → Says T (record { a = a; b = b; c = c }) (empties (reversing T steps width (negative l ++ positive r)))
+  compared-says width a b c l r left right = go (reversing T steps width (negative l ++ positive r)) (ended T steps width l r)
+    where
+      agree : CubeRule T a b c → EndsEmpty T (negative l ++ positive r)
+      agree (both-undefined none-l none-r) = absurd (none-l l left)
+      agree (both-defined l′ r′ left′ right′ e) =
+          subst₂ (λ l r. EndsEmpty T (negative l ++ positive r)) (same-side T a b c left′ left) (same-side T b a c right′ right) e
 
-  undefined-rule : (width a b c : ℕ) → ((l : Positive) → Side T a b c l → ⊥) → (r : Residue) → side T steps width b a c ≡ r → bothMissing r ≡ holds
-      → CubeRule T a b c
-  undefined-rule width a b c none-there (residue r) e h = impossible (cc)
-  undefined-rule width a b c none-there missing e h = both-undefined none-there (side-lacking T steps width b a c e)
-  undefined-rule width a b c none-there (halted t) e h = impossible (cc)
+      empty : (n d : Positive) {k : ℕ} → Finishes T (negative l ++ positive r) n d k → CubeRule T a b c → (n ≡ []) × (d ≡ [])
+      empty n d {k} f rule = same-residual T l r n d [] [] (k, f) (agree rule)
 
-  against-rule : (width a b c : ℕ) (l : Residue) → side T steps width a b c ≡ l → against T steps width a b c l ≡ holds → CubeRule T a b c
+      go : (end : Ending) → Ends T steps width (negative l ++ positive r) end → Says T (record { a = a; b = b; c = c }) (empties end)
+      go (finished [] [] k q) t = both-defined l r left right (k, t .run)
+      go (finished [] (x ∷ d) k q) t = λ rule. let e = empty [] (x ∷ d) (t .run) rule .1 in impossible (cc)
+      go (finished (x ∷ n) d k q) t = λ rule. let e = empty (x ∷ n) d (t .run) rule .0 in impossible (cc)
+      go (open-pair x y k) t = λ rule. open-unfinished T (t .reached .run) (t .here) (t .undefined-there) [] [] (agree rule .1)
+      go (stopped s) t = tt
+
+  defined-says : (width a b c : ℕ) (l : Positive) → Side T a b c l → (r : Residue) → side T steps (width - length l) b a c ≡ r
+      → Says T (record { a = a; b = b; c = c }) (bothThere (λ r. empties (reversing T steps width (negative l ++ positive r))) r)
+  defined-says width a b c l left (residue r) e = compared-says width a b c l r left (side-there T steps (width - length l) b a c e)
+  defined-says width a b c l left missing e = refuted
+    where
+      refuted : CubeRule T a b c → ⊥
+      refuted (both-undefined none-l none-r) = none-l l left
+      refuted (both-defined l′ r′ left′ right′ ends) = side-lacking T steps (width - length l) b a c e r′ right′
+  defined-says width a b c l left (halted t) e = tt
+
+  undefined-says : (width a b c : ℕ) → ((l : Positive) → Side T a b c l → ⊥) → (r : Residue) → side T steps width b a c ≡ r
+      → Says T (record { a = a; b = b; c = c }) (bothMissing r)
+  undefined-says width a b c none-there (residue r) e = refuted
+    where
+      refuted : CubeRule T a b c → ⊥
+      refuted (both-undefined none-l none-r) = none-r r (side-there T steps width b a c e)
+      refuted (both-defined l′ r′ left′ right′ ends) = none-there l′ left′
+  undefined-says width a b c none-there missing e = both-undefined none-there (side-lacking T steps width b a c e)
+  undefined-says width a b c none-there (halted t) e = tt
+
+  against-says : (width a b c : ℕ) (l : Residue) → side T steps width a b c ≡ l → Says T (record { a = a; b = b; c = c }) (against T steps width a b c l)
   unfolding against
-  against-rule width a b c (residue l) e h =
-      defined-rule width a b c l (side-there T steps width a b c e) (side T steps (width - length l) b a c) refl h
-  against-rule width a b c missing e h =
-      undefined-rule width a b c (side-lacking T steps width a b c e) (side T steps width b a c) refl h
-  against-rule width a b c (halted s) e h = impossible (cc)
+  against-says width a b c (residue l) e =
+      defined-says width a b c l (side-there T steps width a b c e) (side T steps (width - length l) b a c) refl
+  against-says width a b c missing e =
+      undefined-says width a b c (side-lacking T steps width a b c e) (side T steps width b a c) refl
+  against-says width a b c (halted s) e = tt
 
-  triple-rule : (width a b c : ℕ) (x y : Positive) → complete T a b ≡ complement x y → cubeAt T steps width (record { a = a; b = b; c = c }) ≡ holds
-      → CubeRule T a b c
+  -- the verdict on a triple is the rule's, both ways
+  pub triple-says : (width : ℕ) (t : Three) → Says T t (cubeAt T steps width t)
   unfolding cubeAt
-  triple-rule width a b c x y e h =
-      let s = side T steps width a b c in
-      against-rule width a b c s refl (ap (λ p. whereDefined p (against T steps width a b c s)) (sym e) ∙ h)
+  triple-says width t = go (complete T (t .a) (t .b)) refl
+    where
+      go : (m : Complement) → complete T (t .a) (t .b) ≡ m
+          → Says T t (whereDefined m (against T steps width (t .a) (t .b) (t .c) (side T steps width (t .a) (t .b) (t .c))))
+      go undefined e = open-rule T (t .a) (t .b) (t .c) e
+      go (complement x y) e = against-says width (t .a) (t .b) (t .c) (side T steps width (t .a) (t .b) (t .c)) refl
 
 -- WHAT THE WHOLE CHECK SHOWS
 
-reported-holds : (t : Three) (v : CubeVerdict) (rest : Outcome (Unit {0})) → reported t v rest ≡ answered tt → (v ≡ holds) × (rest ≡ answered tt)
-reported-holds t holds rest h = (refl, h)
-reported-holds t fails rest h = impossible (cc)
-reported-holds t (halts s) rest h = impossible (cc)
+module _ (T : Presentation) (steps width : ℕ) where
+  cube-passed : (ts : List Three) → cubeCheck T steps width ts ≡ answered tt → All (Obeys T) ts
+  cube-passed [] h = tt
+  cube-passed (t ∷ ts) h = go (cubeAt T steps width t) (triple-says T steps width t) (cube-passed ts) h
+    where
+      go : (v : CubeVerdict) → Says T t v → (cubeCheck T steps width ts ≡ answered tt → All (Obeys T) ts)
+          → reported t v (cubeCheck T steps width ts) ≡ answered tt → All (Obeys T) (t ∷ ts)
+      go holds s rest e = (s, rest e)
+      go fails s rest e = impossible (cc)
+      go (halts x) s rest e = impossible (cc)
+
+  cube-broken : (ts : List Three) (numbers : List ℕ) → cubeCheck T steps width ts ≡ refused 9 numbers → FirstBroken T ts numbers
+  cube-broken [] numbers h = impossible (cc)
+  cube-broken (t ∷ ts) numbers h = go (cubeAt T steps width t) (triple-says T steps width t) (cube-broken ts numbers) h
+    where
+      go : (v : CubeVerdict) → Says T t v → (cubeCheck T steps width ts ≡ refused 9 numbers → FirstBroken T ts numbers)
+          → reported t v (cubeCheck T steps width ts) ≡ refused 9 numbers → FirstBroken T (t ∷ ts) numbers
+      go holds s rest e =
+          let f = rest e in
+          record {
+            before = t ∷ f .before;
+            triple = f .triple;
+            after = f .after;
+            place = ap (λ l. t ∷ l) (f .place);
+            named = f .named;
+            obeyed = (s, f .obeyed);
+            broken = f .broken;
+          }
+      go fails s rest e = record { before = []; triple = t; after = ts; place = refl; named = cc; obeyed = tt; broken = s }
+      go (halts budget) s rest e = let z : _≡_ {A = ℕ} 11 9 = cc in absurd (omega arith)
+      go (halts room) s rest e = let z : _≡_ {A = ℕ} 12 9 = cc in absurd (omega arith)
 
 passes : (p : Two) (t : Bool) (rest : Outcome (Unit {0})) → cond t rest (refused 8 (p .a ∷ p .b ∷ [])) ≡ answered tt
     → (t ≡ true) × (rest ≡ answered tt)
@@ -156,12 +205,18 @@ length-each : (T : Presentation) {ps : List Two} {p : Two} → lengthCheck T ps 
 length-each T {p} h (List·Memᴰ·head {x} {xs} e) = rw e (passes x (balanced (complete T (x .a) (x .b))) (lengthCheck T xs) h .0)
 length-each T {p} h (List·Memᴰ·tail {x} {xs} m) = length-each T (passes x (balanced (complete T (x .a) (x .b))) (lengthCheck T xs) h .1) m
 
-cube-each : (T : Presentation) (steps width : ℕ) {ts : List Three} {t : Three} → cubeCheck T steps width ts ≡ answered tt → List·Memᴰ t ts
-    → cubeAt T steps width t ≡ holds
-cube-each T steps width h (List·Memᴰ·head {x} {xs} e) =
-    rw e (reported-holds x (cubeAt T steps width x) (cubeCheck T steps width xs) h .0)
-cube-each T steps width h (List·Memᴰ·tail {x} {xs} m) =
-    cube-each T steps width (reported-holds x (cubeAt T steps width x) (cubeCheck T steps width xs) h .1) m
+-- the length check has no other refusal than 8
+length-only : (T : Presentation) (ps : List Two) (n : ℕ) (numbers : List ℕ) → lengthCheck T ps ≡ refused n numbers → n ≡ 8
+length-only T [] n numbers h = impossible (cc)
+length-only T (p ∷ ps) n numbers h = go (balanced (complete T (p .a) (p .b))) (length-only T ps n numbers) h
+  where
+    go : (t : Bool) → (lengthCheck T ps ≡ refused n numbers → n ≡ 8) → cond t (lengthCheck T ps) (refused 8 (p .a ∷ p .b ∷ [])) ≡ refused n numbers → n ≡ 8
+    go true rest e = rest e
+    go false rest e = cc
+
+obeyed-at : (T : Presentation) {ts : List Three} {t : Three} → All (Obeys T) ts → List·Memᴰ t ts → Obeys T t
+obeyed-at T h (List·Memᴰ·head e) = rw e (h .0)
+obeyed-at T h (List·Memᴰ·tail m) = obeyed-at T (h .1) m
 
 module _ (T : Presentation) (steps width : ℕ) (clear : cleared T steps width ≡ answered tt) where
   both : (lengthCheck T (pairs (T .size)) ≡ answered tt) × (cubeCheck T steps width (triples (T .size)) ≡ answered tt)
@@ -172,9 +227,27 @@ module _ (T : Presentation) (steps width : ℕ) (clear : cleared T steps width �
   pub checked-length : {a b : ℕ} → 1 ≤ a → a < b → b ≤ T .size → balanced (complete T a b) ≡ true
   checked-length {a} {b} low h high = length-each T (both .0) (pairs-have (T .size) a b low h high)
 
+  checked-triples : All (Obeys T) (triples (T .size))
+  checked-triples = cube-passed T steps width (triples (T .size)) (both .1)
+
   -- the cube check, of a triple whose first two letters are in order
-  pub checked-rule : {a b c : ℕ} {x y : Positive} → 1 ≤ a → a < b → b ≤ T .size → 1 ≤ c → c ≤ T .size → a ≢ c → b ≢ c
-      → complete T a b ≡ complement x y → CubeRule T a b c
-  checked-rule {a} {b} {c} {x} {y} low h high low-c high-c p q e =
-      triple-rule T steps width a b c x y e
-      (cube-each T steps width (both .1) (triples-have (T .size) a b c low h high low-c high-c p q))
+  pub checked-rule : {a b c : ℕ} → 1 ≤ a → a < b → b ≤ T .size → 1 ≤ c → c ≤ T .size → a ≢ c → b ≢ c → CubeRule T a b c
+  checked-rule {a} {b} {c} low h high low-c high-c p q =
+      obeyed-at T checked-triples (triples-have (T .size) a b c low h high low-c high-c p q)
+
+module _ (T : Presentation) (steps width : ℕ) where
+  checked-broken : (numbers : List ℕ) → cleared T steps width ≡ refused 9 numbers → FirstBroken T (triples (T .size)) numbers
+  unfolding cleared
+  checked-broken numbers h = go (lengthCheck T (pairs (T .size))) refl h
+    where
+      go : (o : Outcome (Unit {0})) → lengthCheck T (pairs (T .size)) ≡ o
+          → (o >>= λ ok. cubeCheck T steps width (triples (T .size))) ≡ refused 9 numbers → FirstBroken T (triples (T .size)) numbers
+      go (answered x) p e = cube-broken T steps width (triples (T .size)) numbers e
+      go (refused n ps) p e =
+          let eight = length-only T (pairs (T .size)) n ps p in
+          let nine : n ≡ 9 = cc in
+          absurd (omega arith)
+
+  -- refusal 9 exactly for its fault
+  pub cube-exactly : CubeMeaning T (cleared T steps width)
+  cube-exactly = record { passed = checked-triples T steps width; broken = checked-broken }

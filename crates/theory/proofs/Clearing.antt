@@ -16,7 +16,7 @@ use Rattle.theory.proofs.Complete.{Named, complete-same, complete-turn,
 use Rattle.theory.proofs.Equiv.{Homogeneous, total-one}
 use Rattle.theory.proofs.Grid.{derives-empty, recast}
 use Rattle.theory.proofs.Diagram.{draw}
-use Rattle.theory.proofs.Residuals.{side-grid, grid-side, same-side, no-side, rule-turned}
+use Rattle.theory.proofs.Residuals.{side-grid, grid-side, same-side, rule-turned, open-rule}
 use Rattle.theory.proofs.Checked.{checked-length, checked-rule}
 use Rattle.theory.proofs.Completeness.{Cube, Closes}
 
@@ -29,9 +29,6 @@ module _ (T : Presentation) where
       both-undefined
       (λ l s. unnamed (complete-named T p (side-grid T a b c s .to-c) .1))
       (λ r s. unnamed (complete-named T q (side-grid T b a c s .to-c) .1))
-
-  open-rule : (a b c : ℕ) → complete T a b ≡ undefined → CubeRule T a b c
-  open-rule a b c h = both-undefined (no-side T a b c h) (no-side T b a c (complete-turn T a b ∙ ap swapped h))
 
   closes : (a b c : ℕ) {ab ba n : Positive} → complete T a b ≡ complement ab ba → Side T a b c n → CubeRule T a b c → Closes (complete T) b c ba n
   closes a b c {n} e s (both-undefined none-l none-r) = absurd (none-l n s)
@@ -85,11 +82,11 @@ module _ (T : Presentation) (steps width : ℕ) (clear : cleared T steps width �
       letters = complete-named T p e
 
       go : Dec (a < b) → CubeRule T a b c
-      go (yes h) = checked-rule T steps width clear (letters .0 .low) h (letters .1 .high) (n .low) (n .high) q r e
+      go (yes h) = checked-rule T steps width clear (letters .0 .low) h (letters .1 .high) (n .low) (n .high) q r
       go (no h) =
           let below : b < a = omega arith in
           rule-turned T a b c
-          (checked-rule T steps width clear (letters .1 .low) below (letters .0 .high) (n .low) (n .high) r q (complete-turn T a b ∙ ap swapped e))
+          (checked-rule T steps width clear (letters .1 .low) below (letters .0 .high) (n .low) (n .high) r q)
 
   pub clear-rule : (a b c : ℕ) → a ≢ b → a ≢ c → b ≢ c → CubeRule T a b c
   clear-rule a b c p q r = go (complete T a b) refl (decLe 1 c) (decLe c (T .size))

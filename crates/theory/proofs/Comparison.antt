@@ -39,7 +39,7 @@ pub data Meaning (T : Presentation) (u v : Positive) : Outcome Verdict → Type 
 
 module _ (T : Presentation) (u v : Positive) (steps width : ℕ) where
   -- only a table that clears leads to an answer
-  answered-clear : {verdict : Verdict} → comparison T u v steps width ≡ answered verdict → cleared T steps width ≡ answered tt
+  pub answered-clear : {verdict : Verdict} → comparison T u v steps width ≡ answered verdict → cleared T steps width ≡ answered tt
   unfolding comparison
   answered-clear {verdict} h = go (cleared T steps width) h
     where

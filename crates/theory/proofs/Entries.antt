@@ -19,11 +19,11 @@ use Rattle.theory.proofs.Equiv.{Swap}
 
 -- EQUAL WORDS
 
-equal-same : (u : Positive) → equal u u ≡ true
+pub equal-same : (u : Positive) → equal u u ≡ true
 equal-same [] = refl
 equal-same (a ∷ u) = ap (λ t. t && equal u u) (eq-eqb a a refl) ∙ equal-same u
 
-equal-true : (u v : Positive) → equal u v ≡ true → u ≡ v
+pub equal-true : (u v : Positive) → equal u v ≡ true → u ≡ v
 equal-true [] [] e = refl
 equal-true [] (b ∷ v) e = impossible (cc)
 equal-true (a ∷ u) [] e = impossible (cc)

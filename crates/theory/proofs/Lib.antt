@@ -17,5 +17,6 @@ pub mod Enumerated
 pub mod Derivation
 pub mod Checked
 pub mod Clearing
+pub mod Passages
 pub mod Comparison
 pub mod Verdicts

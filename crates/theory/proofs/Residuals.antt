@@ -5,7 +5,7 @@ use mathlib.Core.List.{[], _∷_, _++_, append-nil}
 use Prim.Native.Nat.{ℕ}
 use native.Mathlib.Omega.{arith}
 use Rattle.model.specs.Word.{Positive}
-use Rattle.model.specs.Presentation.{Presentation, undefined, complement, complete}
+use Rattle.model.specs.Presentation.{Presentation, undefined, complement, swapped, complete}
 use Rattle.model.specs.Reversing.{Residual}
 use Rattle.model.specs.Checks.{Side, CubeRule, both-undefined, both-defined}
 use Rattle.theory.proofs.Impossible.{impossible}
@@ -92,3 +92,7 @@ module _ (T : Presentation) (a b c : ℕ) where
   rule-turned (both-undefined p q) = both-undefined q p
   rule-turned (both-defined l r p q e) =
       both-defined r l q p (e .0, finishes (turned (complete-turn T) (draw l r [] [] (e .1))))
+
+-- and holds where they are undefined
+pub open-rule : (T : Presentation) (a b c : ℕ) → complete T a b ≡ undefined → CubeRule T a b c
+open-rule T a b c h = both-undefined (no-side T a b c h) (no-side T b a c (complete-turn T a b ∙ ap swapped h))

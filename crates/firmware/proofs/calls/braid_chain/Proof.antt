@@ -4,6 +4,7 @@ use lib.ListN.{length}
 use Rattle.model.specs.Services.{listable}
 use Rattle.model.specs.Areas.{ChainArea}
 use Rattle.services.specs.Compare.{Meaning}
+use Rattle.services.specs.Chain.{ListedChecks}
 use Rattle.firmware.specs.Told.{told, verdictTold}
 use Rattle.firmware.specs.Values.{Tells}
 use borrow.Author.Needs.{needs}
@@ -30,7 +31,7 @@ returns c =
     let s = c .before .before .before .before .before .before .before .before .before .before .before .before .before .before .before in
     let z = c .before .before .before .before .before .before .before .chain in
     let e = z .ensures .0 in
-    (subst (λ n. Tells n (c .tell .result) (c .tell .last .1 .0)) (c .before .before .of-compared .ensures ∙ ap (told verdictTold) e) (c .tell .ensures), (z .ensures .1 .0, (subst (ChainArea (s .args .table .now) (s .args .first .now) (s .args .second .now) (s .args .answer .now) (z .last .1 .1 .1 .1 .1 .0)) e (z .ensures .1 .1 .0), subst (Meaning (s .args .table .now) (s .args .first .now) (s .args .second .now) (s .args .allowance) (length (s .args .workspace .now)) (λ T v. listable (T .size) (length (s .args .answer .now)) v)) e (z .ensures .1 .1 .1))))
+    (subst (λ n. Tells n (c .tell .result) (c .tell .last .1 .0)) (c .before .before .of-compared .ensures ∙ ap (told verdictTold) e) (c .tell .ensures), (z .ensures .1 .0, (subst (ChainArea (s .args .table .now) (s .args .first .now) (s .args .second .now) (s .args .answer .now) (z .last .1 .1 .1 .1 .1 .0)) e (z .ensures .1 .1 .0), (subst (ListedChecks (s .args .table .now) (s .args .first .now) (s .args .second .now) (s .args .answer .now) (z .last .1 .1 .1 .1 .1 .0)) e (z .ensures .1 .1 .1 .0), subst (Meaning (s .args .table .now) (s .args .first .now) (s .args .second .now) (s .args .allowance) (length (s .args .workspace .now)) (λ T v. listable (T .size) (length (s .args .answer .now)) v)) e (z .ensures .1 .1 .1 .1)))))
 
 pub braid-chain-spec : {M : Type 1} → statement M
 braid-chain-spec =

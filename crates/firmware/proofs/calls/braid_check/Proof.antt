@@ -1,5 +1,7 @@
 -- `firmware::calls::braid_check` meets its contract.
 use mathlib.Core.Path.{ap, subst, _∙_}
+use lib.ListN.{length}
+use Rattle.services.specs.Check.{CheckMeaning}
 use Rattle.firmware.specs.Told.{told, passageTold}
 use Rattle.firmware.specs.Values.{Tells}
 use borrow.Author.Needs.{needs}
@@ -20,9 +22,10 @@ same-length c = search needs
 
 returns : tie.Need-returns
 returns c =
+    let s = c .before .before .before .before .before .before .before .before .before .before .before .before in
     let z = c .before .before .before .before .before .check in
     let e = z .ensures .0 in
-    (subst (λ n. Tells n (c .tell .result) (c .tell .last .1 .0)) (c .before .before .of-checked .ensures ∙ ap (told passageTold) e) (c .tell .ensures), z .ensures .1)
+    (subst (λ n. Tells n (c .tell .result) (c .tell .last .1 .0)) (c .before .before .of-checked .ensures ∙ ap (told passageTold) e) (c .tell .ensures), (z .ensures .1 .0, subst (CheckMeaning (s .args .table .now) (s .args .first .now) (s .args .second .now) (s .args .entries .now) (length (s .args .workspace .now))) e (z .ensures .1 .1)))
 
 pub braid-check-spec : {M : Type 1} → statement M
 braid-check-spec =

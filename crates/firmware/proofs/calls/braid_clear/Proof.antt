@@ -1,5 +1,6 @@
 -- `firmware::calls::braid_clear` meets its contract.
 use mathlib.Core.Path.{ap, subst, _∙_}
+use Rattle.services.specs.Clear.{ClearMeaning}
 use Rattle.firmware.specs.Told.{told, passedTold}
 use Rattle.firmware.specs.Values.{Tells}
 use borrow.Author.Needs.{needs}
@@ -20,9 +21,10 @@ same-length c = search needs
 
 returns : tie.Need-returns
 returns c =
+    let s = c .before .before .before .before .before .before .before .before .before in
     let z = c .before .before .before .before .before .clear in
     let e = z .ensures .0 in
-    (subst (λ n. Tells n (c .tell .result) (c .tell .last .1 .0)) (c .before .before .of-cleared .ensures ∙ ap (told passedTold) e) (c .tell .ensures), z .ensures .1)
+    (subst (λ n. Tells n (c .tell .result) (c .tell .last .1 .0)) (c .before .before .of-cleared .ensures ∙ ap (told passedTold) e) (c .tell .ensures), (z .ensures .1 .0, subst (ClearMeaning (s .args .table .now)) e (z .ensures .1 .1)))
 
 pub braid-clear-spec : {M : Type 1} → statement M
 braid-clear-spec =

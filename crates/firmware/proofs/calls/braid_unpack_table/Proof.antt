@@ -1,5 +1,8 @@
 -- `firmware::calls::braid_unpack_table` meets its contract.
 use mathlib.Core.Path.{ap, subst, _∙_}
+use Rattle.model.specs.Images.{readTable}
+use Rattle.model.specs.Plain.{readPlainTable}
+use Rattle.model.specs.Areas.{ReadsBack}
 use Rattle.firmware.specs.Told.{told, bytesTold}
 use Rattle.firmware.specs.Values.{Tells}
 use borrow.Author.Needs.{needs}
@@ -20,9 +23,10 @@ same-length c = search needs
 
 returns : tie.Need-returns
 returns c =
+    let s = c .before .before .before .before .before .before .before .before .before in
     let z = c .before .before .before .before .before .unpack in
     let e = z .ensures .0 in
-    (subst (λ n. Tells n (c .tell .result) (c .tell .last .1 .0)) (c .before .before .of-packed .ensures ∙ ap (told bytesTold) e) (c .tell .ensures), z .ensures .1)
+    (subst (λ n. Tells n (c .tell .result) (c .tell .last .1 .0)) (c .before .before .of-packed .ensures ∙ ap (told bytesTold) e) (c .tell .ensures), (z .ensures .1 .0, subst (λ o. ReadsBack (readTable (s .args .table .now)) readPlainTable o (z .last .1 .0)) e (z .ensures .1 .1)))
 
 pub braid-unpack-table-spec : {M : Type 1} → statement M
 braid-unpack-table-spec =

@@ -41,7 +41,7 @@ begun c = c .before .before .before .write-field .ensures .same-length
 near : (c : tie.In-loop Inv-loop μ-loop) → c .before .loop .next + start (byte-at (c .before)) .args .width ≤ start (byte-at (c .before)) .args .at + 64
 near c = omega (arith, c .before .loop .inv .2, c .loop-test .taken, few (byte-at (c .before)), start (byte-at (c .before)) .pre .1 .narrow)
 
-here : (c : tie.In-loop Inv-loop μ-loop) → Rattle.images.specs.Range.GeneratorInRange (start (byte-at (c .before)) .args .size) (getD (start (byte-at (c .before)) .args .cells .now) (start (byte-at (c .before)) .args .cell + 1 + c .before .loop .k) 0)
+here : (c : tie.In-loop Inv-loop μ-loop) → Rattle.model.specs.Range.GeneratorInRange (start (byte-at (c .before)) .args .size) (getD (start (byte-at (c .before)) .args .cells .now) (start (byte-at (c .before)) .args .cell + 1 + c .before .loop .k) 0)
 here c =
     let s = start (byte-at (c .before)) in
     letter-in (s .args .size) (s .args .cells .now) (s .args .cell) (s .pre .0 .word) (s .pre .0 .holds) (c .before .loop .k) (omega (arith, c .loop-test .taken, s .pre .0 .holds .count))

@@ -7,10 +7,11 @@ use lib.ListN.{length, drop, length-map}
 use Rattle.model.specs.declared.answers.Refusal.the-variants.{AnswerShort}
 use Rattle.model.specs.Word.{byte}
 use Rattle.model.specs.Plain.{plainProgram}
-use Rattle.model.specs.Services.{unpackProgram}
+use Rattle.model.specs.Services.{unpackProgram, programUnder, plainProgramUnder}
 use Rattle.images.specs.Tables.{SizeDone, SizeOf}
 use Rattle.images.specs.Programs.{ProgramDone, ProgramOf}
 use Rattle.packing.proofs.Packing.{refused-keeps, answered-writes, short-area, long-area, unpack-table-refused, unpack-program-refused, unpack-read}
+use Rattle.packing.proofs.ReadBack.{plain-program-back}
 use borrow.Author.Needs.{needs}
 use Rattle.packing.proofs.unpack_program.unpack.Statement.{statement}
 use Rattle.packing.proofs.unpack_program.unpack.Tie as tie
@@ -53,7 +54,7 @@ returns c =
     let k = m .before .before .before .before in
     let s = start k in
     let w = program-of m .word in
-    refused-keeps (unpackProgram (s .args .table .now) (s .args .program .now) (length (s .args .area .now))) (s .args .area .now) AnswerShort
+    refused-keeps (programUnder (s .args .table .now) (s .args .program .now)) (plainProgramUnder (s .args .table .now)) (unpackProgram (s .args .table .now) (s .args .program .now) (length (s .args .area .now))) (s .args .area .now) AnswerShort
     (unpack-read (s .args .table .now) (s .args .program .now) (length (s .args .area .now)) (size-of k .table) _ (size-of k .read) (size-of k .size-is) w (program-of m .read)
     ∙ short-area (length (s .args .area .now)) (plainProgram w) (omega (arith, c .if1 .taken, program-of m .count-is, length-map w byte)))
 
@@ -66,14 +67,14 @@ unpack-letters-requires c κs =
 returns-2 : tie.Need-returns-2
 returns-2 c =
     let s = c .before .before .before .before .before .before .before in
-    refused-keeps (unpackProgram (s .args .table .now) (s .args .program .now) (length (s .args .area .now))) (s .args .area .now) (c .before .refusal .given .0 .0)
+    refused-keeps (programUnder (s .args .table .now) (s .args .program .now)) (plainProgramUnder (s .args .table .now)) (unpackProgram (s .args .table .now) (s .args .program .now) (length (s .args .area .now))) (s .args .area .now) (c .before .refusal .given .0 .0)
     (unpack-table-refused (s .args .table .now) (s .args .program .now) (length (s .args .area .now)) (c .before .refusal .given .0 .0) (subst (SizeDone (s .args .table .now)) (c .before .refusal .given .1) (c .before .before .before .table-size .ensures)))
 
 returns-3 : tie.Need-returns-3
 returns-3 c =
     let k = c .before .before .before .before in
     let s = start k in
-    refused-keeps (unpackProgram (s .args .table .now) (s .args .program .now) (length (s .args .area .now))) (s .args .area .now) (c .before .refusal2 .given .0 .0)
+    refused-keeps (programUnder (s .args .table .now) (s .args .program .now)) (plainProgramUnder (s .args .table .now)) (unpackProgram (s .args .table .now) (s .args .program .now) (length (s .args .area .now))) (s .args .area .now) (c .before .refusal2 .given .0 .0)
     (unpack-program-refused (s .args .table .now) (s .args .program .now) (length (s .args .area .now)) (size-of k .table) _ (size-of k .read) (size-of k .size-is) (c .before .refusal2 .given .0 .0)
     (subst (ProgramDone (s .args .program .now) (k .before .size .given .0 .0)) (c .before .refusal2 .given .1) (c .before .before .before .read-program .ensures)))
 
@@ -87,11 +88,12 @@ returns-4 c =
     let k = m .before .before .before .before in
     let s = start k in
     let w = program-of m .word in
-    answered-writes (unpackProgram (s .args .table .now) (s .args .program .now) (length (s .args .area .now))) (s .args .area .now) (plainProgram w) (u .unpack-letters .last .1 .1 .1 .0) _
+    answered-writes (programUnder (s .args .table .now) (s .args .program .now)) (plainProgramUnder (s .args .table .now)) (unpackProgram (s .args .table .now) (s .args .program .now) (length (s .args .area .now))) (s .args .area .now) (plainProgram w) (u .unpack-letters .last .1 .1 .1 .0) _
     (unpack-read (s .args .table .now) (s .args .program .now) (length (s .args .area .now)) (size-of k .table) _ (size-of k .read) (size-of k .size-is) w (program-of m .read)
     ∙ long-area (length (s .args .area .now)) (plainProgram w) (omega (arith, u .before .before .if1 .left, program-of m .count-is, length-map w byte)))
     (length-map w byte ∙ program-of m .count-is)
     (u .unpack-letters .ensures .1 w (program-of m .read) ∙ ap (λ n. plainProgram w ++ drop n (s .args .area .now)) {x = 0 + length (plainProgram w)} {y = length (plainProgram w)} (omega arith))
+    (plain-program-back (s .args .table .now) (size-of k .table) _ (size-of k .read) (size-of k .size-is) (s .args .program .now) w (program-of m .read))
 
 pub unpack-spec : {M : Type 1} → statement M
 unpack-spec =

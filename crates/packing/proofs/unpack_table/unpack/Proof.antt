@@ -6,10 +6,12 @@ use native.Mathlib.Omega.{arith}
 use lib.ListN.{length, drop}
 use Rattle.model.specs.declared.answers.Refusal.the-variants.{AnswerShort}
 use Rattle.model.specs.Enumeration.{concatMap}
-use Rattle.model.specs.Plain.{plainPair, plainTable}
+use Rattle.model.specs.Images.{readTable}
+use Rattle.model.specs.Plain.{plainPair, plainTable, readPlainTable}
 use Rattle.model.specs.Services.{unpackTable}
 use Rattle.images.specs.Tables.{TableDone, TableOf}
 use Rattle.packing.proofs.Packing.{refused-keeps, answered-writes, short-area, long-area, table-refused, table-read, plain-bytes, taken-first}
+use Rattle.packing.proofs.ReadBack.{plain-table-back}
 use borrow.Author.Needs.{needs}
 use Rattle.packing.proofs.unpack_table.unpack.Statement.{statement}
 use Rattle.packing.proofs.unpack_table.unpack.Tie as tie
@@ -66,7 +68,7 @@ returns c =
     let k = v .before .before .before in
     let s = start k in
     let t = table-of k in
-    refused-keeps (unpackTable (s .args .table .now) (length (s .args .area .now))) (s .args .area .now) AnswerShort
+    refused-keeps (readTable (s .args .table .now)) readPlainTable (unpackTable (s .args .table .now) (length (s .args .area .now))) (s .args .area .now) AnswerShort
     (table-read (s .args .table .now) (length (s .args .area .now)) (t .table) (t .read) ∙ short-area (length (s .args .area .now)) (plainTable (t .table)) (omega (arith, c .if1 .taken, bytes-length v)))
 
 slice-aggregate-copy-bytes : tie.Need-slice-aggregate-copy-bytes
@@ -79,7 +81,7 @@ returns-2 : tie.Need-returns-2
 returns-2 c =
     let s = c .before .before .before .before .before .before .before .before in
     let r = c .before .before .before .before in
-    refused-keeps (unpackTable (s .args .table .now) (length (s .args .area .now))) (s .args .area .now) (c .before .refusal .given .0 .0)
+    refused-keeps (readTable (s .args .table .now)) readPlainTable (unpackTable (s .args .table .now) (length (s .args .area .now))) (s .args .area .now) (c .before .refusal .given .0 .0)
     (table-refused (s .args .table .now) (length (s .args .area .now)) (c .before .refusal .given .0 .0) (subst (TableDone (s .args .table .now) (r .read-table .last .1 .0)) (c .before .refusal .given .1) (r .read-table .ensures .1)))
 
 same-length : tie.Need-same-length
@@ -93,12 +95,13 @@ returns-3 c =
     let k = v .before .before .before in
     let s = start k in
     let t = table-of k in
-    answered-writes (unpackTable (s .args .table .now) (length (s .args .area .now))) (s .args .area .now) (plainTable (t .table)) (u .copy-bytes .last .1 .1 .0) _
+    answered-writes (readTable (s .args .table .now)) readPlainTable (unpackTable (s .args .table .now) (length (s .args .area .now))) (s .args .area .now) (plainTable (t .table)) (u .copy-bytes .last .1 .1 .0) _
     (table-read (s .args .table .now) (length (s .args .area .now)) (t .table) (t .read) ∙ long-area (length (s .args .area .now)) (plainTable (t .table)) (omega (arith, e .if1 .left, bytes-length v)))
     (bytes-length v)
     (u .copy-bytes .ensures .1
     ∙ (ap (λ l. l ++ drop (v .write-plain-table .result) (s .args .area .now)) (bytes-taken v)
     ∙ ap (λ n. plainTable (t .table) ++ drop n (s .args .area .now)) (sym (bytes-length v))))
+    (plain-table-back (s .args .table .now) (t .table) (t .read))
 
 pub unpack-spec : {M : Type 1} → statement M
 unpack-spec =

@@ -4,7 +4,7 @@ use lib.ListN.{length}
 use Rattle.model.specs.Areas.{workspaceAfter}
 use Rattle.model.specs.Stated.{compared}
 use Rattle.services.specs.Loading.{PairDone}
-use Rattle.services.proofs.ChainService.{chain-refused, chain-runs, chain-means, area-refused, area-listed}
+use Rattle.services.proofs.ChainService.{chain-refused, chain-runs, chain-means, area-refused, area-listed, listed-checks}
 use borrow.Author.Needs.{needs}
 use Rattle.services.proofs.chain.chain.Statement.{statement}
 use Rattle.services.proofs.chain.chain.Tie as tie
@@ -38,7 +38,9 @@ returns c =
     let e = subst (PairDone (a .table .now) (a .first .now) (a .second .now) (v .last .1 .1 .1 .0)) (c .before .read .given .1) (v .ensures) in
     let r = c .before .read .given .0 .0 in
     let o = chain-refused (a .table .now) (a .first .now) (a .second .now) (a .allowance) (length (a .workspace .now)) (length (a .answer .now)) r e in
-    (o .stated, (o .workspace (a .workspace .now), (area-refused (a .table .now) (a .first .now) (a .second .now) (a .answer .now) (a .answer .now) r, chain-means (a .table .now) (a .first .now) (a .second .now) (a .allowance) (length (a .workspace .now)) (length (a .answer .now)) _ (o .stated))))
+    let area = area-refused (a .table .now) (a .first .now) (a .second .now) (a .answer .now) (a .answer .now) r in
+    let checks = listed-checks (a .table .now) (a .first .now) (a .second .now) (a .allowance) (length (a .workspace .now)) (a .answer .now) (a .answer .now) _ (o .stated) area in
+    (o .stated, (o .workspace (a .workspace .now), (area, (checks, chain-means (a .table .now) (a .first .now) (a .second .now) (a .allowance) (length (a .workspace .now)) (length (a .answer .now)) _ (o .stated)))))
 
 same-length : tie.Need-same-length
 same-length c = search needs
@@ -56,7 +58,8 @@ returns-2 c =
     let l = z .ensures .lists (f .table) (f .of) (f .pair .one .word) (f .pair .two .word) (f .pair .one .read) (f .pair .two .read) in
     let e = l .verdict ∙ sym (chain-runs (a .table .now) (a .first .now) (a .second .now) (a .allowance) (length (a .workspace .now)) (length (a .answer .now)) (f .table) (f .pair .one .word) (f .pair .two .word) (t .reads)) in
     let area = area-listed (a .table .now) (a .first .now) (a .second .now) (a .answer .now) (z .last .1 .1 .1 .1 .1 .1 .1 .1 .0) (f .table) (f .pair .one .word) (f .pair .two .word) (t .reads) (compared (z .result)) (l .area) in
-    (e, (z .ensures .wiped ∙ ap (λ x. workspaceAfter x (a .workspace .now)) e, (area, chain-means (a .table .now) (a .first .now) (a .second .now) (a .allowance) (length (a .workspace .now)) (length (a .answer .now)) _ e)))
+    let checks = listed-checks (a .table .now) (a .first .now) (a .second .now) (a .allowance) (length (a .workspace .now)) (a .answer .now) (z .last .1 .1 .1 .1 .1 .1 .1 .1 .0) (compared (z .result)) e area in
+    (e, (z .ensures .wiped ∙ ap (λ x. workspaceAfter x (a .workspace .now)) e, (area, (checks, chain-means (a .table .now) (a .first .now) (a .second .now) (a .allowance) (length (a .workspace .now)) (length (a .answer .now)) _ e))))
 
 pub chain-spec : {M : Type 1} → statement M
 chain-spec =

@@ -7,7 +7,7 @@ use Rattle.model.specs.Areas.{workspaceAfter}
 use Rattle.services.specs.Loading.{TableLoaded}
 use Rattle.services.proofs.Early.{table-early}
 use Rattle.services.proofs.Outcomes.{refused-workspace}
-use Rattle.services.proofs.ClearService.{clear-no-table, clear-runs}
+use Rattle.services.proofs.ClearService.{clear-no-table, clear-runs, clear-says}
 use borrow.Author.Needs.{needs}
 use Rattle.services.proofs.clear.clear.Statement.{statement}
 use Rattle.services.proofs.clear.clear.Tie as tie
@@ -41,7 +41,7 @@ returns c =
     let r = c .before .read .given .0 .0 in
     let e = subst (TableLoaded (s .args .table .now) (v .last .1 .0)) (c .before .read .given .1) (v .ensures .1) in
     let o = clear-no-table (s .args .table .now) (s .args .allowance) (length (s .args .workspace .now)) r e in
-    (sym o, refused-workspace _ r o (readTable (s .args .table .now)) 3 e (table-early (s .args .table .now)) (omega arith) (s .args .workspace .now))
+    (sym o, (refused-workspace _ r o (readTable (s .args .table .now)) 3 e (table-early (s .args .table .now)) (omega arith) (s .args .workspace .now), clear-says (s .args .table .now) (s .args .allowance) (length (s .args .workspace .now)) _ (sym o)))
 
 same-length : tie.Need-same-length
 same-length c = search needs
@@ -54,7 +54,7 @@ returns-2 c =
     let z = c .before .before .clear-cells in
     let o = clear-runs (s .args .table .now) (s .args .allowance) (length (s .args .workspace .now)) (t .table) (t .read) in
     let e = z .ensures .0 (t .table) (t .of) ∙ sym o in
-    (e, z .ensures .1 ∙ ap (λ x. workspaceAfter x (s .args .workspace .now)) e)
+    (e, (z .ensures .1 ∙ ap (λ x. workspaceAfter x (s .args .workspace .now)) e, clear-says (s .args .table .now) (s .args .allowance) (length (s .args .workspace .now)) _ e))
 
 pub clear-spec : {M : Type 1} → statement M
 clear-spec =

@@ -1,0 +1,34 @@
+-- What the cube check says of the cube rule. Document 01, "The two checks of a table": refusal 9 comes exactly for its fault.
+use mathlib.Core.List.{List, [], _∷_, _++_}
+use mathlib.Core.Path.{_≡_}
+use Prim.Native.Nat.{ℕ}
+use Rattle.model.specs.Presentation.{Presentation}
+use Rattle.model.specs.Enumeration.{Three, triples}
+use Rattle.model.specs.Range.{All}
+use Rattle.model.specs.Outcome.{Outcome, answered, refused}
+use Rattle.model.specs.Checks.{CubeRule, CubeVerdict, holds, fails, halts}
+
+-- the rule at a triple
+abbrev pub Obeys : Presentation → Three → Type 0
+Obeys T t = CubeRule T (t .a) (t .b) (t .c)
+
+-- a verdict on a triple: it passes only where the rule holds and fails only where it does not; a stop leaves it open
+abbrev pub Says : Presentation → Three → CubeVerdict → Type 0
+Says T t holds = Obeys T t
+Says T t fails = Obeys T t → ⊥
+Says T t (halts s) = Unit {0}
+
+-- "the first triple that breaks the rule is the one reported", by its numbers
+pub record FirstBroken (T : Presentation) (ts : List Three) (numbers : List ℕ) : Type 0 where
+  pub before : List Three
+  pub triple : Three
+  pub after : List Three
+  pub place : ts ≡ before ++ (triple ∷ after)
+  pub named : numbers ≡ triple .a ∷ triple .b ∷ triple .c ∷ []
+  pub obeyed : All (Obeys T) before
+  pub broken : Obeys T triple → ⊥
+
+-- clearing a table: an answer only where every triple obeys the rule, and 9 only with the first that breaks it
+pub record CubeMeaning (T : Presentation) (outcome : Outcome (Unit {0})) : Type 0 where
+  pub passed : outcome ≡ answered tt → All (Obeys T) (triples (T .size))
+  pub broken : (numbers : List ℕ) → outcome ≡ refused 9 numbers → FirstBroken T (triples (T .size)) numbers

@@ -1,0 +1,2 @@
+pub mod Cube
+pub mod Passages
