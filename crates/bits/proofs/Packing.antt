@@ -9,7 +9,7 @@ use native.Mathlib.Omega.{arith}
 use native.Mathlib.Decide.{decLt}
 use borrow.Author.Tests.{lt-ltb, ltb-true, eqb-true}
 use lib.Dec.{ltb, eqb}
-use lib.ListN.{length, take, drop, getD, replicate, length-append, length-take, length-drop, length-replicate, take-append-drop}
+use lib.ListN.{length, take, drop, replicate, length-append, length-take, length-drop, length-replicate, take-append-drop}
 use lib.Seq.{take-at, drop-at, take-append-le, take-append-add, length-take-le}
 use Rattle.model.specs.Bits.{digits, number, bitsOf, packed, bytesFor, pack, allZero, filling}
 use Rattle.model.specs.Range.{AreBytes}

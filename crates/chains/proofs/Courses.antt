@@ -8,11 +8,11 @@ use lib.ListN.{length, length-append}
 use Rattle.model.specs.Word.{Word, Positive, positive, negative}
 use Rattle.model.specs.Presentation.{Presentation, complement, swapped, complete}
 use Rattle.model.specs.Equivalence.{Entry, applied, Leads}
-use Rattle.theory.proofs.Words.{negative-append, positive-append}
-use Rattle.theory.proofs.Complete.{complete-same, complete-turn, complete-named}
-use Rattle.theory.proofs.Equiv.{Swap, Homogeneous, total-one}
-use Rattle.theory.proofs.Entries.{swap-applied, applied-applies, entry-inside}
-use Rattle.theory.proofs.Joining.{joined-length}
+use Rattle.model.proofs.Words.{negative-append, positive-append}
+use Rattle.model.proofs.Complete.{complete-same, complete-turn, complete-named}
+use Rattle.model.proofs.Equiv.{Swap, Homogeneous, total-one}
+use Rattle.model.proofs.Entries.{swap-applied, applied-applies, entry-inside}
+use Rattle.model.proofs.Joining.{joined-length}
 use Rattle.engine.specs.Cells.{InRange, Lettered, Word-at, Cell, cellAt}
 use Rattle.engine.proofs.Lettering.{lettered-append}
 use Rattle.engine.proofs.Progress.{count-equal, count-different}

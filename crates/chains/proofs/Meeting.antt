@@ -8,8 +8,8 @@ use Rattle.model.specs.Word.{Positive, positive, negative}
 use Rattle.model.specs.Presentation.{complement, complete}
 use Rattle.model.specs.Equivalence.{Entry}
 use Rattle.model.specs.Images.{entryBits}
-use Rattle.theory.proofs.Words.{positive-append}
-use Rattle.theory.proofs.Complete.{complete-named}
+use Rattle.model.proofs.Words.{positive-append}
+use Rattle.model.proofs.Complete.{complete-named}
 use Rattle.engine.specs.Gap.{letters}
 use Rattle.engine.specs.Cells.{cellAt, InRange, Lettered, Word-at, Cell}
 use Rattle.engine.proofs.Lettering.{lettered-end}

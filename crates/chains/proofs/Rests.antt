@@ -7,7 +7,7 @@ use native.Mathlib.Numerals.{add-one}
 use lib.ListN.{length, take, drop, getD, length-drop}
 use lib.Seq.{take-suc, drop-cons, take-at, drop-at, drop-drop, take-add, length-take-le}
 use Rattle.model.specs.Word.{Word, Positive, forward, back, letter, positive, negative}
-use Rattle.theory.proofs.Words.{negative-cons, negative-append}
+use Rattle.model.proofs.Words.{negative-cons, negative-append}
 use Rattle.engine.specs.Gap.{letters}
 use Rattle.engine.specs.Turn.{Pushed}
 use Rattle.engine.proofs.Letters.{letters-append, letters-cons, letters-nil, length-letters, byte-of-back, byte-of-forward}

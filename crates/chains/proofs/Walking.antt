@@ -9,8 +9,8 @@ use Rattle.model.specs.Word.{Positive, positive, negative}
 use Rattle.model.specs.Presentation.{Presentation}
 use Rattle.model.specs.Images.{chainImage}
 use Rattle.model.specs.Areas.{begins}
-use Rattle.theory.proofs.Leftmost.{counted-within}
-use Rattle.theory.proofs.Endings.{reversing-finishes}
+use Rattle.model.proofs.Leftmost.{counted-within}
+use Rattle.model.proofs.Endings.{reversing-finishes}
 use Rattle.engine.specs.Gap.{letters, wordAt}
 use Rattle.engine.specs.Cells.{Lettered}
 use Rattle.engine.proofs.Letters.{letters-append, length-letters}

@@ -14,8 +14,8 @@ use Rattle.model.specs.Outcome.{Outcome, refused, _>>=_}
 use Rattle.model.specs.Checks.{balanced, lengthCheck, CubeVerdict, holds, fails, halts, reported, cubeAt, cubeCheck}
 use Rattle.model.specs.declared.answers.Stop.{Stop}
 use Rattle.model.specs.declared.answers.Stop.the-variants.{Budget, Room}
-use Rattle.theory.proofs.Complete.{complete-turn}
-use Rattle.theory.proofs.Impossible.{impossible}
+use Rattle.model.proofs.Complete.{complete-turn}
+use Rattle.model.proofs.Impossible.{impossible}
 use Rattle.engine.specs.Cells.{cellAt, InRange, Cell, Stands, Serves}
 use Rattle.checks.specs.Cube.{cubeAnswer}
 use Rattle.checks.specs.Table.{Of, stoppedAs}

@@ -12,7 +12,7 @@ use Rattle.model.specs.Checks.{ofEnding, under}
 use Rattle.model.specs.Stated.{endingAnswer}
 use Rattle.model.specs.declared.answers.Ending.{Ending as EndingAnswer}
 use Rattle.model.specs.declared.answers.Stop.the-variants.{Room}
-use Rattle.theory.proofs.Reversal.{reversing-long}
+use Rattle.model.proofs.Reversal.{reversing-long}
 use Rattle.engine.specs.Gap.{letters}
 use Rattle.engine.specs.Run.{Holds, Named, Reverses}
 use Rattle.engine.proofs.Letters.{letter-forward, letter-back, letters-cons, letters-nil}

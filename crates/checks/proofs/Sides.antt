@@ -10,9 +10,8 @@ use Rattle.model.specs.Reversing.{Stop as ModelStop}
 use Rattle.model.specs.Checks.{Residue, residue, missing, halted, andThen, under, side}
 use Rattle.model.specs.Stated.{stopAnswer}
 use Rattle.model.specs.declared.answers.Stop.{Stop}
-use Rattle.theory.proofs.Impossible.{impossible}
-use Rattle.theory.proofs.Residuals.{residual-letters}
-use Rattle.theory.proofs.Checked.{under-residue}
+use Rattle.model.proofs.Impossible.{impossible}
+use Rattle.model.proofs.Residues.{residual-letters, under-residue}
 use Rattle.engine.specs.Cells.{cellAt, InRange, Serves}
 use Rattle.checks.specs.Residues.{Stored, Works}
 use Rattle.checks.specs.declared.residues.Residue.the-variants.{Missing, Halted}

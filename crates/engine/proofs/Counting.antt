@@ -8,7 +8,7 @@ use lib.ListN.{length, take, getD, length-append, length-take, length-reverse}
 use lib.Seq.{take-suc, length-take-le}
 use Rattle.model.specs.Word.{Letter, forward, back, Word, forwards, backs, letter, positive, negative}
 use Rattle.model.specs.Reversing.{ended, site}
-use Rattle.theory.proofs.Words.{site-fraction}
+use Rattle.model.proofs.Words.{site-fraction}
 use Rattle.engine.specs.Gap.{letters, AtEnd}
 use Rattle.engine.specs.Run.{Holds}
 use Rattle.engine.proofs.Letters.{letter-forward, letter-back, letters-append, letters-cons, letters-nil, length-letters}

@@ -5,7 +5,7 @@ use lib.ListN.{length, length-map, length-reverse}
 use Prim.Native.Nat.{ℕ, _≤_}
 use native.Mathlib.Omega.{arith}
 use Rattle.model.specs.Word.{forward, back, Word, Positive, flip, positive, negative}
-use Rattle.theory.proofs.Words.{negative-cons}
+use Rattle.model.proofs.Words.{negative-cons}
 use Rattle.engine.specs.Gap.{letters}
 use Rattle.engine.specs.Cells.{Lettered}
 use Rattle.engine.proofs.Letters.{letter-forward, letters-cons, letters-nil}

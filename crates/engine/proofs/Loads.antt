@@ -8,7 +8,7 @@ use lib.Seq.{take-at, drop-at, drop-length, length-take-le}
 use Rattle.model.specs.Word.{Word, Positive, positive, negative}
 use Rattle.model.specs.Presentation.{Presentation}
 use Rattle.model.specs.Reversing.{site}
-use Rattle.theory.proofs.Words.{fraction-nowhere}
+use Rattle.model.proofs.Words.{fraction-nowhere}
 use Rattle.engine.specs.Gap.{letters, wordAt, Searched}
 use Rattle.engine.specs.Cells.{Lettered, Stands, Serves}
 use Rattle.engine.specs.Turn.{Pushed}

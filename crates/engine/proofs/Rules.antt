@@ -6,7 +6,7 @@ use native.Mathlib.Omega.{arith}
 use lib.ListN.{length, getD}
 use Rattle.model.specs.Word.{Positive}
 use Rattle.model.specs.Presentation.{Presentation, Complement, undefined, complement, swapped, complete}
-use Rattle.theory.proofs.Complete.{complete-turn}
+use Rattle.model.proofs.Complete.{complete-turn}
 use Rattle.engine.specs.Cells.{cellAt, InRange, Word-at, Cell, Stands}
 
 -- both words of a pair that is not undefined

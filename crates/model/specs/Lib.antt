@@ -12,7 +12,3 @@ pub mod Plain
 pub mod Services
 pub mod Areas
 pub mod Stated
-pub mod Case
-pub mod Samples
-pub mod Sheet
-pub mod Cases

@@ -21,7 +21,7 @@ use Rattle.model.specs.declared.answers.Pair.{Pair}
 use Rattle.model.specs.declared.answers.Refusal.the-variants.{OpenPair, AnswerShort}
 use Rattle.model.specs.declared.answers.Reversed.{Reversed}
 use Rattle.model.specs.declared.answers.Reversed.the-variants.{Answer, Refused}
-use Rattle.theory.proofs.Impossible.{impossible}
+use Rattle.model.proofs.Impossible.{impossible}
 use Rattle.engine.specs.Gap.{letters}
 use Rattle.engine.specs.Run.{Holds, Reverses}
 use Rattle.engine.proofs.Letters.{length-letters}

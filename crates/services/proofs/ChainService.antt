@@ -20,16 +20,17 @@ use Rattle.model.specs.Stated.{refusal}
 use Rattle.model.specs.declared.answers.Refusal.{Refusal}
 use Rattle.model.specs.declared.answers.Refusal.the-variants.{AnswerShort}
 use Rattle.model.specs.declared.answers.Compared.the-variants.{Same as SameAnswer, Refused as RefusedAnswer}
-use Rattle.theory.proofs.Impossible.{impossible}
-use Rattle.theory.proofs.Reversal.{reversing-long}
-use Rattle.theory.proofs.Endings.{reversing-finishes}
-use Rattle.theory.proofs.Leftmost.{counted-within}
-use Rattle.theory.proofs.Equiv.{Homogeneous}
+use Rattle.model.proofs.Impossible.{impossible}
+use Rattle.model.proofs.Reversal.{reversing-long}
+use Rattle.model.proofs.Endings.{reversing-finishes}
+use Rattle.model.proofs.Leftmost.{counted-within}
+use Rattle.model.proofs.Equiv.{Homogeneous}
 use Rattle.theory.proofs.Clearing.{clear-homogeneous}
 use Rattle.theory.proofs.Passages.{lead-joins}
 use Rattle.theory.proofs.Comparison.{answered-clear}
-use Rattle.theory.proofs.Verdicts.{demand-three, settled-same, settled-different, stopped-by-budget, stopped-by-room}
-use Rattle.theory.proofs.Verdicts.{Settled as TheorySettled}
+use Rattle.theory.specs.Verdicts.{DemandThree}
+use Rattle.theory.proofs.Verdicts.{demand-three-told}
+use Rattle.images.proofs.Several.{answer-of}
 use Rattle.model.specs.Range.{EntryInRange, ProgramInRange}
 use Rattle.model.specs.Range.{All as Every}
 use Rattle.images.specs.Programs.{ForwardOf}
@@ -43,7 +44,7 @@ use Rattle.chains.proofs.Courses.{even-of}
 use Rattle.chains.proofs.Layouts.{room-for-fewer}
 use Rattle.checks.specs.Table.{Of}
 use Rattle.services.specs.Loading.{Images, readPair}
-use Rattle.services.specs.Compare.{toldAs, Ended, Judged, LoadedPair, Settled, settled, by-allowance, by-memory, Meaning}
+use Rattle.services.specs.Compare.{toldAs, Ended, Judged, LoadedPair, Meaning}
 use Rattle.services.specs.Chain.{Area, ListedAs, JoinsChecked, ListedChecks}
 use Rattle.services.specs.declared.compare.Judgement.{Judgement}
 use Rattle.services.specs.declared.compare.Judgement.the-variants.{Same, Different, Refused}
@@ -191,28 +192,17 @@ module _ (table first second : List ℕ) (steps width area : ℕ) where
       by-room false q = cc
   shown n (different-after k) y e = cc
 
-  told-of : (n : ℕ) (o : Outcome Verdict) (y : Verdict) → (o >>= listable n area) ≡ answered y → o ≡ answered y
-  told-of n (answered x) y e = ap answered (shown n x y e)
-  told-of n (refused i ps) y e = impossible (cc)
-
-  as-settled : (n : ℕ) {o : Outcome Verdict} → TheorySettled o → Settled (listable n area) (o >>= listable n area)
-  as-settled n (settled-same {k}) = settled (same-after k)
-  as-settled n (settled-different {k}) = settled (different-after k)
-  as-settled n stopped-by-budget = by-allowance
-  as-settled n stopped-by-room = by-memory
-
   pub chain-means : (o : Outcome Verdict) → o ≡ chain table first second steps width area → Meaning table first second steps width (λ T v. listable (T .size) area v) o
-  chain-means o e =
-      record {
-        same-joined = λ k h T u v c. demand-three T u v steps width .same-only-joined k (told-of (T .size) (comparison T u v steps width) (same-after k) (sym (is T u v c) ∙ h));
-        different-apart = λ k h T u v c. demand-three T u v steps width .different-only-apart k (told-of (T .size) (comparison T u v steps width) (different-after k) (sym (is T u v c) ∙ h));
-        verdict-or-stop = λ T u v c clear. subst (Settled (listable (T .size) area)) (sym (is T u v c)) (as-settled (T .size) (demand-three T u v steps width .verdict-or-stop clear));
-        ends-empty = λ T u v c clear j. demand-three T u v steps width .ends-empty clear j;
-        answers-same = λ T u v c clear j k run cs cr. is T u v c ∙ ap (λ x. x >>= listable (T .size) area) (demand-three T u v steps width .answers-same clear j k run cs cr);
-      }
-    where
-      is : (T : Presentation) (u v : Positive) → Compares table first second T u v → o ≡ (comparison T u v steps width >>= listable (T .size) area)
-      is T u v c = e ∙ chain-runs T u v c
+  chain-means o e T u v c =
+      subst (DemandThree T u v steps width (listable (T .size) area)) (sym (e ∙ chain-runs T u v c))
+      (demand-three-told T u v steps width (listable (T .size) area) (shown (T .size)))
+
+  -- only a comparison that said "same" is told so
+  same-told : (T : Presentation) (u v : Positive) → Compares table first second T u v → (k : ℕ) → answered (same-after k) ≡ chain table first second steps width area
+      → comparison T u v steps width ≡ answered (same-after k)
+  same-told T u v c k e =
+      let x = answer-of (comparison T u v steps width) (listable (T .size) area) (same-after k) (sym (e ∙ chain-runs T u v c)) in
+      x .1 ∙ ap answered (shown (T .size) (x .0) (same-after k) (x .2))
 
 -- the answer area of the service
 module _ (table first second before after : List ℕ) where
@@ -232,9 +222,7 @@ module _ (table first second : List ℕ) (steps width : ℕ) (before after : Lis
       → answered (same-after k) ≡ chain table first second steps width (length before) → Homogeneous (λ a. 1) (complete T)
   even-after T u v c k e =
       clear-homogeneous T steps width
-      (answered-clear T u v steps width
-      (told-of table first second steps width (length before) (T .size) (comparison T u v steps width) (same-after k)
-      (sym (e ∙ chain-runs table first second steps width (length before) T u v c))))
+      (answered-clear T u v steps width (same-told table first second steps width (length before) T u v c k e))
 
   joins-checked : (T : Presentation) (u v : Positive) → Compares table first second T u v → (k : ℕ)
       → answered (same-after k) ≡ chain table first second steps width (length before) → Listed T u v k before after

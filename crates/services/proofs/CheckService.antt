@@ -20,7 +20,7 @@ use Rattle.model.specs.Areas.{Compares, workspaceAfter}
 use Rattle.model.specs.Stated.{refusal}
 use Rattle.model.specs.declared.answers.Refusal.{Refusal}
 use Rattle.theory.specs.Passages.{Passes, arrives, broken, elsewhere, starts-long, grows-long}
-use Rattle.theory.proofs.Impossible.{impossible}
+use Rattle.model.proofs.Impossible.{impossible}
 use Rattle.theory.proofs.Passages.{passage-exactly}
 use Rattle.images.proofs.Several.{answer-of}
 use Rattle.images.specs.Programs.{written, ForwardOf}

@@ -12,7 +12,7 @@ use Rattle.model.specs.Presentation.{Presentation}
 use Rattle.model.specs.Reversing.{Ending, finished, open-pair, stopped, budget, room, reversing}
 use Rattle.model.specs.Outcome.{Outcome, answered, unless}
 use Rattle.model.specs.Checks.{cleared}
-use Rattle.model.specs.Services.{Verdict, same-after, different-after, verdictOf, comparison, compare}
+use Rattle.model.specs.Services.{Verdict, different-after, verdictOf, comparison, compare}
 use Rattle.model.specs.Areas.{Compares, workspaceAfter}
 use Rattle.model.specs.Stated.{refusal, compared, endingAnswer}
 use Rattle.model.specs.declared.answers.Ending.{Ending as EndingAnswer}
@@ -20,12 +20,12 @@ use Rattle.model.specs.declared.answers.Refusal.{Refusal}
 use Rattle.model.specs.declared.answers.Refusal.the-variants.{UnequalEnds}
 use Rattle.model.specs.declared.answers.Ending.the-variants.{Finished, Undefined, Stopped}
 use Rattle.model.specs.declared.answers.Stop.the-variants.{Budget, Room}
-use Rattle.theory.proofs.Impossible.{impossible}
-use Rattle.theory.proofs.Verdicts.{demand-three, settled-same, settled-different, stopped-by-budget, stopped-by-room}
-use Rattle.theory.proofs.Verdicts.{Settled as TheorySettled}
+use Rattle.model.proofs.Impossible.{impossible}
+use Rattle.theory.specs.Verdicts.{DemandThree}
+use Rattle.theory.proofs.Verdicts.{demand-three}
 use Rattle.engine.specs.Run.{Reverses}
 use Rattle.services.specs.Loading.{Images, readPair}
-use Rattle.services.specs.Compare.{judgement, judgementAs, toldAs, EndedIf, Judged, Settled, settled, by-allowance, by-memory, Meaning}
+use Rattle.services.specs.Compare.{judgement, judgementAs, toldAs, EndedIf, Judged, Meaning}
 use Rattle.services.specs.declared.compare.Judgement.{Judgement}
 use Rattle.services.specs.declared.compare.Judgement.the-variants.{Same, Different, Refused}
 use Rattle.services.proofs.Outcomes.{AsFound, still-refused, goes-on}
@@ -150,24 +150,8 @@ module _ (table first second : List ℕ) (steps width : ℕ) where
   compare-runs = pair-runs table first second judges
 
   -- demand 3, of the outcome
-  as-settled : {o : Outcome Verdict} → TheorySettled o → Settled answered o
-  as-settled (settled-same {k}) = settled (same-after k)
-  as-settled (settled-different {k}) = settled (different-after k)
-  as-settled stopped-by-budget = by-allowance
-  as-settled stopped-by-room = by-memory
-
   pub compare-means : (o : Outcome Verdict) → o ≡ compare table first second steps width → Meaning table first second steps width (λ T v. answered v) o
-  compare-means o e =
-      record {
-        same-joined = λ k h T u v c. demand-three T u v steps width .same-only-joined k (sym (is T u v c) ∙ h);
-        different-apart = λ k h T u v c. demand-three T u v steps width .different-only-apart k (sym (is T u v c) ∙ h);
-        verdict-or-stop = λ T u v c clear. subst (Settled answered) (sym (is T u v c)) (as-settled (demand-three T u v steps width .verdict-or-stop clear));
-        ends-empty = λ T u v c clear j. demand-three T u v steps width .ends-empty clear j;
-        answers-same = λ T u v c clear j k run cs cr. is T u v c ∙ demand-three T u v steps width .answers-same clear j k run cs cr;
-      }
-    where
-      is : (T : Presentation) (u v : Positive) → Compares table first second T u v → o ≡ comparison T u v steps width
-      is T u v c = e ∙ compare-runs T u v c
+  compare-means o e T u v c = subst (DemandThree T u v steps width answered) (sym (e ∙ compare-runs T u v c)) (demand-three T u v steps width)
 
 pub told-states : (j : Judgement) → compared (toldAs j) ≡ judgementAs j
 told-states (Same k r) = refl

@@ -12,7 +12,7 @@ use Rattle.model.specs.Plain.{plainProgram}
 use Rattle.model.specs.declared.answers.Ending.{Ending}
 use Rattle.model.specs.declared.answers.Ending.the-variants.{Stopped}
 use Rattle.model.specs.declared.answers.Stop.the-variants.{Room}
-use Rattle.theory.proofs.Reversal.{reversing-long}
+use Rattle.model.proofs.Reversal.{reversing-long}
 use Rattle.model.specs.Range.{All, LetterInRange, ProgramInRange}
 use Rattle.images.specs.Programs.{written}
 use Rattle.engine.specs.Gap.{letters, wordAt, Searched}

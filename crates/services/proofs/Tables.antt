@@ -8,7 +8,7 @@ use lib.ListN.{length, take, drop, getD, set, length-set, length-drop}
 use lib.Seq.{getD-set-same, getD-set-other, getD-take, getD-drop, length-take-le, ext-getD}
 use Rattle.model.specs.Word.{Positive, positive}
 use Rattle.model.specs.Presentation.{Presentation, Complement, undefined, complement, complete}
-use Rattle.theory.proofs.Complete.{complete-same}
+use Rattle.model.proofs.Complete.{complete-same}
 use Rattle.model.specs.Range.{All, GeneratorInRange}
 use Rattle.images.specs.Cells.{HoldsWord, Holds}
 use Rattle.images.specs.Cells.{Stands as CellsRead}

@@ -7,9 +7,8 @@ use lib.Dec.{eqb}
 use lib.ListN.{length}
 use Rattle.model.specs.Word.{Positive, positive, negative}
 use Rattle.model.specs.Presentation.{Presentation}
-use Rattle.model.specs.Equivalence.{Joined}
-use Rattle.model.specs.Reversing.{Finishes, EndsEmpty, CoversSteps, CoversRoom, finished, reversing}
-use Rattle.model.specs.Outcome.{Outcome, answered, refused}
+use Rattle.model.specs.Reversing.{finished, reversing}
+use Rattle.model.specs.Outcome.{Outcome, answered}
 use Rattle.model.specs.Checks.{cleared}
 use Rattle.model.specs.Services.{Verdict, same-after, different-after, readForward, comparison}
 use Rattle.model.specs.Areas.{Compares, workspaceAfter}
@@ -19,6 +18,7 @@ use Rattle.model.specs.declared.answers.Ending.the-variants.{Finished, Undefine
 use Rattle.model.specs.declared.answers.Refusal.the-variants.{UnequalEnds}
 use Rattle.model.specs.declared.answers.Compared.{Compared}
 use Rattle.model.specs.declared.answers.Compared.the-variants.{Same as SameAnswer, Different as DifferentAnswer, Refused as RefusedAnswer}
+use Rattle.theory.specs.Verdicts.{DemandThree}
 use Rattle.engine.specs.Gap.{wordAt, Searched}
 use Rattle.engine.specs.Cells.{Serves}
 use Rattle.engine.specs.Run.{Reverses}
@@ -80,25 +80,7 @@ pub record Judges (cells : List ℕ) (size : ℕ) (first second : List ℕ) (bud
   pub judged : (T : Presentation) → Of cells size T → (u v : Positive) → readForward size first ≡ answered u → readForward size second ≡ answered v
       → Judged T u v budget (length before) r
 
--- DEMAND 3: what the verdict means of the programs in the images
-
--- a verdict, as the service tells it, or a stop by allowance or memory
-pub data Settled (after : Verdict → Outcome Verdict) : Outcome Verdict → Type 0 where
-  settled : (v : Verdict) → Settled after (after v)
-  by-allowance : Settled after (refused 11 [])
-  by-memory : Settled after (refused 12 [])
-
--- `after` is how the service tells a verdict under a table
-pub record Meaning (table first second : List ℕ) (steps width : ℕ) (after : Presentation → Verdict → Outcome Verdict) (outcome : Outcome Verdict) : Type 0 where
-  -- "same" only if a chain of swaps joins the two programs
-  pub same-joined : (k : ℕ) → outcome ≡ answered (same-after k) → (T : Presentation) (u v : Positive) → Compares table first second T u v → Joined T u v
-  -- "different" only if none does
-  pub different-apart : (k : ℕ) → outcome ≡ answered (different-after k) → (T : Presentation) (u v : Positive) → Compares table first second T u v → Joined T u v → ⊥
-  -- after the two checks, unless stopped, it is one or the other
-  pub verdict-or-stop : (T : Presentation) (u v : Positive) → Compares table first second T u v → cleared T steps width ≡ answered tt → Settled (after T) outcome
-  -- joined programs have a reversing that ends empty,
-  pub ends-empty : (T : Presentation) (u v : Positive) → Compares table first second T u v → cleared T steps width ≡ answered tt → Joined T u v
-      → EndsEmpty T (negative u ++ positive v)
-  -- and where allowance and workspace cover it, the answer is "same" with its steps
-  pub answers-same : (T : Presentation) (u v : Positive) → Compares table first second T u v → cleared T steps width ≡ answered tt → Joined T u v
-      → (k : ℕ) (run : Finishes T (negative u ++ positive v) [] [] k) → CoversSteps steps run → CoversRoom width run → outcome ≡ after T (same-after k)
+-- DEMAND 3, of the programs in the images; `after` is how the service tells a verdict under a table
+abbrev pub Meaning : List ℕ → List ℕ → List ℕ → ℕ → ℕ → (Presentation → Verdict → Outcome Verdict) → Outcome Verdict → Type 0
+Meaning table first second steps width after outcome =
+    (T : Presentation) (u v : Positive) → Compares table first second T u v → DemandThree T u v steps width (after T) outcome

@@ -14,7 +14,7 @@ use Rattle.model.specs.Presentation.{Presentation, Complement, undefined, compl
 use Rattle.model.specs.Equivalence.{Entry, equal, related, applied}
 use Rattle.engine.specs.Cells.{cellAt, InRange, Stands}
 use Rattle.engine.proofs.Rules.{Rule, open-cell, word-cell}
-use Rattle.theory.proofs.Impossible.{impossible}
+use Rattle.model.proofs.Impossible.{impossible}
 use Rattle.swaps.proofs.Comparing.{lengths-differ}
 use Rattle.swaps.specs.Held.{heldAt, Placed}
 use Rattle.swaps.specs.Entry.{ReplaceMeans, AppliedAs}

@@ -3,3 +3,4 @@ pub mod Refused
 pub mod Reports
 pub mod Rendering
 pub mod Decimal
+pub mod Cases

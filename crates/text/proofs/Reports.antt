@@ -13,7 +13,7 @@ use Rattle.model.specs.Services.{Fraction, reverse}
 use Rattle.model.specs.Areas.{begins}
 use Rattle.model.specs.Stated.{refusal, Sizes, sizes}
 use Rattle.model.specs.declared.answers.Refusal.{Refusal}
-use Rattle.theory.proofs.Impossible.{impossible}
+use Rattle.model.proofs.Impossible.{impossible}
 use Rattle.model.specs.Range.{All, LetterInRange}
 use Rattle.engine.proofs.Letters.{letter-forward, letter-back}
 use Rattle.images.proofs.Refusals.{told, refusal-mapped}

@@ -2,4 +2,3 @@ pub mod Text
 pub mod Put
 pub mod Refusals
 pub mod Render
-pub mod Cases

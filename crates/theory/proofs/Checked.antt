@@ -1,6 +1,6 @@
 -- What the two checks of a table show: each reversing, each side and each triple, and from the lists of pairs and triples all of them. A
 -- triple passes only where the cube rule holds and fails only where it does not. Document 01, "The two checks of a table"; a triple's rule is the cube property of document 004.
-use mathlib.Core.Path.{_≡_, refl, sym, ap, subst, subst₂, _∙_}
+use mathlib.Core.Path.{_≡_, refl, ap, subst₂}
 use mathlib.Core.Logic.{_≢_}
 use mathlib.Core.List.{List, [], _∷_, _++_, List·Memᴰ, List·Memᴰ·head, List·Memᴰ·tail}
 use mathlib.Core.Bool.{Bool, true, false, cond}
@@ -9,44 +9,18 @@ use native.Mathlib.Omega.{arith}
 use lib.ListN.{length}
 use Rattle.model.specs.Word.{Positive, positive, negative}
 use Rattle.model.specs.Presentation.{Presentation, Complement, undefined, complement, complete}
-use Rattle.model.specs.Reversing.{budget, room, Ending, finished, open-pair, stopped, reversing, Finishes, Residual, NoResidual, EndsEmpty}
+use Rattle.model.specs.Reversing.{budget, room, Ending, finished, open-pair, stopped, reversing, Finishes, Residual, EndsEmpty}
 use Rattle.model.specs.Enumeration.{Two, Three, pairs, triples}
 use Rattle.model.specs.Range.{All}
 use Rattle.model.specs.Outcome.{Outcome, answered, refused, _>>=_}
-use Rattle.model.specs.Checks.{balanced, lengthCheck, Side, CubeRule, both-undefined, both-defined, Residue, residue, missing, halted, ofEnding, andThen, CubeVerdict, holds, fails, halts, empties, bothMissing, bothThere, whereDefined, reported, under, side, against, cubeAt, cubeCheck, cleared}
+use Rattle.model.specs.Checks.{balanced, lengthCheck, Side, CubeRule, both-undefined, both-defined, Residue, residue, missing, halted, andThen, CubeVerdict, holds, fails, halts, empties, bothMissing, bothThere, whereDefined, reported, under, side, against, cubeAt, cubeCheck, cleared}
 use Rattle.theory.specs.Cube.{Obeys, Says, FirstBroken, CubeMeaning}
-use Rattle.theory.proofs.Impossible.{impossible}
-use Rattle.theory.proofs.Leftmost.{open-unfinished}
-use Rattle.theory.proofs.Endings.{Ends, reversing-ends}
-use Rattle.theory.proofs.Residuals.{same-residual, same-side, open-rule}
+use Rattle.model.proofs.Impossible.{impossible}
+use Rattle.model.proofs.Leftmost.{open-unfinished}
+use Rattle.model.proofs.Endings.{Ends, reversing-ends}
+use Rattle.model.proofs.Residues.{same-residual, under-residue, under-missing}
+use Rattle.theory.proofs.Residuals.{same-side, open-rule}
 use Rattle.theory.proofs.Enumerated.{pairs-have, triples-have}
-
--- WHAT ONE REVERSING OF A CHECK SHOWS
-
-module _ (T : Presentation) (steps : ℕ) where
-  -- told at each budget and room by how it ends
-  ended : (width : ℕ) (u v : Positive) → Ends T steps width (negative u ++ positive v) (reversing T steps width (negative u ++ positive v))
-  ended width u v = reversing-ends T steps width (negative u ++ positive v)
-
-  pub under-residue : (width : ℕ) (u v : Positive) {n : Positive} → under T steps width u v ≡ residue n → (d : Positive) × Residual T u v n d
-  unfolding under
-  under-residue width u v {n} h = go (reversing T steps width (negative u ++ positive v)) h (ended width u v)
-    where
-      go : (end : Ending) → ofEnding end ≡ residue n → Ends T steps width (negative u ++ positive v) end → (d : Positive) × Residual T u v n d
-      go (finished m d k r) e t =
-          let same : m ≡ n = cc in
-          (d, subst (λ n. Residual T u v n d) same (k, t .run))
-      go (open-pair a b k) e t = impossible (cc)
-      go (stopped s) e t = impossible (cc)
-
-  under-missing : (width : ℕ) (u v : Positive) → under T steps width u v ≡ missing → NoResidual T u v
-  unfolding under
-  under-missing width u v h = go (reversing T steps width (negative u ++ positive v)) h (ended width u v)
-    where
-      go : (end : Ending) → ofEnding end ≡ missing → Ends T steps width (negative u ++ positive v) end → NoResidual T u v
-      go (finished m d k r) e t = impossible (cc)
-      go (open-pair a b k) e t = λ n d r. open-unfinished T (t .reached .run) (t .here) (t .undefined-there) n d (r .1)
-      go (stopped s) e t = impossible (cc)
 
 -- WHAT ONE SIDE SHOWS
 
@@ -103,7 +77,7 @@ module _ (T : Presentation) (steps : ℕ) where
   -- two words that were worked out for L and R: the rule is that these two empty
   compared-says : (width a b c : ℕ) (l r : Positive) → Side T a b c l → Side T b a c r
       → Says T (record { a = a; b = b; c = c }) (empties (reversing T steps width (negative l ++ positive r)))
-  compared-says width a b c l r left right = go (reversing T steps width (negative l ++ positive r)) (ended T steps width l r)
+  compared-says width a b c l r left right = go (reversing T steps width (negative l ++ positive r)) (reversing-ends T steps width (negative l ++ positive r))
     where
       agree : CubeRule T a b c → EndsEmpty T (negative l ++ positive r)
       agree (both-undefined none-l none-r) = absurd (none-l l left)

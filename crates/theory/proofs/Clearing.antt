@@ -12,8 +12,8 @@ use Rattle.model.specs.Word.{Positive}
 use Rattle.model.specs.Presentation.{Presentation, Complement, undefined, complement, swapped, complete}
 use Rattle.model.specs.Outcome.{answered}
 use Rattle.model.specs.Checks.{balanced, Side, CubeRule, both-undefined, both-defined, cleared}
-use Rattle.theory.proofs.Complete.{Named, complete-same, complete-turn, complete-named}
-use Rattle.theory.proofs.Equiv.{Homogeneous, total-one}
+use Rattle.model.proofs.Complete.{Named, complete-same, complete-turn, complete-named}
+use Rattle.model.proofs.Equiv.{Homogeneous, total-one}
 use Rattle.theory.proofs.Grid.{derives-empty, recast}
 use Rattle.theory.proofs.Diagram.{draw}
 use Rattle.theory.proofs.Residuals.{side-grid, grid-side, same-side, rule-turned, open-rule}

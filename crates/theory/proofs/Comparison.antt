@@ -2,7 +2,7 @@
 -- and every other outcome is a stop (document 001, Prop. 4.4, and document 004, Prop. 6.1, for the tables that the two checks pass).
 use mathlib.Core.Path.{_≡_, refl, sym, ap, subst, _∙_}
 use mathlib.Core.Logic.{_≢_}
-use mathlib.Core.List.{List, [], _∷_, _++_}
+use mathlib.Core.List.{[], _∷_, _++_}
 use mathlib.Core.Bool.{not, cond}
 use Prim.Native.Nat.{ℕ}
 use native.Mathlib.Omega.{arith}
@@ -17,12 +17,12 @@ use Rattle.model.specs.Equivalence.{Joined}
 use Rattle.model.specs.Outcome.{Outcome, answered, refused, _>>=_, unless}
 use Rattle.model.specs.Checks.{stopNumber, cleared}
 use Rattle.model.specs.Services.{Verdict, same-after, different-after, judged, verdictOf, comparison}
-use Rattle.theory.proofs.Impossible.{impossible}
-use Rattle.theory.proofs.Complete.{complete-same, complete-turn}
-use Rattle.theory.proofs.Leftmost.{differing, open-unfinished}
-use Rattle.theory.proofs.Endings.{Ends, reversing-ends, ends-reversing}
-use Rattle.theory.proofs.Equiv.{weight-kept, total-one}
-use Rattle.theory.proofs.Joining.{equiv-joined, joined-equiv, joined-length}
+use Rattle.model.proofs.Impossible.{impossible}
+use Rattle.model.proofs.Complete.{complete-same, complete-turn}
+use Rattle.model.proofs.Leftmost.{differing, open-unfinished}
+use Rattle.model.proofs.Endings.{Ends, reversing-ends, ends-reversing}
+use Rattle.model.proofs.Equiv.{weight-kept, total-one}
+use Rattle.model.proofs.Joining.{equiv-joined, joined-equiv, joined-length}
 use Rattle.theory.proofs.Grid.{sound, derives-empty, same-grid}
 use Rattle.theory.proofs.Diagram.{finishes, draw}
 use Rattle.theory.proofs.Completeness.{complete-for}
@@ -144,17 +144,8 @@ module _ (T : Presentation) (u v : Positive) (steps width : ℕ) where
   means-apart k out-of-budget e i = impossible (cc)
   means-apart k out-of-room e i = impossible (cc)
 
-  means-even : {o : Outcome Verdict} (ps : List ℕ) → Meaning T u v o → o ≢ refused 14 ps
-  means-even ps (same k j) e = impossible (cc)
-  means-even ps (different k a) e = impossible (cc)
-  means-even ps out-of-budget e = let z : _≡_ {A = ℕ} 11 14 = cc in omega arith
-  means-even ps out-of-room e = let z : _≡_ {A = ℕ} 12 14 = cc in omega arith
-
   pub same-joined : (k : ℕ) → comparison T u v steps width ≡ answered (same-after k) → Joined T u v
   same-joined k e = means-joined k (comparison-means (answered-clear e)) e
 
   pub different-apart : (k : ℕ) → comparison T u v steps width ≡ answered (different-after k) → Joined T u v → ⊥
   different-apart k e = means-apart k (comparison-means (answered-clear e)) e
-
-  pub never-unequal : cleared T steps width ≡ answered tt → (ps : List ℕ) → comparison T u v steps width ≢ refused 14 ps
-  never-unequal clear ps = means-even ps (comparison-means clear)

@@ -9,11 +9,11 @@ use Rattle.model.specs.Word.{Positive, positive, negative}
 use Rattle.model.specs.Presentation.{Presentation}
 use Rattle.model.specs.Reversing.{finished, reversing}
 use Rattle.model.specs.Equivalence.{Entry, Leads}
-use Rattle.theory.proofs.Leftmost.{Counted, counted-within}
-use Rattle.theory.proofs.Endings.{reversing-finishes}
-use Rattle.theory.proofs.Entries.{entry-inside}
+use Rattle.model.proofs.Leftmost.{Counted, counted-within}
+use Rattle.model.proofs.Endings.{reversing-finishes}
+use Rattle.model.proofs.Entries.{entry-inside}
 use Rattle.theory.proofs.Grid.{derives-empty}
-use Rattle.theory.proofs.Joining.{equiv-chain}
+use Rattle.model.proofs.Joining.{equiv-chain}
 use Rattle.theory.proofs.Diagram.{run-diagram}
 
 -- each entry's offset is below the length of the word that it applies to

@@ -8,8 +8,8 @@ use native.Mathlib.Omega.{arith}
 use Rattle.model.specs.Word.{forward, back, Word, Positive, positive, negative}
 use Rattle.model.specs.Presentation.{Presentation, complete}
 use Rattle.model.specs.Reversing.{nowhere, at, site, replaced, Leftmost, Finishes}
-use Rattle.theory.proofs.Words.{negative-cons, positive-append, negative-append, fraction-injective, fraction-nowhere, fraction-at}
-use Rattle.theory.proofs.Leftmost.{Counted, counted, recast-run, step-then, then, first-step, different-sites, fraction-stuck, same-end}
+use Rattle.model.proofs.Words.{negative-cons, positive-append, negative-append, fraction-injective, fraction-nowhere, fraction-at}
+use Rattle.model.proofs.Leftmost.{Counted, counted, recast-run, step-then, then, first-step, different-sites, fraction-stuck, same-end}
 use Rattle.theory.proofs.Grid.{Grid, left-nil, right-nil, cell, recast, cells}
 
 -- THE WORD AROUND A DIAGRAM: before it a positive word, after it any word

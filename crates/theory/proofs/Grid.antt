@@ -7,8 +7,8 @@ use native.Mathlib.Omega.{arith}
 use Rattle.model.specs.Reversing.{count}
 use Rattle.model.specs.Word.{Positive}
 use Rattle.model.specs.Presentation.{Complement, complement, swapped}
-use Rattle.theory.proofs.Count.{count-between}
-use Rattle.theory.proofs.Equiv.{Equiv, Derives, derives-swap, derives-then, derives-prefix, derives-suffix, derives-same}
+use Rattle.model.proofs.Count.{count-between}
+use Rattle.model.proofs.Equiv.{Equiv, Derives, derives-swap, derives-then, derives-prefix, derives-suffix, derives-same}
 
 pub data Grid (f : ℕ → ℕ → Complement) : Positive → Positive → Positive → Positive → ℕ → Type 0 where
   left-nil : {v : Positive} → Grid f [] v v [] 0

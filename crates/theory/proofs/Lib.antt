@@ -1,14 +1,4 @@
-pub mod Impossible
-pub mod Complete
-pub mod Count
-pub mod Words
-pub mod Leftmost
-pub mod Reversal
-pub mod Endings
 pub mod Reduction
-pub mod Equiv
-pub mod Entries
-pub mod Joining
 pub mod Grid
 pub mod Diagram
 pub mod Completeness

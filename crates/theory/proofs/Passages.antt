@@ -16,10 +16,10 @@ use Rattle.model.specs.Equivalence.{Entry, equal, applied, Leads, Fits, LeadsWi
 use Rattle.model.specs.Outcome.{Outcome, answered, refused}
 use Rattle.model.specs.Services.{Passage, joins, ends-elsewhere, followedBy, followed, passage}
 use Rattle.theory.specs.Passages.{Passes, arrives, broken, elsewhere, starts-long, grows-long}
-use Rattle.theory.proofs.Impossible.{impossible}
-use Rattle.theory.proofs.Entries.{equal-same, equal-true}
-use Rattle.theory.proofs.Equiv.{Homogeneous}
-use Rattle.theory.proofs.Joining.{joined-length}
+use Rattle.model.proofs.Impossible.{impossible}
+use Rattle.model.proofs.Entries.{equal-same, equal-true}
+use Rattle.model.proofs.Equiv.{Homogeneous}
+use Rattle.model.proofs.Joining.{joined-length}
 
 -- WHERE THE ENTRIES LEAD
 

@@ -6,8 +6,8 @@ use Prim.Native.Nat.{ℕ}
 use Rattle.model.specs.Word.{Word, Positive, positive, negative}
 use Rattle.model.specs.Presentation.{Presentation}
 use Rattle.model.specs.Reversing.{finished, reversing, Leftmost, Reduces}
-use Rattle.theory.proofs.Words.{site-split}
-use Rattle.theory.proofs.Endings.{reversing-finishes}
+use Rattle.model.proofs.Words.{site-split}
+use Rattle.model.proofs.Endings.{reversing-finishes}
 
 pub reduces : {T : Presentation} {w w′ : Word} {k : ℕ} → Leftmost T w w′ k → Reduces T w w′ k
 reduces Leftmost.stay = Reduces.stay

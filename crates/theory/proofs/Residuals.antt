@@ -1,38 +1,16 @@
 -- Residuals u\v and the sides (a\b)\(a\c) of the cube rule: they are determined by their letters, and told by diagrams.
 -- A side is there exactly where both inner complements are and their diagram is (document 002, coherence; document 004, the cube property).
-use mathlib.Core.Path.{_≡_, refl, sym, ap, _∙_}
-use mathlib.Core.List.{[], _∷_, _++_, append-nil}
+use mathlib.Core.Path.{_≡_, refl, ap, _∙_}
+use mathlib.Core.List.{[]}
 use Prim.Native.Nat.{ℕ}
-use native.Mathlib.Omega.{arith}
 use Rattle.model.specs.Word.{Positive}
 use Rattle.model.specs.Presentation.{Presentation, undefined, complement, swapped, complete}
-use Rattle.model.specs.Reversing.{Residual}
 use Rattle.model.specs.Checks.{Side, CubeRule, both-undefined, both-defined}
-use Rattle.theory.proofs.Impossible.{impossible}
-use Rattle.theory.proofs.Complete.{complete-turn}
-use Rattle.theory.proofs.Grid.{Grid, left-nil, cell, any-bottom, top, bottom, recast, same-grid, turned}
+use Rattle.model.proofs.Impossible.{impossible}
+use Rattle.model.proofs.Complete.{complete-turn}
+use Rattle.model.proofs.Residues.{letters-residual, residual-letters}
+use Rattle.theory.proofs.Grid.{Grid, recast, same-grid, turned}
 use Rattle.theory.proofs.Diagram.{finishes, draw}
-
-module _ (T : Presentation) where
-  -- there is at most one
-  pub same-residual : (u v n d n′ d′ : Positive) → Residual T u v n d → Residual T u v n′ d′ → (n ≡ n′) × (d ≡ d′)
-  same-residual u v n d n′ d′ r s =
-      let same = same-grid (draw u v n d (r .1)) (draw u v n′ d′ (s .1)) in
-      (same .0, same .1)
-
-  -- the residual of letters is their complement
-  letters-residual : {a b : ℕ} {x y : Positive} → complete T a b ≡ complement x y → Residual T (a ∷ []) (b ∷ []) x y
-  letters-residual {x} {y} e =
-      (1, finishes (recast refl refl (append-nil x) (append-nil y) refl (cell {k = 1} e left-nil (any-bottom (y ++ [])) refl (omega arith))))
-
-  grid-letters : {a b : ℕ} {x y : Positive} {k : ℕ} → Grid (complete T) (a ∷ []) (b ∷ []) x y k → complete T a b ≡ complement x y
-  grid-letters (cell {x} {y} {n₁} {d₁} {n₂} {d} e g₁ g₂ p q) =
-      let x≡ : x ≡ n₁ ++ n₂ = sym (append-nil x) ∙ cc (top g₁ .0, bottom g₂ .0) in
-      let y≡ : y ≡ d = sym (append-nil y) ∙ (ap (λ l. y ++ l) (sym (top g₁ .1)) ∙ sym (bottom g₂ .1)) in
-      e ∙ cc
-
-  pub residual-letters : (a b : ℕ) {x y : Positive} → Residual T (a ∷ []) (b ∷ []) x y → complete T a b ≡ complement x y
-  residual-letters a b {x} {y} r = grid-letters (draw (a ∷ []) (b ∷ []) x y (r .1))
 
 -- a side by its diagram
 pub record SideGrid (T : Presentation) (a b c : ℕ) (l : Positive) : Type 0 where

@@ -1,2 +1,3 @@
 pub mod Cube
 pub mod Passages
+pub mod Verdicts

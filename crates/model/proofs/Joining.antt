@@ -9,12 +9,12 @@ use native.Mathlib.Decide.{ℕ-discrete}
 use lib.Dec.{eqb}
 use lib.ListN.{length}
 use borrow.Author.Tests.{eq-eqb, ne-eqb}
 use Rattle.model.specs.Word.{Positive}
 use Rattle.model.specs.Presentation.{Presentation, complement, complete}
 use Rattle.model.specs.Equivalence.{Entry, Leads, Joined}
-use Rattle.theory.proofs.Complete.{complete-same, complete-turn}
-use Rattle.theory.proofs.Equiv.{Equiv, Swap, done, step, trans, prefix, suffix, symm, swaps, total, total-one, Homogeneous, weight-kept}
-use Rattle.theory.proofs.Entries.{entry, swap-applied, applied-applies}
+use Rattle.model.proofs.Complete.{complete-same, complete-turn}
+use Rattle.model.proofs.Equiv.{Equiv, Swap, done, step, trans, prefix, suffix, symm, swaps, total, total-one, Homogeneous, weight-kept}
+use Rattle.model.proofs.Entries.{entry, swap-applied, applied-applies}
 
 -- as many entries as said lead from u to v
 pub record Chain (T : Presentation) (u v : Positive) (r : ℕ) : Type 0 where

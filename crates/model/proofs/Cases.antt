@@ -15,8 +15,8 @@ use Rattle.model.specs.Images.{readTable, readProgram, readChain, tableI
 use Rattle.model.specs.Plain.{plainTable, readPlainTable, readPlainProgram}
 use Rattle.model.specs.Services.{Fraction, reverse, clear, readForward, compare, comparison, chain, check, followed, packTable, unpackTable, packProgram, unpackProgram, same-after, different-after, joins, breaks, ends-elsewhere}
 use Rattle.model.specs.Areas.{fractionBytes, outputAfter, workspaceAfter}
-use Rattle.model.specs.Case.{Case, _gives_, All}
-use Rattle.model.specs.Samples.{braid1, open2, three, broken3, unequal2, endless3, image, log, pattern, braidBytes, firstBytes}
+use Rattle.model.proofs.Case.{Case, _gives_, All}
+use Rattle.model.proofs.Samples.{braid1, open2, three, broken3, unequal2, endless3, image, log, pattern, braidBytes, firstBytes}
 
 -- the first program's answer
 abbrev firstAnswer : Fraction

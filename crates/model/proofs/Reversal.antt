@@ -6,10 +6,10 @@ use Prim.Native.Nat.{ℕ, zero, suc, _≤_, _<_}
 use lib.Dec.{ltb}
 use lib.ListN.{length}
 use borrow.Author.Tests.{lt-ltb, le-ltb}
 use Rattle.model.specs.Word.{Word, Positive}
 use Rattle.model.specs.Presentation.{Presentation, undefined, complement, complete}
 use Rattle.model.specs.Reversing.{nowhere, at, site, replaced, Next, no-site, blocked, step, byComplement, bySite, next, budget, room, Ending, finished, open-pair, stopped, ended, count, spent, onward, run, reversing}
-use Rattle.theory.proofs.Count.{count-past}
+use Rattle.model.proofs.Count.{count-past}
 
 -- the ending with one more step, on a and b, in front
 abbrev pub prepended : ℕ → ℕ → Ending → Ending

@@ -10,8 +10,8 @@ use Rattle.model.specs.Outcome.{answered, refused}
 use Rattle.model.specs.Bits.{field, finish}
 use Rattle.model.specs.Images.{readTable, readProgram, readChain, tableImage, programImage, chainImage}
 use Rattle.model.specs.Services.{reverse, clear, readForward, compare, comparison, check, followed, same-after, different-after, joins}
-use Rattle.model.specs.Case.{Case, _gives_, All}
-use Rattle.model.specs.Samples.{braid3, braid1, open2, broken3, unequal2, image, log, pattern, braidBytes, first, firstBytes, second}
+use Rattle.model.proofs.Case.{Case, _gives_, All}
+use Rattle.model.proofs.Samples.{braid3, braid1, open2, broken3, unequal2, image, log, pattern, braidBytes, first, firstBytes, second}
 
 abbrev pub sheet : List {1} Case
 sheet =

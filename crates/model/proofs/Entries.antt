@@ -11,11 +11,11 @@ use lib.Dec.{eqb}
 use lib.ListN.{length, take, drop, take-append-drop, length-take, length-drop, length-append}
 use lib.Seq.{take-append-seam, drop-append-seam, drop-append-add, drop-drop}
 use borrow.Author.Tests.{eqb-true, eqb-false, eq-eqb, ne-eqb}
 use Rattle.model.specs.Word.{Positive}
 use Rattle.model.specs.Presentation.{Presentation, Complement, undefined, complement, complete}
 use Rattle.model.specs.Equivalence.{Entry, equal, rewritten, related, applied}
-use Rattle.theory.proofs.Impossible.{impossible}
-use Rattle.theory.proofs.Equiv.{Swap}
+use Rattle.model.proofs.Impossible.{impossible}
+use Rattle.model.proofs.Equiv.{Swap}
 
 -- EQUAL WORDS
 

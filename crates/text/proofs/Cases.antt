@@ -7,8 +7,8 @@ use Rattle.model.specs.Reversing.{next, run, reversing}
 use Rattle.model.specs.Bits.{field, finish}
 use Rattle.model.specs.Images.{readTable, readProgram, tableImage, programImage}
 use Rattle.model.specs.Services.{reverse}
-use Rattle.model.specs.Case.{Case, _gives_, All}
-use Rattle.model.specs.Samples.{open2, image, log, braidBytes, firstBytes}
+use Rattle.model.proofs.Case.{Case, _gives_, All}
+use Rattle.model.proofs.Samples.{open2, image, log, braidBytes, firstBytes}
 use Rattle.text.specs.Text.{number, numbersText, wordText, answerText, report}
 
 abbrev pub numbers : List {1} Case

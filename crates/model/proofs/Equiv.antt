@@ -5,10 +5,10 @@ use mathlib.Core.List.{[], _∷_, _++_, append-assoc}
 use Prim.Native.Nat.{ℕ, _+_}
 use native.Mathlib.Omega.{arith}
 use lib.ListN.{length}
 use Rattle.model.specs.Word.{Positive}
 use Rattle.model.specs.Presentation.{Complement, complement, swapped}
 use Rattle.model.specs.Reversing.{count}
-use Rattle.theory.proofs.Count.{count-add}
+use Rattle.model.proofs.Count.{count-add}
 
 -- one relation step, anywhere in a word
 pub record Swap (f : ℕ → ℕ → Complement) (u v : Positive) : Type 0 where

@@ -3,9 +3,9 @@
 use mathlib.Core.Path.{_≡_, refl, sym, ap, _∙_}
 use mathlib.Core.List.{[], _∷_, _++_, map, reverse, append-nil, reverse-cons, reverse-append, reverse-reverse, map-append}
 use Prim.Native.Nat.{ℕ}
 use Rattle.model.specs.Word.{Letter, forward, back, Word, Positive, flip, positive, negative, forwards, backs}
 use Rattle.model.specs.Reversing.{Site, nowhere, at, beyond, siteAfter, site}
-use Rattle.theory.proofs.Impossible.{impossible}
+use Rattle.model.proofs.Impossible.{impossible}
 
 -- INVERSES
 

@@ -5,12 +5,12 @@ use mathlib.Core.Logic.{_≢_}
 use mathlib.Core.List.{_++_}
 use Prim.Native.Nat.{ℕ, suc, _+_, _≤_}
 use native.Mathlib.Omega.{arith}
 use Rattle.model.specs.Word.{Word, Positive, positive, negative}
 use Rattle.model.specs.Presentation.{Presentation, undefined, complement, complete}
 use Rattle.model.specs.Reversing.{nowhere, at, site, replaced, count, Leftmost}
-use Rattle.theory.proofs.Count.{count-add, count-within}
-use Rattle.theory.proofs.Impossible.{impossible}
-use Rattle.theory.proofs.Words.{fraction-nowhere}
+use Rattle.model.proofs.Count.{count-add, count-within}
+use Rattle.model.proofs.Impossible.{impossible}
+use Rattle.model.proofs.Words.{fraction-nowhere}
 
 -- the steps of a run that are on two different letters
 abbrev pub differing : {T : Presentation} {w w′ : Word} {k : ℕ} → Leftmost T w w′ k → ℕ

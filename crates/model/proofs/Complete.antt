@@ -10,9 +10,9 @@ use native.Mathlib.Decide.{ℕ-discrete, decLt}
 use lib.Dec.{leb, ltb}
 use lib.ListN.{getD}
 use borrow.Author.Tests.{eq-eqb, ne-eqb, lt-ltb, le-ltb, leb-true}
 use Rattle.model.specs.Word.{Positive}
 use Rattle.model.specs.Presentation.{Presentation, Complement, undefined, complement, swapped, listed, complete}
-use Rattle.theory.proofs.Impossible.{impossible}
+use Rattle.model.proofs.Impossible.{impossible}
 
 module _ (T : Presentation) where
   pub complete-same : (a : ℕ) → complete T a a ≡ complement [] []

@@ -1,0 +1,15 @@
+pub mod Impossible
+pub mod Complete
+pub mod Count
+pub mod Words
+pub mod Leftmost
+pub mod Reversal
+pub mod Endings
+pub mod Equiv
+pub mod Entries
+pub mod Joining
+pub mod Residues
+pub mod Case
+pub mod Samples
+pub mod Sheet
+pub mod Cases
