@@ -8,19 +8,25 @@ trap 'rm -rf "$work"' EXIT
 passed=0
 failed=0
 
-# expect LABEL TEXT ARGUMENT..: the reader on these arguments writes exactly TEXT, a printf format
-expect() {
-    label=$1
-    printf "$2" > "$work/expected"
-    shift 2
-    "$reader" "$@" > "$work/written"
-    if cmp -s "$work/expected" "$work/written"; then
+# hold LABEL: what the reader wrote, and what it wrote to standard error, are as expected
+hold() {
+    if cmp -s "$work/expected" "$work/written" && cmp -s "$work/expected_errors" "$work/errors"; then
         passed=$((passed + 1))
     else
         failed=$((failed + 1))
-        echo "failed: $label; it wrote:"
-        cat "$work/written"
+        echo "failed: $1; it wrote, and then to standard error:"
+        cat "$work/written" "$work/errors"
     fi
+}
+
+# expect LABEL TEXT ARGUMENT..: the reader on these arguments writes exactly TEXT, a printf format, and nothing to standard error
+expect() {
+    label=$1
+    printf "$2" > "$work/expected"
+    : > "$work/expected_errors"
+    shift 2
+    "$reader" "$@" > "$work/written" 2> "$work/errors"
+    hold "$label"
 }
 
 # files longer than any image: an image, then bytes up to past what the reader reads
@@ -52,6 +58,16 @@ expect "refusal 6: a program file of 4,096 bytes" 'refused 6\n' $samples/braid3.
 expect "refusal 6: a program file longer than 4,096 bytes" 'refused 6\n' $samples/braid3.table "$work/long.program"
 expect "refusal 10 with its pair" 'refused 10 1 2\n' $samples/open2.table $samples/open2.program
 expect "refusal 12: a program that never ends" 'refused 12\n' $samples/endless3.table $samples/endless.program
+
+# a report that cannot be written: one line on standard error, with the reason
+: > "$work/expected"
+: > "$work/written"
+echo 'the report was not written whole: No space left on device' > "$work/expected_errors"
+"$reader" $samples/braid3.table $samples/first.program > /dev/full 2> "$work/errors"
+hold "a full device"
+echo 'the report was not written whole: Bad file descriptor' > "$work/expected_errors"
+"$reader" $samples/braid3.table $samples/first.program >&- 2> "$work/errors"
+hold "a closed standard output"
 
 echo "$passed passed, $failed failed"
 [ "$failed" -eq 0 ]

@@ -1,10 +1,17 @@
-/* The bench sheet through the C interface. The last line is 'N passed, M failed'. */
+/*
+ * The bench sheet of document 01 through the C interface, in code that is both C and C++. The last line is 'N passed, M failed'.
+ */
 #include "braid.h"
 
+#include <inttypes.h>
 #include <stdio.h>
 #include <string.h>
 
-enum { AREA = 32768 };
+/* An array as a call takes it: where it is, and its number of bytes. */
+#define ALL_OF(array) (array), sizeof(array)
+
+/* FOUND is what every byte of both areas and of the values holds before a call. */
+enum { AREA = 32768, MOST_STEPS = 65535, FOUND = 77 };
 
 static uint8_t workspace[AREA];
 static uint8_t answer[AREA];
@@ -12,129 +19,243 @@ static uint64_t values[4];
 static int passed;
 static int failed;
 
+/* Tables by their images. */
 static const uint8_t braid3[] = {0x29, 0x21, 0x0C, 0x61, 0x25, 0x24, 0xC0};
-static const uint8_t one[] = {0x00};
-static const uint8_t open2[] = {0x10};
-static const uint8_t plain3[] = {3, 2, 2, 1, 2, 1, 2, 1, 3, 1, 1, 2, 3, 2, 2, 2, 3};
+static const uint8_t one_move[] = {0x00};
+static const uint8_t open_pair[] = {0x10};
+static const uint8_t broken_cube[] = {0x28, 0xA2, 0x46, 0x12, 0x20, 0x80};
+static const uint8_t unequal[] = {0x19, 0x43};
+static const uint8_t endless[] = {0x29, 0x21, 0x0C, 0xA0, 0x8A, 0x52, 0x4C};
+
+/* Programs under n = 3, plain and by their images. */
 static const uint8_t first_plain[] = {131, 1, 130, 1, 2};
 static const uint8_t first_image[] = {0x00, 0x5C, 0x28, 0x20};
+static const uint8_t second_plain[] = {130, 131, 129, 1, 1, 2, 3};
+static const uint8_t second_image[] = {0x00, 0x7B, 0xA0, 0x05, 0x00};
+static const uint8_t plain_121[] = {1, 2, 1};
+static const uint8_t image_121[] = {0x00, 0x30, 0x40};
+static const uint8_t plain_212[] = {2, 1, 2};
+static const uint8_t image_212[] = {0x00, 0x32, 0x08};
 
-static void hold(const char *name, int holds)
-{
-    if (holds) {
-        passed++;
-    } else {
-        failed++;
-        printf("failed: %s; values %llu %llu %llu %llu\n", name, (unsigned long long)values[0], (unsigned long long)values[1],
-               (unsigned long long)values[2], (unsigned long long)values[3]);
-    }
-}
+static const uint8_t nothing[] = {0};
 
-static int told(uint64_t a, uint64_t b, uint64_t c, uint64_t d)
-{
-    return values[0] == a && values[1] == b && values[2] == c && values[3] == d;
-}
-
-/* Packs a plain program under a table; its length. */
-static size_t image(const uint8_t *table, size_t table_length, const char *plain, uint8_t *out, size_t room)
-{
-    uint64_t written[4];
-    uint8_t result = braid_pack_program(table, table_length, (const uint8_t *)plain, strlen(plain), out, room, written);
-    return result == BRAID_ANSWER ? (size_t)written[0] : 0;
-}
-
-static int all_zero(const uint8_t *bytes, size_t length)
+static int all_are(uint8_t byte, const uint8_t *bytes, size_t from, size_t to)
 {
     size_t i;
-    for (i = 0; i < length; i++) {
-        if (bytes[i] != 0) {
+    for (i = from; i < to; i++) {
+        if (bytes[i] != byte) {
             return 0;
         }
     }
     return 1;
 }
 
-static void pack(void)
+static void as_found(void)
 {
-    uint8_t result = braid_pack_table(plain3, sizeof plain3, answer, AREA, values);
-    hold("the braid table's image", result == 0 && told(sizeof braid3, 0, 0, 0) && memcmp(answer, braid3, sizeof braid3) == 0);
-    result = braid_unpack_table(braid3, sizeof braid3, answer, AREA, values);
-    hold("the braid table, plain", result == 0 && told(sizeof plain3, 0, 0, 0) && memcmp(answer, plain3, sizeof plain3) == 0);
-    result = braid_pack_program(braid3, sizeof braid3, first_plain, sizeof first_plain, answer, AREA, values);
-    hold("the first program's image", result == 0 && told(4, 0, 0, 0) && memcmp(answer, first_image, 4) == 0);
-    result = braid_unpack_program(braid3, sizeof braid3, first_image, sizeof first_image, answer, AREA, values);
-    hold("the first program, plain", result == 0 && told(5, 0, 0, 0) && memcmp(answer, first_plain, 5) == 0);
-    answer[0] = 77;
-    result = braid_pack_program(braid3, sizeof braid3, first_plain, sizeof first_plain, answer, 3, values);
-    hold("13 leaves the answer area", result == BRAID_ANSWER_SHORT && told(0, 0, 0, 0) && answer[0] == 77);
+    memset(workspace, FOUND, sizeof workspace);
+    memset(answer, FOUND, sizeof answer);
+    memset(values, FOUND, sizeof values);
 }
 
-static void reverse(void)
+static void tally(const char *name, int holds)
 {
-    static const uint8_t fraction[] = {1, 1, 2, 3, 1, 3, 2};
-    uint8_t result = braid_reverse(braid3, sizeof braid3, first_image, sizeof first_image, 5, workspace, AREA, answer, AREA, values);
-    hold("the first program, allowance 5", result == 0 && told(4, 3, 5, 0) && memcmp(answer, fraction, sizeof fraction) == 0);
-    result = braid_reverse(braid3, sizeof braid3, first_image, sizeof first_image, 4, workspace, AREA, answer, AREA, values);
-    hold("allowance 4 gives 11", result == BRAID_ALLOWANCE_USED && told(0, 0, 0, 0) && all_zero(workspace, AREA));
-    {
-        uint8_t pair[8];
-        size_t length = image(open2, sizeof open2, "\x81\x02", pair, sizeof pair);
-        result = braid_reverse(open2, sizeof open2, pair, length, 65535, workspace, AREA, answer, AREA, values);
-        hold("an open pair gives 10 with 1, 2", result == BRAID_OPEN_PAIR && told(1, 1, 2, 0));
+    if (holds) {
+        passed++;
+    } else {
+        failed++;
+        printf("failed: %s\n", name);
     }
-    workspace[0] = 77;
-    result = braid_reverse(braid3, 6, first_image, sizeof first_image, 5, workspace, AREA, answer, AREA, values);
-    hold("a cut table gives 1 and leaves the workspace", result == BRAID_TABLE_ENDS && workspace[0] == 77);
-    workspace[0] = 0;
 }
 
-static void compare(void)
+/*
+ * Looks at all that a call left, and gets the areas ready for the next call. The first `wiped` bytes of the workspace must be zero and the
+ * others as found; the answer area must begin with `written` and be as found after it.
+ */
+static void hold(const char *name, uint8_t result, enum braid_result expected_result, const char *expected_values, size_t wiped,
+                 const uint8_t *written, size_t length)
 {
-    uint8_t u[8], v[8], chain[64];
-    size_t m = image(braid3, sizeof braid3, "\x01\x02\x01", u, sizeof u);
-    size_t n = image(braid3, sizeof braid3, "\x02\x01\x02", v, sizeof v);
-    uint8_t result = braid_compare(braid3, sizeof braid3, u, m, v, n, 65535, workspace, AREA, values);
-    hold("1 2 1 is 2 1 2 in 5 steps", result == 0 && told(0, 5, 0, 0));
-    result = braid_chain(braid3, sizeof braid3, u, m, v, n, 65535, workspace, AREA, chain, sizeof chain, values);
-    hold("with a chain", result == 0 && told(0, 5, 0, 0));
-    result = braid_check(braid3, sizeof braid3, u, m, v, n, chain, 4, workspace, AREA, values);
-    hold("that joins", result == 0 && told(0, 0, 0, 0));
-    result = braid_check(braid3, sizeof braid3, v, n, u, m, chain, 4, workspace, AREA, values);
-    hold("and breaks at entry 0 from the other side", result == 0 && told(1, 0, 0, 0));
-    m = image(braid3, sizeof braid3, "\x01", u, sizeof u);
-    n = image(braid3, sizeof braid3, "\x02", v, sizeof v);
-    result = braid_compare(braid3, sizeof braid3, u, m, v, n, 65535, workspace, AREA, values);
-    hold("1 is not 2, in 1 step", result == 0 && told(1, 1, 0, 0));
-    m = image(one, sizeof one, "", u, sizeof u);
-    result = braid_compare(one, sizeof one, u, m, u, m, 65535, workspace, 0, values);
-    hold("two empty programs are the same with an empty workspace", result == 0 && told(0, 0, 0, 0));
-    m = image(open2, sizeof open2, "\x01", u, sizeof u);
-    n = image(open2, sizeof open2, "\x02", v, sizeof v);
-    result = braid_compare(open2, sizeof open2, u, m, v, n, 65535, workspace, AREA, values);
-    hold("an open pair is different", result == 0 && values[0] == 1);
+    char given[128];
+    int workspace_holds = all_are(0, workspace, 0, wiped) && all_are(FOUND, workspace, wiped, AREA);
+    int answer_holds = memcmp(answer, written, length) == 0 && all_are(FOUND, answer, length, AREA);
+    int holds;
+    snprintf(given, sizeof given, "%" PRIu64 " %" PRIu64 " %" PRIu64 " %" PRIu64, values[0], values[1], values[2], values[3]);
+    holds = result == expected_result && strcmp(given, expected_values) == 0 && workspace_holds && answer_holds;
+    tally(name, holds);
+    if (!holds) {
+        printf("  result %d, values %s; expected %d, values %s; workspace %s, answer area %s\n", result, given, expected_result,
+               expected_values, workspace_holds ? "right" : "wrong", answer_holds ? "right" : "wrong");
+    }
+    as_found();
 }
 
-static void clear(void)
+/* Looks at what a packing service left, which must have written these bytes. */
+static void hold_form(const char *name, const char *form, uint8_t result, const uint8_t *written, size_t length)
 {
-    static const uint8_t broken[] = {3, 1, 2, 1, 1, 1, 3, 1, 1, 1, 1, 1, 1};
-    static const uint8_t uneven[] = {2, 2, 2, 1, 1, 2};
-    uint8_t table[16], result;
-    result = braid_clear(braid3, sizeof braid3, 65535, workspace, AREA, values);
-    hold("the braid table clears", result == 0 && told(0, 0, 0, 0));
-    braid_pack_table(broken, sizeof broken, table, sizeof table, values);
-    result = braid_clear(table, (size_t)values[0], 65535, workspace, AREA, values);
-    hold("a table that breaks the cube rule gives 9 with 1, 2, 3", result == BRAID_CUBE_FAILS && told(2, 1, 2, 3));
-    braid_pack_table(uneven, sizeof uneven, table, sizeof table, values);
-    result = braid_clear(table, (size_t)values[0], 65535, workspace, AREA, values);
-    hold("unequal lengths give 8 with 1, 2", result == BRAID_UNEQUAL_LENGTHS && told(1, 1, 2, 0));
+    char label[80], bytes_written[40];
+    snprintf(label, sizeof label, "%s, %s", name, form);
+    snprintf(bytes_written, sizeof bytes_written, "%d 0 0 0", (int)length);
+    hold(label, result, BRAID_ANSWER, bytes_written, 0, written, length);
+}
+
+static void table_forms(const char *name, const uint8_t *plain, size_t plain_length, const uint8_t *image, size_t image_length)
+{
+    hold_form(name, "packed", braid_pack_table(plain, plain_length, ALL_OF(answer), values), image, image_length);
+    hold_form(name, "unpacked", braid_unpack_table(image, image_length, ALL_OF(answer), values), plain, plain_length);
+}
+
+/* Of a program under n = 3. */
+static void program_forms(const char *name, const uint8_t *plain, size_t plain_length, const uint8_t *image, size_t image_length)
+{
+    hold_form(name, "packed", braid_pack_program(ALL_OF(braid3), plain, plain_length, ALL_OF(answer), values), image, image_length);
+    hold_form(name, "unpacked", braid_unpack_program(ALL_OF(braid3), image, image_length, ALL_OF(answer), values), plain, plain_length);
+}
+
+static void packing(void)
+{
+    static const uint8_t braid3_plain[] = {3, 2, 2, 1, 2, 1, 2, 1, 3, 1, 1, 2, 3, 2, 2, 2, 3};
+    static const uint8_t one_move_plain[] = {1};
+    static const uint8_t open_pair_plain[] = {2, 255};
+    static const uint8_t broken_cube_plain[] = {3, 1, 2, 1, 1, 1, 3, 1, 1, 1, 1, 1, 1};
+    static const uint8_t unequal_plain[] = {2, 2, 2, 1, 1, 2};
+    static const uint8_t endless_plain[] = {3, 2, 2, 1, 2, 1, 2, 2, 3, 1, 2, 1, 3, 2, 3, 2, 2, 2, 3};
+    table_forms("the braid table", ALL_OF(braid3_plain), ALL_OF(braid3));
+    table_forms("the table of one move", ALL_OF(one_move_plain), ALL_OF(one_move));
+    table_forms("the table with an open pair", ALL_OF(open_pair_plain), ALL_OF(open_pair));
+    table_forms("the table that breaks the cube rule", ALL_OF(broken_cube_plain), ALL_OF(broken_cube));
+    table_forms("the table of unequal lengths", ALL_OF(unequal_plain), ALL_OF(unequal));
+    table_forms("the endless table", ALL_OF(endless_plain), ALL_OF(endless));
+    program_forms("-3 1 -2 1 2", ALL_OF(first_plain), ALL_OF(first_image));
+    program_forms("-2 -3 -1 1 1 2 3", ALL_OF(second_plain), ALL_OF(second_image));
+    program_forms("1 2 1", ALL_OF(plain_121), ALL_OF(image_121));
+    program_forms("2 1 2", ALL_OF(plain_212), ALL_OF(image_212));
+    hold("packing into 3 bytes gives 13", braid_pack_program(ALL_OF(braid3), ALL_OF(first_plain), answer, 3, values), BRAID_ANSWER_SHORT,
+         "0 0 0 0", 0, nothing, 0);
+}
+
+/* Reverses a program with the sheet's areas. */
+static uint8_t reversed(const uint8_t *table, size_t table_length, const uint8_t *program, size_t program_length, uint16_t allowance)
+{
+    return braid_reverse(table, table_length, program, program_length, allowance, ALL_OF(workspace), ALL_OF(answer), values);
+}
+
+static void reversing(void)
+{
+    static const uint8_t first_fraction[] = {1, 1, 2, 3, 1, 3, 2};
+    static const uint8_t second_fraction[] = {1, 2, 3, 2, 1};
+    static const uint8_t pair_12[] = {0x00, 0x29};
+    hold("-3 1 -2 1 2", reversed(ALL_OF(braid3), ALL_OF(first_image), MOST_STEPS), BRAID_ANSWER, "4 3 5 0", AREA, ALL_OF(first_fraction));
+    hold("allowance 5 finishes", reversed(ALL_OF(braid3), ALL_OF(first_image), 5), BRAID_ANSWER, "4 3 5 0", AREA, ALL_OF(first_fraction));
+    hold("4 gives 11", reversed(ALL_OF(braid3), ALL_OF(first_image), 4), BRAID_ALLOWANCE_USED, "0 0 0 0", AREA, nothing, 0);
+    hold("-2 -3 -1 1 1 2 3", reversed(ALL_OF(braid3), ALL_OF(second_image), MOST_STEPS), BRAID_ANSWER, "3 2 7 0", AREA,
+         ALL_OF(second_fraction));
+    hold("-1 2 with an open pair gives 10 with 1, 2", reversed(ALL_OF(open_pair), ALL_OF(pair_12), MOST_STEPS), BRAID_OPEN_PAIR, "1 1 2 0",
+         AREA, nothing, 0);
+    hold("a cut table gives 1", reversed(braid3, sizeof braid3 - 1, ALL_OF(first_image), MOST_STEPS), BRAID_TABLE_ENDS, "0 0 0 0", 0,
+         nothing, 0);
+}
+
+/* Compares two programs with the sheet's allowance and workspace. */
+static uint8_t compared(const uint8_t *table, size_t table_length, const uint8_t *first, size_t first_length, const uint8_t *second,
+                        size_t second_length)
+{
+    return braid_compare(table, table_length, first, first_length, second, second_length, MOST_STEPS, ALL_OF(workspace), values);
+}
+
+static void comparing(void)
+{
+    static const uint8_t one_of_3[] = {0x00, 0x10}, two_of_3[] = {0x00, 0x12};
+    static const uint8_t one_of_2[] = {0x00, 0x10}, two_of_2[] = {0x00, 0x14};
+    static const uint8_t empty_first[] = {0x00, 0x00}, empty_second[] = {0x00, 0x00};
+    hold("1 2 1 is the same as 2 1 2, 5 steps", compared(ALL_OF(braid3), ALL_OF(image_121), ALL_OF(image_212)), BRAID_ANSWER, "0 5 0 0",
+         AREA, nothing, 0);
+    hold("1 is different from 2, 1 step", compared(ALL_OF(braid3), ALL_OF(one_of_3), ALL_OF(two_of_3)), BRAID_ANSWER, "1 1 0 0", AREA,
+         nothing, 0);
+    hold("two empty programs are the same with empty workspace",
+         braid_compare(ALL_OF(one_move), ALL_OF(empty_first), ALL_OF(empty_second), MOST_STEPS, workspace, 0, values), BRAID_ANSWER,
+         "0 0 0 0", 0, nothing, 0);
+    hold("1 is different from 2 with an open pair", compared(ALL_OF(open_pair), ALL_OF(one_of_2), ALL_OF(two_of_2)), BRAID_ANSWER,
+         "1 0 0 0", AREA, nothing, 0);
+    hold("unequal lengths give 8 with 1, 2", compared(ALL_OF(unequal), ALL_OF(one_of_2), ALL_OF(two_of_2)), BRAID_UNEQUAL_LENGTHS,
+         "1 1 2 0", 0, nothing, 0);
+}
+
+/* Checks a chain under the braid table. */
+static uint8_t checked(const uint8_t *first, size_t first_length, const uint8_t *second, size_t second_length, const uint8_t *chain,
+                       size_t chain_length)
+{
+    return braid_check(ALL_OF(braid3), first, first_length, second, second_length, chain, chain_length, ALL_OF(workspace), values);
+}
+
+static void chaining(void)
+{
+    /* The count in 16 bits; the offset in 12, then 1 and 2, less 1, in 2 bits each. */
+    static const uint8_t single[] = {0x00, 0x01, 0x00, 0x01};
+    enum { STEPS = 5 };
+    uint8_t listed[2 + 2 * STEPS];
+    uint8_t result =
+        braid_chain(ALL_OF(braid3), ALL_OF(image_121), ALL_OF(image_212), MOST_STEPS, ALL_OF(workspace), ALL_OF(answer), values);
+    size_t entries = (size_t)answer[0] * 256 + answer[1];
+    size_t length = entries <= STEPS ? 2 + 2 * entries : 0;
+    memcpy(listed, answer, sizeof listed);
+    tally("a listed chain has at most as many entries as steps", entries <= STEPS);
+    hold("a chain from 1 2 1 to 2 1 2", result, BRAID_ANSWER, "0 5 0 0", AREA, listed, length);
+    hold("the listed chain joins", checked(ALL_OF(image_121), ALL_OF(image_212), listed, length), BRAID_ANSWER, "0 0 0 0", AREA,
+         nothing, 0);
+    hold("the entry 0, 1, 2 joins", checked(ALL_OF(image_121), ALL_OF(image_212), ALL_OF(single)), BRAID_ANSWER, "0 0 0 0", AREA,
+         nothing, 0);
+    hold("it breaks at entry 0 from 2 1 2", checked(ALL_OF(image_212), ALL_OF(image_121), ALL_OF(single)), BRAID_ANSWER, "1 0 0 0", AREA,
+         nothing, 0);
+}
+
+static uint8_t cleared(const uint8_t *table, size_t table_length, uint16_t allowance)
+{
+    return braid_clear(table, table_length, allowance, ALL_OF(workspace), values);
+}
+
+static void clearing(void)
+{
+    static const uint8_t left_side[] = {0x00, 0x2A, 0x80}, left_fraction[] = {1, 1};
+    static const uint8_t right_side[] = {0x00, 0x28, 0x00};
+    hold("the braid table clears", cleared(ALL_OF(braid3), MOST_STEPS), BRAID_ANSWER, "0 0 0 0", AREA, nothing, 0);
+    hold("a broken cube gives 9 with 1, 2, 3", cleared(ALL_OF(broken_cube), MOST_STEPS), BRAID_CUBE_FAILS, "2 1 2 3", AREA, nothing, 0);
+    /* There 1\2 is 2, 1\3 is 3, and 2\1 and 2\3 are both 1. */
+    hold("L, from -2 3, is 1", reversed(ALL_OF(broken_cube), ALL_OF(left_side), MOST_STEPS), BRAID_ANSWER, "1 1 1 0", AREA,
+         ALL_OF(left_fraction));
+    hold("R, from -1 1, is empty", reversed(ALL_OF(broken_cube), ALL_OF(right_side), MOST_STEPS), BRAID_ANSWER, "0 0 1 0", AREA,
+         nothing, 0);
+}
+
+/*
+ * With C(a,b) = b a, two steps turn -x -a b into b x -b -x a -b -a. If x, a, b are different, so are b, x, a, and the next pair is that of
+ * -b -x a: no pair ever vanishes, and each step adds two moves. L of the triple 1, 2, 3 reverses -1 -2 3 1, so after k steps its word has
+ * 4 + 2 k moves. The workspace holds the word of 16,382 steps, where the allowance is tested before the workspace. An allowance of 0 stops
+ * 1\2 already.
+ */
+static void stopping(void)
+{
+    static const uint16_t used[] = {0, 1, 2, 100, 4095, 16382};
+    static const uint16_t longer[] = {16383, 40000, 65535};
+    char label[80];
+    size_t i;
+    for (i = 0; i < sizeof used / sizeof used[0]; i++) {
+        snprintf(label, sizeof label, "the endless table gives 11 at allowance %d", used[i]);
+        hold(label, cleared(ALL_OF(endless), used[i]), BRAID_ALLOWANCE_USED, "2 1 2 3", AREA, nothing, 0);
+    }
+    for (i = 0; i < sizeof longer / sizeof longer[0]; i++) {
+        snprintf(label, sizeof label, "the endless table gives 12 at allowance %d", longer[i]);
+        hold(label, cleared(ALL_OF(endless), longer[i]), BRAID_WORKSPACE_SHORT, "2 1 2 3", AREA, nothing, 0);
+    }
 }
 
 int main(void)
 {
-    pack();
-    reverse();
-    compare();
-    clear();
+    as_found();
+    packing();
+    reversing();
+    comparing();
+    chaining();
+    clearing();
+    stopping();
     printf("%d passed, %d failed\n", passed, failed);
     return failed != 0;
 }

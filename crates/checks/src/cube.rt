@@ -77,7 +77,7 @@ pub fn agree(cells: &[u8], bytes: &mut [u8], left: usize, right: usize, budget: 
     verdict_of(ending)
 }
 
-// (b\a)\(b\c), worked out after the first `kept` bytes of the workspace, which stay.
+// (a\b)\(a\c), worked out after the first `kept` bytes of the workspace, which stay. For R the caller exchanges a and b.
 pub fn right_side(
     cells: &[u8],
     bytes: &mut [u8],

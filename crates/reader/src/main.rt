@@ -33,5 +33,8 @@ fn main() {
         &mut answer,
         &mut out,
     );
-    io::write_all(STDOUT_FILENO, &out[..written]);
+    // The language has no exit status, so a report that was not written whole shows on standard error.
+    if !io::write_all(STDOUT_FILENO, &out[..written]) {
+        os::fail(b"the report was not written whole");
+    }
 }
