@@ -13,11 +13,12 @@ use Rattle.model.proofs.Complete.{complete-same, complete-turn, complete-named}
 use Rattle.model.proofs.Equiv.{Swap, Homogeneous, total-one}
 use Rattle.model.proofs.Entries.{swap-applied, applied-applies, entry-inside}
 use Rattle.model.proofs.Joining.{joined-length}
-use Rattle.engine.specs.Cells.{InRange, Lettered, Word-at, Cell, cellAt}
+use Rattle.model.specs.Range.{InRange, Lettered, All, EntryInRange}
+use Rattle.cells.proofs.Rules.{cell-word, WordAt}
+use Rattle.cells.specs.Layout.{cellAt}
 use Rattle.engine.proofs.Lettering.{lettered-append}
 use Rattle.engine.proofs.Progress.{count-equal, count-different}
 use Rattle.chains.specs.Faces.{Face, below, passedOf}
-use Rattle.chains.specs.Slots.{All, EntryFits}
 use Rattle.chains.specs.Course.{Task, Even, Settled, Running, Course}
 use Rattle.chains.proofs.Marks.{marked, markedDone, passed-marked, below-marked, length-marked, stacked-marked}
 use Rattle.chains.proofs.Ends.{Met, meets, some-rest, finishes}
@@ -41,7 +42,7 @@ pub led-length : (T : Presentation) → Even T → (u : Positive) (es : List Ent
 led-length T even u es v h = joined-length T (homogeneous T even) u v (es, h)
 
 -- every entry of a chain fits its fields
-pub entries-fit : (T : Presentation) → Even T → (u : Positive) (es : List Entry) (v : Positive) → length u ≤ 4095 → Leads T u es v → All (EntryFits (T .size)) es
+pub entries-fit : (T : Presentation) → Even T → (u : Positive) (es : List Entry) (v : Positive) → length u ≤ 4095 → Leads T u es v → All (EntryInRange (T .size)) es
 entries-fit T even u [] v short h = tt
 entries-fit T even u (e ∷ es) v short h =
     let p = applied-applies T u e (h .0) (h .1) in
@@ -152,14 +153,13 @@ module _ {t : Task} {size total : ℕ} where
     pub b-named : InRange (t .table .size) (f .b)
     b-named = names .1
 
-    pub to-cell : Word-at cells (cellAt (f .a) (f .b)) (t .table .size) (f .done ++ f .left)
-    to-cell = subst (λ m. Cell cells (cellAt (f .a) (f .b)) (t .table .size) m) (c .stacked .0 .rule) (settled .stands .cell (f .a) (f .b) a-named b-named)
+    pub to-cell : WordAt cells (cellAt (f .a) (f .b)) (t .table .size) (f .done ++ f .left)
+    to-cell = cell-word cells (t .table) (settled .stands) (f .a) (f .b) a-named b-named (f .done ++ f .left) (f .other) (c .stacked .0 .rule)
 
-    pub from-cell : Word-at cells (cellAt (f .b) (f .a)) (t .table .size) (f .other)
+    pub from-cell : WordAt cells (cellAt (f .b) (f .a)) (t .table .size) (f .other)
     from-cell =
-        subst (λ m. Cell cells (cellAt (f .b) (f .a)) (t .table .size) m)
+        cell-word cells (t .table) (settled .stands) (f .b) (f .a) b-named a-named (f .other) (f .done ++ f .left)
         (complete-turn (t .table) (f .a) (f .b) ∙ ap swapped (c .stacked .0 .rule))
-        (settled .stands .cell (f .b) (f .a) b-named a-named)
 
     -- its letters are no more than the word that the entries have led to
     pub passed-short : length (passedOf (f ∷ fs) done) ≤ 4095

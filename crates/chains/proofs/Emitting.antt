@@ -9,7 +9,8 @@ use Rattle.model.specs.Equivalence.{Entry}
 use Rattle.model.specs.Images.{entryBits}
 use Rattle.engine.specs.Gap.{letters}
 use Rattle.engine.specs.Turn.{Pushed}
-use Rattle.engine.specs.Cells.{cellAt, InRange}
+use Rattle.cells.specs.Layout.{cellAt}
+use Rattle.model.specs.Range.{InRange}
 use Rattle.engine.proofs.Lettering.{length-positive, length-negative}
 use Rattle.engine.proofs.Stepping.{cell-letters}
 use Rattle.chains.specs.declared.moves.Place.{Place}

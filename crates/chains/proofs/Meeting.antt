@@ -11,7 +11,9 @@ use Rattle.model.specs.Images.{entryBits}
 use Rattle.model.proofs.Words.{positive-append}
 use Rattle.model.proofs.Complete.{complete-named}
 use Rattle.engine.specs.Gap.{letters}
-use Rattle.engine.specs.Cells.{cellAt, InRange, Lettered, Word-at, Cell}
+use Rattle.cells.specs.Layout.{cellAt}
+use Rattle.model.specs.Range.{InRange, Lettered}
+use Rattle.cells.proofs.Rules.{cell-word, WordAt}
 use Rattle.engine.proofs.Lettering.{lettered-end}
 use Rattle.chains.specs.declared.moves.Place.{Place}
 use Rattle.chains.specs.Faces.{Face, slotOf, passedOf, Stacked}
@@ -44,11 +46,11 @@ module _ {t : Task} {cells : List ℕ} {size total : ℕ} (h : Settled t cells s
   unsized r = record { low = r .low; high = omega (arith, r .high, h .size-is) }
 
   pub cell-inside : {a b : ℕ} → InRange size a → InRange size b → cellAt a b + 16 ≤ length cells
-  cell-inside {a} {b} ra rb = omega (arith, h .stands .whole, wide ra .high, wide rb .high)
+  cell-inside {a} {b} ra rb = omega (arith, h .stands .full, wide ra .high, wide rb .high)
 
   pub cell-of : {a b : ℕ} {x y : Positive} → InRange size a → InRange size b → complete (t .table) a b ≡ complement x y
-      → Word-at cells (cellAt a b) (t .table .size) x
-  cell-of {a} {b} ra rb e = subst (λ m. Cell cells (cellAt a b) (t .table .size) m) e (h .stands .cell a b (unsized ra) (unsized rb))
+      → WordAt cells (cellAt a b) (t .table .size) x
+  cell-of {a} {b} {x} {y} ra rb e = cell-word cells (t .table) (h .stands) a b (unsized ra) (unsized rb) x y e
 
   -- a slot of the image lies inside the answer area
   pub slot-in : {answer : List ℕ} → length answer ≡ length (t .area) → (index : ℕ) → index < total → SlotInside size index answer

@@ -7,6 +7,7 @@ use native.Mathlib.Omega.{arith}
 use lib.ListN.{length, take, drop, length-append, length-drop}
 use lib.Seq.{take-at, drop-at, drop-drop, length-take-le}
 use lib.Pow.{pow-mono}
+use Rattle.model.specs.Range.{EntryInRange}
 use Rattle.model.specs.Bits.{bitsOf, digits, number, letterWidth}
 use Rattle.model.specs.Equivalence.{Entry}
 use Rattle.model.specs.Images.{entryBits, letterBits}
@@ -16,7 +17,7 @@ use Rattle.bits.proofs.Bytes.{length-bits}
 use Rattle.bits.proofs.Fields.{field-fits}
 use Rattle.bits.proofs.Width.{width-small, letter-fits}
 use Rattle.chains.specs.declared.slots.Slot.{Slot}
-use Rattle.chains.specs.Slots.{slotWidth, slotAt, SlotInside, Placed, EntryFits, Same}
+use Rattle.chains.specs.Slots.{slotWidth, slotAt, SlotInside, Placed, Same}
 
 -- POSITIONS
 
@@ -142,7 +143,7 @@ module _ {n index : ℕ} {answer : List ℕ} (h : SlotInside n index answer) (at
       let m : 2 ^ width ≤ 2 ^ 4 = pow-mono {j = 4} (omega (arith, width-small n)) in
       omega (arith, field-fits answer from width i width (omega arith))
 
-  module _ (e : Entry) (rest : List ℕ) (fit : EntryFits n e) (there : drop (slotAt n index) (bitsOf answer) ≡ entryBits n e ++ rest) where
+  module _ (e : Entry) (rest : List ℕ) (fit : EntryInRange n e) (there : drop (slotAt n index) (bitsOf answer) ≡ entryBits n e ++ rest) where
     bits-there : drop at (bitsOf answer) ≡ digits 12 (e .offset) ++ (digits width (e .a - 1) ++ (digits width (e .b - 1) ++ rest))
     bits-there =
         ap (λ i. drop i (bitsOf answer)) ea

@@ -8,11 +8,13 @@ use lib.Seq.{getD-take, getD-drop, getD-append-seam}
 use Rattle.model.specs.Word.{Positive}
 use Rattle.model.specs.Equivalence.{Entry}
 use Rattle.model.specs.Images.{entryBits}
-use Rattle.engine.specs.Cells.{cellAt, InRange, Word-at}
+use Rattle.cells.specs.Layout.{cellAt}
+use Rattle.model.specs.Range.{InRange, EntryInRange}
+use Rattle.cells.proofs.Rules.{WordAt}
 use Rattle.chains.specs.declared.moves.Place.{Place}
 use Rattle.chains.specs.declared.slots.Slot.{Slot}
 use Rattle.chains.specs.Faces.{Face, slotOf}
-use Rattle.chains.specs.Slots.{slotAt, SlotInside, Placed, EntryFits, Same, SlotRead}
+use Rattle.chains.specs.Slots.{slotAt, SlotInside, Placed, Same, SlotRead}
 use Rattle.chains.specs.Course.{Task, Course, Situation, TopDone}
 use Rattle.chains.proofs.Ends.{relations-within}
 use Rattle.chains.proofs.Courses.{a-named, b-named, to-cell, leaving, taken-of-face}
@@ -36,7 +38,7 @@ record At (cells : List ℕ) (place : ℕ) (left : Positive) : Type 0 where
   others : Positive
   is : left ≡ getD cells place 0 ∷ others
 
-letter-at : {cells : List ℕ} {at n : ℕ} (done left : Positive) → Word-at cells at n (done ++ left) → 1 ≤ length left → At cells (at + 1 + length done) left
+letter-at : {cells : List ℕ} {at n : ℕ} (done left : Positive) → WordAt cells at n (done ++ left) → 1 ≤ length left → At cells (at + 1 + length done) left
 letter-at done [] w h = absurd (omega arith)
 letter-at {cells} {at} done (b ∷ left) w h =
     let long : length done < length (done ++ (b ∷ left)) = omega (arith, length-append done (b ∷ left)) in
@@ -72,10 +74,10 @@ module _ {t : Task} {cells : List ℕ} {size total : ℕ} {bytes answer : List �
   here : total - at .stacked + (length (map slotOf (top .others)) + 1) ≡ total
   here = omega (arith, stacked-within, stacked-of s (top .top), length-map (top .others) slotOf)
 
-  word : Word-at cells (cellAt (f .a) (f .b)) (t .table .size) (f .done ++ f .left)
+  word : WordAt cells (cellAt (f .a) (f .b)) (t .table .size) (f .done ++ f .left)
   word = to-cell (s .settled) course
 
-  slot-holds : EntryFits size (slotOf f)
+  slot-holds : EntryInRange size (slotOf f)
   slot-holds =
       record {
         offset-small = omega (arith, word .short, length-append (f .done) (f .left));

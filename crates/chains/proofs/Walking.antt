@@ -12,11 +12,10 @@ use Rattle.model.specs.Areas.{begins}
 use Rattle.model.proofs.Leftmost.{counted-within}
 use Rattle.model.proofs.Endings.{reversing-finishes}
 use Rattle.engine.specs.Gap.{letters, wordAt}
-use Rattle.engine.specs.Cells.{Lettered}
 use Rattle.engine.proofs.Letters.{letters-append, length-letters}
 use Rattle.engine.proofs.Lettering.{length-negative}
 use Rattle.engine.proofs.Runs.{run-begun}
-use Rattle.model.specs.Range.{AreBytes}
+use Rattle.model.specs.Range.{AreBytes, Lettered}
 use Rattle.chains.specs.declared.moves.Place.{Place}
 use Rattle.chains.specs.Slots.{Layout}
 use Rattle.chains.specs.Course.{Task, Settled, Course, Situation, Complete}

@@ -9,7 +9,8 @@ use Rattle.model.specs.Equivalence.{Entry, Leads}
 use Rattle.model.specs.Reversing.{finished, run}
 use Rattle.model.specs.Services.{chainBytes}
 use Rattle.engine.specs.Gap.{letters}
-use Rattle.engine.specs.Cells.{Lettered, Stands}
+use Rattle.model.specs.Range.{Lettered}
+use Rattle.cells.specs.Stands.{Stands}
 use Rattle.chains.specs.Faces.{Face, slotOf, wordOf, passedOf, Stacked}
 use Rattle.chains.specs.Slots.{Layout}
 use Rattle.chains.specs.declared.moves.Place.{Place}

@@ -11,8 +11,8 @@ use Rattle.model.specs.Images.{chainImage}
 use Rattle.model.specs.Services.{chainBytes}
 use Rattle.model.specs.Areas.{begins}
 use Rattle.engine.specs.Gap.{wordAt}
-use Rattle.engine.specs.Cells.{Lettered, Stands}
-use Rattle.chains.specs.Slots.{All, EntryFits}
+use Rattle.model.specs.Range.{Lettered, All, EntryInRange}
+use Rattle.cells.specs.Stands.{Stands}
 use Rattle.chains.specs.Course.{Even}
 
 -- a comparison that answered `same`, whose word the workspace holds again, and room for its chain
@@ -43,7 +43,7 @@ pub record Chained (T : Presentation) (u v : Positive) (steps : ℕ) (before aft
   pub few : length entries ≤ steps
   pub written : after ≡ begins (chainImage (T .size) entries) before
   pub short : length entries < 65536
-  pub fit : All (EntryFits (T .size)) entries
+  pub fit : All (EntryInRange (T .size)) entries
 
 -- under every presentation and for all words
 abbrev pub ListMeans : List ℕ → ℕ → List ℕ → ℕ → ℕ → ℕ → List ℕ → List ℕ → Type 0

@@ -1,5 +1,5 @@
 -- The chain's image while it is made: the count, entries from the front, slots of faces not done at the back, the filling, and the area's rest.
-use mathlib.Core.List.{List, [], _∷_, _++_}
+use mathlib.Core.List.{List, _++_}
 use mathlib.Core.Path.{_≡_}
 use Prim.Native.Nat.{ℕ, _+_, _-_, _*_, _≤_, _<_}
 use lib.ListN.{length, take, drop}
@@ -8,7 +8,7 @@ use Rattle.model.specs.Equivalence.{Entry}
 use Rattle.model.specs.Enumeration.{concatMap}
 use Rattle.model.specs.Images.{entryBits}
 use Rattle.model.specs.Services.{chainBytes}
-use Rattle.engine.specs.Cells.{InRange}
+use Rattle.model.specs.Range.{EntryInRange}
 use Rattle.chains.specs.declared.slots.Slot.{Slot}
 
 abbrev pub slotWidth : ℕ → ℕ
@@ -30,17 +30,6 @@ pub record Placed (before : List ℕ) (at : ℕ) (bits after : List ℕ) : Type 
   pub same-length : length after ≡ length before
   pub placed : bitsOf after ≡ take at (bitsOf before) ++ (bits ++ drop (at + length bits) (bitsOf before))
 
--- every element
-abbrev pub All : {A : Type 0} → (A → Type 0) → List A → Type 0
-All P [] = Unit {0}
-All P (x ∷ xs) = P x × All P xs
-
--- an entry that its fields can hold
-pub record EntryFits (n : ℕ) (e : Entry) : Type 0 where
-  pub offset-small : e .offset < 4096
-  pub a-names : InRange n (e .a)
-  pub b-names : InRange n (e .b)
-
 pub record Same (e : Entry) (s : Slot) : Type 0 where
   pub count : s .count ≡ e .offset
   pub a : s .a ≡ e .a
@@ -49,7 +38,7 @@ pub record Same (e : Entry) (s : Slot) : Type 0 where
 -- the slot that was read is the entry that stands there
 abbrev pub SlotRead : ℕ → ℕ → List ℕ → Slot → Type 0
 SlotRead n index answer s =
-    (e : Entry) (rest : List ℕ) → EntryFits n e → drop (slotAt n index) (bitsOf answer) ≡ entryBits n e ++ rest → Same e s
+    (e : Entry) (rest : List ℕ) → EntryInRange n e → drop (slotAt n index) (bitsOf answer) ≡ entryBits n e ++ rest → Same e s
 
 -- the filling, then the bytes after the image
 abbrev pub tailBits : ℕ → ℕ → List ℕ → List ℕ

@@ -6,7 +6,7 @@ ghost use Rattle.chains.specs.Course.{Somewhere, Emittable, Moves, Emits
 use crate::slots::Slot;
 use crate::slots::read_slot;
 use crate::slots::write_slot;
-use engine::cells::cell_at;
+use cells::layout::cell_at;
 use engine::step::push_inverse;
 
 // How far a listing has come. The bytes before `left` are the inverse of the first word's rest, those from `right` on the letters left of

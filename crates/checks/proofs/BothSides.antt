@@ -10,7 +10,7 @@ use Rattle.model.specs.Reversing.{reversing}
 use Rattle.model.specs.Checks.{residue, empties, side, cubeAt}
 use Rattle.model.specs.declared.answers.Stop.{Stop}
 use Rattle.engine.specs.Gap.{letters}
-use Rattle.engine.specs.Cells.{Serves}
+use Rattle.cells.specs.Stands.{Serves}
 use Rattle.engine.proofs.Letters.{length-letters}
 use Rattle.engine.proofs.Lettering.{length-positive}
 use Rattle.checks.specs.Residues.{Works, Stored}

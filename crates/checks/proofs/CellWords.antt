@@ -1,5 +1,5 @@
 -- Two words of the cells, C(a,b) and C(a,c), loaded for a reversing: the inverse of the first, then the second.
-use mathlib.Core.Path.{_≡_, refl, sym, ap, subst, _∙_}
+use mathlib.Core.Path.{_≡_, refl, sym, ap, _∙_}
 use mathlib.Core.List.{List, _++_}
 use Prim.Native.Nat.{ℕ, _+_, _-_, _≤_}
 use native.Mathlib.Omega.{arith}
@@ -7,18 +7,21 @@ use lib.ListN.{length, take, drop, getD}
 use Rattle.model.specs.Word.{Word, Positive, positive, negative, inverse}
 use Rattle.model.specs.Presentation.{Presentation, complement, complete}
 use Rattle.engine.specs.Gap.{letters, wordAt, Searched}
-use Rattle.engine.specs.Cells.{cellAt, InRange, Word-at, Cell, Serves}
+use Rattle.cells.specs.Layout.{cellAt}
+use Rattle.model.specs.Range.{InRange}
+use Rattle.cells.proofs.Rules.{cell-word, WordAt}
+use Rattle.cells.specs.Stands.{Serves}
 use Rattle.engine.specs.Turn.{Pushed}
 use Rattle.engine.proofs.Lettering.{length-negative}
 use Rattle.engine.proofs.Pushes.{pushed-as, pushed-kept}
 use Rattle.engine.proofs.Stepping.{cell-letters}
-use Rattle.engine.proofs.Rules.{Rule, inside, word-cell}
+use Rattle.cells.proofs.Rules.{cell-word, Rule, inside, word-cell}
 use Rattle.engine.proofs.Loads.{pushed-front, pushed-end, loaded, load-searched, load-serves}
 
 -- the cell of a pair of letters that the presentation has
 module _ {cells : List ℕ} {T : Presentation} {word : Word} (s : Serves cells word T) (a b : ℕ) (ra : InRange (T .size) a) (rb : InRange (T .size) b) where
-  pub cell-of : (x y : Positive) → complete T a b ≡ complement x y → Word-at cells (cellAt a b) (T .size) x
-  cell-of x y e = subst (Cell cells (cellAt a b) (T .size)) e (s .stands .cell a b ra rb)
+  pub cell-of : (x y : Positive) → complete T a b ≡ complement x y → WordAt cells (cellAt a b) (T .size) x
+  cell-of = cell-word cells T (s .stands) a b ra rb
 
   pub rule-of : (getD cells (cellAt a b) 0 ≡ 255 → ⊥) → Rule cells T a b
   rule-of h = word-cell cells T (s .stands) a b ra rb h
@@ -33,7 +36,7 @@ module _ (cells bytes mid last : List ℕ) (a b c to-b to-c : ℕ) (eb : to-b �
     (p : Pushed (inverse (letters (take (getD cells to-b 0) (drop (to-b + 1) cells)))) bytes (getD cells to-b 0) (getD cells to-b 0) mid)
     (q : Pushed (letters (take (getD cells to-c 0) (drop (to-c + 1) cells))) mid (length bytes) (getD cells to-c 0) last)
     (room : getD cells to-b 0 + getD cells to-c 0 ≤ length bytes)
-    (T : Presentation) (few : T .size ≤ 16) (x y : Positive) (cx : Word-at cells (cellAt a b) (T .size) x) (cy : Word-at cells (cellAt a c) (T .size) y) where
+    (T : Presentation) (few : T .size ≤ 16) (x y : Positive) (cx : WordAt cells (cellAt a b) (T .size) x) (cy : WordAt cells (cellAt a c) (T .size) y) where
   x-count : getD cells to-b 0 ≡ length x
   x-count = ap (λ i. getD cells i 0) eb ∙ cx .count
 

@@ -16,19 +16,21 @@ use Rattle.model.specs.declared.answers.Stop.{Stop}
 use Rattle.model.specs.declared.answers.Stop.the-variants.{Budget, Room}
 use Rattle.model.proofs.Complete.{complete-turn}
 use Rattle.model.proofs.Impossible.{impossible}
-use Rattle.engine.specs.Cells.{cellAt, InRange, Cell, Stands, Serves}
+use Rattle.cells.specs.Layout.{cellAt}
+use Rattle.model.specs.Range.{InRange}
+use Rattle.cells.specs.Stands.{HoldsFirst, Stands, Serves, Of}
 use Rattle.checks.specs.Cube.{cubeAnswer}
-use Rattle.checks.specs.Table.{Of, stoppedAs}
+use Rattle.checks.specs.Table.{stoppedAs}
 use Rattle.checks.specs.declared.cube.CubeVerdict.the-variants.{Holds, Fails, Halts}
 
 -- LENGTHS
 
 module _ (cells : List ℕ) (T : Presentation) (s : Stands cells T) (a b : ℕ) (ra : InRange (T .size) a) (rb : InRange (T .size) b) where
   -- the first bytes of the two cells of a pair
-  both-cells : (c : Complement) → complete T a b ≡ c → Cell cells (cellAt a b) (T .size) c × Cell cells (cellAt b a) (T .size) (swapped c)
+  both-cells : (c : Complement) → complete T a b ≡ c → HoldsFirst (T .size) cells (cellAt a b) c × HoldsFirst (T .size) cells (cellAt b a) (swapped c)
   both-cells c e = (
-    subst (Cell cells (cellAt a b) (T .size)) e (s .cell a b ra rb),
-    subst (Cell cells (cellAt b a) (T .size)) (complete-turn T a b ∙ ap swapped e) (s .cell b a rb ra),
+    subst (HoldsFirst (T .size) cells (cellAt a b)) e (s .cell a b ra rb),
+    subst (HoldsFirst (T .size) cells (cellAt b a)) (complete-turn T a b ∙ ap swapped e) (s .cell b a rb ra),
   )
 
   pub equal-bytes : getD cells (cellAt a b) 0 ≡ getD cells (cellAt b a) 0 → balanced (complete T a b) ≡ true

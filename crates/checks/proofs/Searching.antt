@@ -8,9 +8,9 @@ use Rattle.model.specs.Enumeration.{Three, triples}
 use Rattle.model.specs.Outcome.{answered, refused}
 use Rattle.model.specs.Checks.{cubeCheck}
 use Rattle.model.specs.declared.answers.Stop.{Stop}
-use Rattle.engine.specs.Cells.{Serves}
+use Rattle.cells.specs.Stands.{Serves, Of}
 use Rattle.checks.specs.Cube.{CubeMeans}
-use Rattle.checks.specs.Table.{Of, stoppedAs}
+use Rattle.checks.specs.Table.{stoppedAs}
 use Rattle.checks.specs.declared.cube.CubeVerdict.the-variants.{Holds, Fails, Halts}
 use Rattle.checks.proofs.Remaining.{triple, firsts, seconds, thirds, triples-begin, firsts-some, firsts-none, seconds-some, seconds-none, thirds-none, third-is-first, third-is-second, third-counts}
 use Rattle.checks.proofs.Passing.{triple-passes, triple-fails, triple-halts, of-serves}

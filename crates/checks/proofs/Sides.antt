@@ -12,7 +12,9 @@ use Rattle.model.specs.Stated.{stopAnswer}
 use Rattle.model.specs.declared.answers.Stop.{Stop}
 use Rattle.model.proofs.Impossible.{impossible}
 use Rattle.model.proofs.Residues.{residual-letters, under-residue}
-use Rattle.engine.specs.Cells.{cellAt, InRange, Serves}
+use Rattle.cells.specs.Layout.{cellAt}
+use Rattle.model.specs.Range.{InRange}
+use Rattle.cells.specs.Stands.{Serves}
 use Rattle.checks.specs.Residues.{Stored, Works}
 use Rattle.checks.specs.declared.residues.Residue.the-variants.{Missing, Halted}
 use Rattle.checks.specs.declared.residues.Residue.the-variants.{Word as Found}

@@ -19,7 +19,7 @@ use Rattle.model.specs.declared.answers.Ending.{Ending as EndingAnswer}
 use Rattle.model.specs.declared.answers.Ending.the-variants.{Finished}
 use Rattle.model.specs.declared.answers.Stop.{Stop}
 use Rattle.engine.specs.Gap.{letters, wordAt, Searched}
-use Rattle.engine.specs.Cells.{Serves}
+use Rattle.cells.specs.Stands.{Serves}
 use Rattle.engine.specs.Run.{Reverses}
 use Rattle.engine.proofs.Loads.{loaded, load-searched, load-serves}
 use Rattle.checks.specs.Words.{Inverted, Moved}

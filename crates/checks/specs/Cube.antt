@@ -13,7 +13,8 @@ use Rattle.model.specs.Stated.{stopAnswer}
 use Rattle.model.specs.declared.answers.Ending.{Ending}
 use Rattle.model.specs.declared.answers.Ending.the-variants.{Finished, Undefined, Stopped}
 use Rattle.engine.specs.Gap.{letters}
-use Rattle.engine.specs.Cells.{Lettered, Stands, Serves}
+use Rattle.model.specs.Range.{Lettered}
+use Rattle.cells.specs.Stands.{Stands, Serves}
 use Rattle.checks.specs.Residues.{SideWorks}
 use Rattle.checks.specs.declared.residues.Residue.{Residue as ResidueAnswer}
 use Rattle.checks.specs.declared.residues.Residue.the-variants.{Word, Missing, Halted}

@@ -12,19 +12,11 @@ use Rattle.model.specs.declared.answers.Stop.the-variants.{Budget, Room}
 use Rattle.model.specs.declared.answers.Triple.{Triple}
 use Rattle.model.specs.declared.answers.Place.the-variants.{Triple as AtTriple}
 use Rattle.model.specs.declared.answers.Refusal.the-variants.{UnequalLengths, CubeFails, AllowanceUsed, WorkspaceShort}
-use Rattle.engine.specs.Cells.{Stands}
+use Rattle.cells.specs.Stands.{Of}
 use Rattle.checks.specs.declared.table.Lengths.{Lengths}
 use Rattle.checks.specs.declared.table.Lengths.the-variants.{Equal, Unequal}
 use Rattle.checks.specs.declared.table.Triples.{Triples}
 use Rattle.checks.specs.declared.table.Triples.the-variants.{Hold, Fail, Halt}
-
--- the cells stand for a presentation of `size` letters
-pub record Of (cells : List ℕ) (size : ℕ) (T : Presentation) : Type 0 where
-  pub stands : Stands cells T
-  pub sized : T .size ≡ size
-
-abbrev pub Sized : List ℕ → ℕ → Type 0
-Sized cells size = (T : Presentation) × Of cells size T
 
 -- the outcome that each answer states
 abbrev pub lengthsAs : Lengths → Outcome (Unit {0})

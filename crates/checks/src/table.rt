@@ -1,10 +1,11 @@
 ghost use mathlib.Core.Path.{_≡_};
 ghost use Prim.Native.Nat.{_≤_};
 ghost use lib.ListN.{length};
-ghost use Rattle.checks.specs.Table.{Sized, RowMeans, LengthsMean, TriplesMean};
+ghost use Rattle.cells.specs.Stands.{Sized};
+ghost use Rattle.checks.specs.Table.{RowMeans, LengthsMean, TriplesMean};
 use crate::cube::CubeVerdict;
 use crate::cube::cube_at;
-use engine::cells::cell_at;
+use cells::layout::cell_at;
 use model::answers::Pair;
 use model::answers::Stop;
 use model::answers::Triple;

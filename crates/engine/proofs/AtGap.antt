@@ -10,7 +10,7 @@ use Rattle.model.specs.Word.{Word, Positive, forward, back, positive, negative}
 use Rattle.model.specs.Presentation.{Presentation, undefined, complement, complete}
 use Rattle.model.specs.Reversing.{nowhere, site, replaced, next, no-site, blocked, step, byComplement, bySite}
 use Rattle.engine.specs.Gap.{letters, wordAt, AtSite, AtEnd}
-use Rattle.engine.specs.Cells.{InRange, Lettered}
+use Rattle.model.specs.Range.{InRange, Lettered}
 use Rattle.engine.specs.Turn.{Pushed, Steps, Outgrows, Goes}
 use Rattle.engine.proofs.Letters.{letter-forward, letter-back, letters-append, letters-cons, letters-nil, length-letters}
 use Rattle.engine.proofs.Sites.{site-at, site-front}

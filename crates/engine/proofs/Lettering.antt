@@ -7,7 +7,7 @@ use native.Mathlib.Omega.{arith}
 use Rattle.model.specs.Word.{forward, back, Word, Positive, flip, positive, negative}
 use Rattle.model.proofs.Words.{negative-cons}
 use Rattle.engine.specs.Gap.{letters}
-use Rattle.engine.specs.Cells.{Lettered}
+use Rattle.model.specs.Range.{Lettered}
 use Rattle.engine.proofs.Letters.{letter-forward, letters-cons, letters-nil}
 
 module _ (n : ℕ) where

@@ -3,7 +3,6 @@ pub mod Sites
 pub mod Moves
 pub mod Pushes
 pub mod Lettering
-pub mod Rules
 pub mod AtGap
 pub mod Stepping
 pub mod Runs

@@ -10,7 +10,8 @@ use Rattle.model.specs.Presentation.{Presentation}
 use Rattle.model.specs.Reversing.{site}
 use Rattle.model.proofs.Words.{fraction-nowhere}
 use Rattle.engine.specs.Gap.{letters, wordAt, Searched}
-use Rattle.engine.specs.Cells.{Lettered, Stands, Serves}
+use Rattle.model.specs.Range.{Lettered}
+use Rattle.cells.specs.Stands.{Stands, Serves}
 use Rattle.engine.specs.Turn.{Pushed}
 use Rattle.engine.proofs.Letters.{letters-append, letters-nil, length-letters}
 use Rattle.engine.proofs.Lettering.{lettered-append, lettered-negative}

@@ -20,7 +20,8 @@ use Rattle.engine.specs.declared.gap.Gap.{Gap}
 use Rattle.engine.specs.declared.step.Turn.the-variants.{Final, Stepped}
 use Rattle.engine.specs.declared.step.Turn.the-variants.{Undefined as Turn·Undefined, Stopped as Turn·Stopped}
 use Rattle.engine.specs.Gap.{letters, wordAt, Searched}
-use Rattle.engine.specs.Cells.{Lettered, Serves}
+use Rattle.model.specs.Range.{Lettered}
+use Rattle.cells.specs.Stands.{Serves}
 use Rattle.engine.specs.Turn.{TurnMeans}
 use Rattle.engine.specs.Run.{Holds, Named, Reverses}
 use Rattle.engine.proofs.Letters.{length-letters}

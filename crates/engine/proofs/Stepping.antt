@@ -8,14 +8,17 @@ use Rattle.model.specs.Word.{Positive, positive, inverse}
 use Rattle.model.specs.Presentation.{Presentation}
 use Rattle.model.specs.Reversing.{next, blocked}
 use Rattle.engine.specs.Gap.{letters, wordAt, AtSite}
-use Rattle.engine.specs.Cells.{cellAt, InRange, Word-at, Serves}
+use Rattle.cells.specs.Layout.{cellAt}
+use Rattle.model.specs.Range.{InRange}
+use Rattle.cells.proofs.Rules.{WordAt}
+use Rattle.cells.specs.Stands.{Serves}
 use Rattle.engine.specs.Turn.{cellLetters, Pushed, Steps, Outgrows, Goes}
 use Rattle.engine.proofs.Lettering.{letters-positive}
-use Rattle.engine.proofs.Rules.{Rule, inside, open-cell, word-cell}
+use Rattle.cells.proofs.Rules.{Rule, inside, open-cell, word-cell}
 use Rattle.engine.proofs.AtGap.{before, after, before-named, after-named, blocked-here, goes, outgrows, steps}
 
 -- the letters of a cell's word
-pub cell-letters : {cells : List ℕ} {at n : ℕ} {x : Positive} → n ≤ 16 → Word-at cells at n x → (from count : ℕ) → from ≡ at + 1 → count ≡ length x
+pub cell-letters : {cells : List ℕ} {at n : ℕ} {x : Positive} → n ≤ 16 → WordAt cells at n x → (from count : ℕ) → from ≡ at + 1 → count ≡ length x
     → letters (take count (drop from cells)) ≡ positive x
 cell-letters {cells} {n} {x} few w from count e f =
     ap (λ i. letters (take i (drop from cells))) f

@@ -1,4 +1,3 @@
 pub mod Gap
-pub mod Cells
 pub mod Turn
 pub mod Run

@@ -9,7 +9,8 @@ use Rattle.model.specs.Reversing.{Ending, finished, open-pair, stopped, reversi
 use Rattle.model.specs.Stated.{endingAnswer}
 use Rattle.model.specs.declared.answers.Ending.{Ending as EndingAnswer}
 use Rattle.engine.specs.Gap.{letters}
-use Rattle.engine.specs.Cells.{Lettered, Serves}
+use Rattle.model.specs.Range.{Lettered}
+use Rattle.cells.specs.Stands.{Serves}
 
 -- what the workspace begins with where a reversing finished: the numerator, then the inverse of the denominator
 abbrev pub Holds : Ending → List ℕ → Type 0

@@ -7,7 +7,8 @@ use Rattle.model.specs.Word.{Word}
 use Rattle.model.specs.Presentation.{Presentation}
 use Rattle.model.specs.Reversing.{next, no-site, blocked, step}
 use Rattle.engine.specs.Gap.{letters, wordAt, Searched, AtEnd}
-use Rattle.engine.specs.Cells.{Lettered, Serves}
+use Rattle.model.specs.Range.{Lettered}
+use Rattle.cells.specs.Stands.{Serves}
 use Rattle.engine.specs.declared.step.Turn.{Turn}
 use Rattle.engine.specs.declared.step.Turn.the-variants.{Final, Undefined, Stopped, Stepped}
 use Rattle.model.specs.declared.answers.Stop.the-variants.{Budget, Room}

@@ -3,7 +3,7 @@ ghost use Prim.Native.Nat.{_≤_};
 ghost use lib.ListN.{length, take};
 ghost use Rattle.model.specs.Word.{forwards};
 ghost use Rattle.engine.specs.Gap.{letters, wordAt, Searched};
-ghost use Rattle.engine.specs.Cells.{Ready};
+ghost use Rattle.cells.specs.Stands.{Ready};
 ghost use Rattle.engine.specs.Run.{RunMeans};
 use crate::gap::Gap;
 use crate::step::Turn;

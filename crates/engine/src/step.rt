@@ -3,13 +3,13 @@ ghost use Prim.Native.Nat.{_-_};
 ghost use lib.ListN.{length, getD};
 ghost use Rattle.model.specs.Word.{inverse};
 ghost use Rattle.engine.specs.Gap.{wordAt, Searched, AtSite};
-ghost use Rattle.engine.specs.Cells.{Ready};
+ghost use Rattle.cells.specs.Stands.{Ready};
 ghost use Rattle.engine.specs.Turn.{cellLetters, CellFits, Pushed, TurnMeans};
-use crate::cells::cell_at;
 use crate::gap::Gap;
 use crate::gap::Sought;
 use crate::gap::seek;
 use crate::letter::turned;
+use cells::layout::cell_at;
 use model::answers::Pair;
 use model::answers::Stop;
 

@@ -16,7 +16,7 @@ use Rattle.model.specs.Bits.{Read, field, digits, letterWidth}
 use Rattle.model.specs.Images.{several, letterField, letterBits, wordField, wordBits, pairField, pairBits, definedField, signed, signedField, signedBits, entryField, entryBits}
 use Rattle.bits.proofs.Digits.{AreBits}
 use Rattle.bits.proofs.Width.{letter-fits}
-use Rattle.model.specs.Range.{All, GeneratorInRange, LetterInRange, WordInRange, PairInRange, EntryInRange}
+use Rattle.model.specs.Range.{All, InRange, LetterInRange, WordInRange, PairInRange, EntryInRange}
 use Rattle.images.proofs.Several.{answer-of, same-answer}
 use Rattle.images.proofs.Codec.{Codec, then, field-codec, several-codec, input-rest, bits-suffix, not-refused}
 
@@ -63,26 +63,26 @@ module _ (n : ℕ) (few : n ≤ 16) where
     named r = unless (leb n (r .value)) wrong (record { value = r .value + 1; rest = r .rest })
 
     letter-parts : (input : List ℕ) → AreBits input → (r : Read ℕ) → letterField early wrong n input ≡ answered r
-        → (input ≡ letterBits n (r .value) ++ r .rest) × GeneratorInRange n (r .value)
+        → (input ≡ letterBits n (r .value) ++ r .rest) × InRange n (r .value)
     unfolding named
     letter-parts input i r e =
         let f = answer-of (field early (letterWidth n) input) named r e in
         let p = not-refused (leb n (f .0 .value)) wrong (record { value = f .0 .value + 1; rest = f .0 .rest }) r (f .2) in
         let below : f .0 .value < n = leb-false n (f .0 .value) (p .0) in
         let back : f .0 .value + 1 - 1 ≡ f .0 .value = omega arith in
-        subst (λ r. (input ≡ letterBits n (r .value) ++ r .rest) × GeneratorInRange n (r .value)) (p .1) (
+        subst (λ r. (input ≡ letterBits n (r .value) ++ r .rest) × InRange n (r .value)) (p .1) (
           field-codec early (letterWidth n) .stood-there input i (f .0) (f .1) ∙ ap (λ v. digits (letterWidth n) v ++ f .0 .rest) (sym back),
-          record { positive = omega arith; small = omega arith },
+          record { low = omega arith; high = omega arith },
         )
 
-    pub letter-codec : Codec AreBits (letterField early wrong n) (letterBits n) (GeneratorInRange n)
+    pub letter-codec : Codec AreBits (letterField early wrong n) (letterBits n) (InRange n)
     letter-codec =
         record {
           reads-back = λ a h rest.
-              let below : a - 1 < n = omega (arith, h .positive, h .small) in
-              let up : a - 1 + 1 ≡ a = omega (arith, h .positive) in
+              let below : a - 1 < n = omega (arith, h .low, h .high) in
+              let up : a - 1 + 1 ≡ a = omega (arith, h .low) in
               then (field early (letterWidth n) (digits (letterWidth n) (a - 1) ++ rest)) _ (record { value = a - 1; rest = rest }) _
-              (field-codec early (letterWidth n) .reads-back (a - 1) (letter-fits n a few (h .positive) (h .small)) rest)
+              (field-codec early (letterWidth n) .reads-back (a - 1) (letter-fits n a few (h .low) (h .high)) rest)
               (ap (λ t. unless t wrong (record { value = a - 1 + 1; rest = rest })) (lt-leb n (a - 1) below)
               ∙ ap (λ v. answered (record { value = v; rest = rest })) up);
           stood-there = λ input i r e. letter-parts input i r e .0;
@@ -95,7 +95,7 @@ module _ (n : ℕ) (few : n ≤ 16) where
   sign-bits (suc zero) a h = refl
   sign-bits (suc (suc v)) a h = absurd (omega arith)
 
-  sign-range : (v a : ℕ) → v < 2 → GeneratorInRange n a → LetterInRange n (signed v a)
+  sign-range : (v a : ℕ) → v < 2 → InRange n a → LetterInRange n (signed v a)
   sign-range zero a h g = g
   sign-range (suc zero) a h g = g
   sign-range (suc (suc v)) a h g = absurd (omega arith)
@@ -103,7 +103,7 @@ module _ (n : ℕ) (few : n ≤ 16) where
   signedOf : Read ℕ → Outcome (Read Letter)
   signedOf s = letterField 4 5 n (s .rest) >>= λ a. answered (record { value = signed (s .value) (a .value); rest = a .rest })
 
-  signed-back : (v a : ℕ) → v < 2 → GeneratorInRange n a → (rest : List ℕ)
+  signed-back : (v a : ℕ) → v < 2 → InRange n a → (rest : List ℕ)
       → signedField n (digits 1 v ++ (letterBits n a ++ rest)) ≡ answered (record { value = signed v a; rest = rest })
   signed-back v a h g rest =
       then (field 4 1 (digits 1 v ++ (letterBits n a ++ rest))) _ (record { value = v; rest = letterBits n a ++ rest }) _
@@ -143,7 +143,7 @@ module _ (n : ℕ) (few : n ≤ 16) where
   -- a word: its length, then its letters
   pub word-codec : Codec AreBits (wordField n) (wordBits n) (WordInRange n)
   word-codec =
-      let c = counted-codec 1 4 (letterField 1 2 n) (letterBits n) (GeneratorInRange n) (letter-codec 1 2) in
+      let c = counted-codec 1 4 (letterField 1 2 n) (letterBits n) (InRange n) (letter-codec 1 2) in
       record {
         reads-back = λ x h rest. c .reads-back x (h .short, h .letters) rest;
         stood-there = λ input i r e. c .stood-there input i r e;

@@ -13,8 +13,9 @@ use Rattle.model.specs.Bits.{digits, letterWidth}
 use Rattle.model.specs.Images.{letterBits, wordBits, pairBits}
 use Rattle.bits.specs.Fields.{Written}
 use Rattle.bits.proofs.Digits.{length-digits}
-use Rattle.model.specs.Range.{GeneratorInRange}
-use Rattle.images.specs.Cells.{HoldsWord, cellAt}
+use Rattle.model.specs.Range.{InRange}
+use Rattle.cells.specs.Stands.{HoldsWord}
+use Rattle.cells.specs.Layout.{cellAt}
 use Rattle.images.specs.Tables.{HoldsPair}
 use Rattle.images.specs.Bitwise.{AppendedTo}
 use Rattle.images.proofs.Several.{all-at}
@@ -39,8 +40,8 @@ to-more before at xs mid next ys after last h p q =
 -- WORDS
 
 module _ (size : ℕ) (cells : List ℕ) (cell : ℕ) (x : Positive) (holds : HoldsWord size cells cell x) where
-  pub letter-in : (k : ℕ) → k < length x → GeneratorInRange size (getD cells (cell + 1 + k) 0)
-  letter-in k h = subst (GeneratorInRange size) (sym (holds .letters k h)) (all-at (GeneratorInRange size) x k 0 (holds .in-range .letters) h)
+  pub letter-in : (k : ℕ) → k < length x → InRange size (getD cells (cell + 1 + k) 0)
+  letter-in k h = subst (InRange size) (sym (holds .letters k h)) (all-at (InRange size) x k 0 (holds .in-range .letters) h)
 
   pub letters-more : (width : ℕ) → width ≡ letterWidth size → (k : ℕ) → k < length x
       → concatMap (letterBits size) (take k x) ++ digits width (getD cells (cell + 1 + k) 0 - 1) ≡ concatMap (letterBits size) (take (k + 1) x)

@@ -20,7 +20,8 @@ use Rattle.bits.proofs.Packing.{below-or}
 use Rattle.images.specs.declared.tables.TablePart.{TablePart}
 use Rattle.images.specs.declared.tables.TablePart.the-variants.{Next, Ends, Wrong}
 use Rattle.images.specs.Fields.{FieldAt, from}
-use Rattle.images.specs.Cells.{Letters, cellAt, HoldsWord, Holds}
+use Rattle.cells.specs.Layout.{Letters, cellAt}
+use Rattle.cells.specs.Stands.{HoldsWord, HoldsFirst}
 use Rattle.images.specs.Tables.{KeptOutside, KeptPair, WordFrom, WordAt, WordDone, SameCell, HoldsPair, PairAt, PairDone, bytesFrom, PlainWordDone, PlainPairDone}
 use Rattle.images.proofs.Words.{byte-ends, byte-at}
 
@@ -34,8 +35,8 @@ apart p q a b k lp la d h =
     ⊎-elim
     (λ (m : cellAt a b < cellAt p q). inr (omega arith))
     (λ (m : cellAt p q ≤ cellAt a b).
-    let first : p ≡ a = omega (arith, lp .a-positive, lp .b-positive, lp .b-small, la .a-positive, la .b-positive, la .b-small) in
-    let second : q ≡ b = omega (arith, lp .a-positive, lp .b-positive, lp .b-small, la .a-positive, la .b-positive, la .b-small) in
+    let first : p ≡ a = omega (arith, lp .0 .low, lp .1 .low, lp .1 .high, la .0 .low, la .1 .low, la .1 .high) in
+    let second : q ≡ b = omega (arith, lp .0 .low, lp .1 .low, lp .1 .high, la .0 .low, la .1 .low, la .1 .high) in
     absurd (d (first, second)))
     (below-or (cellAt a b) (cellAt p q)))
     (below-or (cellAt p q) (cellAt a b))
@@ -58,23 +59,23 @@ holds-word-kept size before after p q x s h =
       in-range = h .in-range;
     }
 
-pub holds-kept : (size : ℕ) (before after : List ℕ) (p q : ℕ) (c : Complement) → SameCell before after p q → Holds size before (cellAt p q) c → Holds size after (cellAt p q) c
+pub holds-kept : (size : ℕ) (before after : List ℕ) (p q : ℕ) (c : Complement) → SameCell before after p q → HoldsFirst size before (cellAt p q) c → HoldsFirst size after (cellAt p q) c
 holds-kept size before after p q undefined s h =
     let zero-th : cellAt p q + 0 ≡ cellAt p q = omega arith in
     subst (λ i. getD after i 0 ≡ getD before i 0) zero-th (s 0 (omega arith)) ∙ h
 holds-kept size before after p q (complement x y) s h = holds-word-kept size before after p q x s h
 
 pub swap-letters : (a b : ℕ) → Letters a b → Letters b a
-swap-letters a b l = record { a-positive = l .b-positive; a-small = l .b-small; b-positive = l .a-positive; b-small = l .a-small }
+swap-letters a b l = (record { low = l .1 .low; high = l .1 .high }, record { low = l .0 .low; high = l .0 .high })
 
 -- WHAT THE CELLS HOLD, whatever the pair was read from
 
 module _ (size : ℕ) (before : List ℕ) (a b : ℕ) (letters : Letters a b) (less : a < b) (full : length before ≡ 4096) where
   pub cell-inside : cellAt a b + 16 ≤ 4096
-  cell-inside = omega (arith, letters .a-positive, letters .a-small, letters .b-positive, letters .b-small)
+  cell-inside = omega (arith, letters .0 .low, letters .0 .high, letters .1 .low, letters .1 .high)
 
   pub back-inside : cellAt b a + 16 ≤ 4096
-  back-inside = omega (arith, letters .a-positive, letters .a-small, letters .b-positive, letters .b-small)
+  back-inside = omega (arith, letters .0 .low, letters .0 .high, letters .1 .low, letters .1 .high)
 
   differ : (a ≡ b) × (b ≡ a) → ⊥
   differ e = let f = e .0 in omega arith
@@ -83,7 +84,7 @@ module _ (size : ℕ) (before : List ℕ) (a b : ℕ) (letters : Letters a b) (l
   undefined-held =
       record {
         there =
-            getD-set-other (set before (cellAt a b) 255) (cellAt b a) (cellAt a b) 255 0 (λ e. omega (arith, letters .a-positive, letters .a-small, letters .b-positive, letters .b-small))
+            getD-set-other (set before (cellAt a b) 255) (cellAt b a) (cellAt a b) 255 0 (λ e. omega (arith, letters .0 .low, letters .0 .high, letters .1 .low, letters .1 .high))
             ∙ getD-set-same before (cellAt a b) 255 0 (omega (arith, cell-inside));
         back = getD-set-same (set before (cellAt a b) 255) (cellAt b a) 255 0 (omega (arith, back-inside, length-set before (cellAt a b) 255));
       }

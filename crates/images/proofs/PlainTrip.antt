@@ -14,7 +14,7 @@ use Rattle.model.specs.Outcome.{Outcome, answered, _>>=_, unless}
 use Rattle.model.specs.Bits.{Read}
 use Rattle.model.specs.Images.{several, rowsOf}
 use Rattle.model.specs.Plain.{plainWord, plainPair, plainTable, plainProgram, nextByte, plainLetter, plainLetters, plainDefined, plainPairAt, readPlainTable, namesLetter, plainLettersSigned, readPlainProgram}
-use Rattle.model.specs.Range.{AreBytes, All, Rows, GeneratorInRange, LetterInRange, WordInRange, PairInRange, ProgramInRange, TableInRange}
+use Rattle.model.specs.Range.{AreBytes, All, Rows, InRange, LetterInRange, WordInRange, PairInRange, ProgramInRange, TableInRange}
 use Rattle.images.proofs.Appending.{named-positive, named-small}
 use Rattle.images.proofs.Several.{answer-of, same-answer}
 use Rattle.images.proofs.Codec.{Codec, then, several-codec, rows-codec, not-refused}
@@ -57,29 +57,29 @@ module _ (n : ℕ) where
   named : Read ℕ → Outcome (Read ℕ)
   named r = unless (ltb (r .value) 1 || ltb n (r .value)) 2 r
 
-  letter-parts : (input : List ℕ) (r : Read ℕ) → plainLetter n input ≡ answered r → (input ≡ r .value ∷ r .rest) × GeneratorInRange n (r .value)
+  letter-parts : (input : List ℕ) (r : Read ℕ) → plainLetter n input ≡ answered r → (input ≡ r .value ∷ r .rest) × InRange n (r .value)
   unfolding named
   letter-parts input r e =
       let f = answer-of (nextByte input) named r e in
       let p = not-refused (ltb (f .0 .value) 1 || ltb n (f .0 .value)) 2 (f .0) r (f .2) in
-      subst (λ r. (input ≡ r .value ∷ r .rest) × GeneratorInRange n (r .value)) (p .1) (
+      subst (λ r. (input ≡ r .value ∷ r .rest) × InRange n (r .value)) (p .1) (
         byte-stood input (f .0) (f .1),
         record {
-          positive = ltb-false (f .0 .value) 1 (or-first (ltb (f .0 .value) 1) (ltb n (f .0 .value)) (p .0));
-          small = ltb-false n (f .0 .value) (or-second (ltb (f .0 .value) 1) (ltb n (f .0 .value)) (p .0));
+          low = ltb-false (f .0 .value) 1 (or-first (ltb (f .0 .value) 1) (ltb n (f .0 .value)) (p .0));
+          high = ltb-false n (f .0 .value) (or-second (ltb (f .0 .value) 1) (ltb n (f .0 .value)) (p .0));
         },
       )
 
-  letter-codec : Codec Any (plainLetter n) one (GeneratorInRange n)
+  letter-codec : Codec Any (plainLetter n) one (InRange n)
   letter-codec =
       record {
-        reads-back = λ a h rest. ap (λ t. unless t 2 (record { value = a; rest = rest })) (or-neither (ltb a 1) (ltb n a) (le-ltb a 1 (h .positive)) (le-ltb n a (h .small)));
+        reads-back = λ a h rest. ap (λ t. unless t 2 (record { value = a; rest = rest })) (or-neither (ltb a 1) (ltb n a) (le-ltb a 1 (h .low)) (le-ltb n a (h .high)));
         stood-there = λ input i r e. letter-parts input r e .0;
         in-range = λ input i r e. letter-parts input r e .1;
       }
 
-  many : (k : ℕ) → Codec Any (several (plainLetter n) k) (concatMap one) (λ xs. (length xs ≡ k) × All (GeneratorInRange n) xs)
-  many k = several-codec Any any-suffix (plainLetter n) one (GeneratorInRange n) letter-codec k
+  many : (k : ℕ) → Codec Any (several (plainLetter n) k) (concatMap one) (λ xs. (length xs ≡ k) × All (InRange n) xs)
+  many k = several-codec Any any-suffix (plainLetter n) one (InRange n) letter-codec k
 
   -- the letters of a word whose length k was read
   letters-back : (x : Positive) → WordInRange n x → (rest : List ℕ) → plainLetters n (length x) (x ++ rest) ≡ answered (record { value = x; rest = rest })
@@ -213,14 +213,14 @@ plain-table-of bytes T e =
 -- the byte of a letter in range names it
 byte-names : (n : ℕ) (x : Letter) → n ≤ 16 → LetterInRange n x → namesLetter n (byte x) ≡ true
 byte-names n (forward a) few h =
-    let e : a % 128 ≡ a = omega (arith, h .small) in
-    ap (λ v. leb 1 v && leb v n) e ∙ both-true (leb 1 a) (leb a n) (le-leb 1 a (h .positive)) (le-leb a n (h .small))
+    let e : a % 128 ≡ a = omega (arith, h .high) in
+    ap (λ v. leb 1 v && leb v n) e ∙ both-true (leb 1 a) (leb a n) (le-leb 1 a (h .low)) (le-leb a n (h .high))
 byte-names n (back a) few h =
-    let e : (128 + a) % 128 ≡ a = omega (arith, h .small) in
-    ap (λ v. leb 1 v && leb v n) e ∙ both-true (leb 1 a) (leb a n) (le-leb 1 a (h .positive)) (le-leb a n (h .small))
+    let e : (128 + a) % 128 ≡ a = omega (arith, h .high) in
+    ap (λ v. leb 1 v && leb v n) e ∙ both-true (leb 1 a) (leb a n) (le-leb 1 a (h .low)) (le-leb a n (h .high))
 
 letter-of-byte : (n : ℕ) (x : Letter) → n ≤ 16 → LetterInRange n x → letter (byte x) ≡ x
-letter-of-byte n (forward a) few h = ap (λ t. cond t (forward a) (back (a - 128))) (lt-ltb a 128 (omega (arith, h .small)))
+letter-of-byte n (forward a) few h = ap (λ t. cond t (forward a) (back (a - 128))) (lt-ltb a 128 (omega (arith, h .high)))
 letter-of-byte n (back a) few h =
     ap (λ t. cond t (forward (128 + a)) (back (128 + a - 128))) (le-ltb (128 + a) 128 (omega arith)) ∙ ap back {x = 128 + a - 128} {y = a} (omega arith)
 
@@ -244,10 +244,10 @@ named-letter n x h e = by-sign (ltb x 128) refl
     by-sign : (t : Bool) → ltb x 128 ≡ t → (byte (cond t (forward x) (back (x - 128))) ≡ x) × LetterInRange n (cond t (forward x) (back (x - 128)))
     by-sign true s =
         let l : x < 128 = ltb-true x 128 s in
-        (refl, record { positive = omega (arith, named-positive n x e); small = omega (arith, named-small n x e) })
+        (refl, record { low = omega (arith, named-positive n x e); high = omega (arith, named-small n x e) })
     by-sign false s =
         let l : 128 ≤ x = ltb-false x 128 s in
-        (omega arith, record { positive = omega (arith, named-positive n x e); small = omega (arith, named-small n x e) })
+        (omega arith, record { low = omega (arith, named-positive n x e); high = omega (arith, named-small n x e) })
 
 program-parts : (n : ℕ) (bytes : List ℕ) (w : Word) → AreBytes bytes → plainLettersSigned n bytes ≡ answered w → (bytes ≡ plainProgram w) × All (LetterInRange n) w
 program-parts n [] w bs e = subst (λ w. ([] ≡ plainProgram w) × All (LetterInRange n) w) (same-answer [] w e) (refl, tt)

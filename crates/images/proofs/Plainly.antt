@@ -10,7 +10,8 @@ use Rattle.model.specs.Word.{Positive}
 use Rattle.model.specs.Presentation.{Complement, undefined, complement}
 use Rattle.model.specs.Enumeration.{concatMap}
 use Rattle.model.specs.Plain.{plainWord, plainPair}
-use Rattle.images.specs.Cells.{HoldsWord, cellAt}
+use Rattle.cells.specs.Stands.{HoldsWord}
+use Rattle.cells.specs.Layout.{cellAt}
 use Rattle.images.specs.Tables.{HoldsPair, HoldsRow, Listed}
 use Rattle.images.specs.Programs.{written}
 use Rattle.images.specs.Bytewise.{Wrote}

@@ -6,6 +6,7 @@ use mathlib.Core.Bool.{true, false, _&&_, _||_, cond}
 use mathlib.Core.List.{List, [], _∷_, _++_}
 use Prim.Native.Nat.{ℕ, suc, _+_, _-_, _*_, _≤_, _<_}
 use native.Mathlib.Omega.{arith}
+use native.Mathlib.Decide.{ℕ-discrete}
 use borrow.Author.Tests.{ne-eqb, lt-ltb, le-ltb, le-leb}
 use lib.Dec.{ltb, leb}
 use lib.ListN.{length, getD, length-append, length-drop, List·getD-append}
@@ -17,7 +18,10 @@ use Rattle.model.specs.Images.{pairField, several, rowsOf, readTable}
 use Rattle.model.specs.Plain.{plainPairAt, readPlainTable}
 use Rattle.bits.proofs.Packing.{below-or}
 use Rattle.images.specs.Fields.{FieldAt, from}
-use Rattle.images.specs.Cells.{Letters, cellAt, Holds, Stands}
+use Rattle.cells.specs.Layout.{Letters, cellAt}
+use Rattle.model.specs.Range.{InRange}
+use Rattle.model.proofs.Complete.{complete-same}
+use Rattle.cells.specs.Stands.{HoldsFirst, Stands, Blank}
 use Rattle.images.specs.Tables.{SameCell, HoldsPair, HoldsRow, PairFrom, RowFrom, RowAt, Listed, TableOf, TableDone, SizeDone, bytesFrom, PlainTableOf}
 use Rattle.images.specs.declared.tables.TableRead.{TableRead}
 use Rattle.images.specs.declared.tables.TableRead.the-variants.{Table, Refused}
@@ -51,6 +55,7 @@ pub record RowFilled (reader : List ℕ → Outcome (Read Complement)) (source :
   pub resumed : several reader (size - a) (source at) ≡ after done (several reader (size + 1 - b) (source next))
   pub holds : HoldsRow size cells a done
   pub kept : (p q : ℕ) → Letters p q → (p < a) ⊎ (q < a) → SameCell before cells p q
+  pub diagonal : (p : ℕ) → InRange 16 p → SameCell before cells p p
 
 module _ (reader : List ℕ → Outcome (Read Complement)) (source : ℕ → List ℕ) (limit at size : ℕ) (before : List ℕ) (a : ℕ) (inside : at ≤ limit) (positive : 1 ≤ a) (small : a ≤ size) (few : size ≤ 16) where
   pub row-none : RowFilled reader source limit at size before a before at (a + 1)
@@ -66,6 +71,7 @@ module _ (reader : List ℕ → Outcome (Read Complement)) (source : ℕ → Lis
         resumed = sym (after-none (several reader (size + 1 - (a + 1)) (source at)) ∙ ap (λ k. several reader k (source at)) {x = size + 1 - (a + 1)} {y = size - a} (omega arith));
         holds = λ j h. absurd (omega arith);
         kept = λ p q l o k h. refl;
+        diagonal = λ p l k h. refl;
       }
 
   module _ (cells : List ℕ) (next b : ℕ) (f : RowFilled reader source limit at size before a cells next b) where
@@ -73,7 +79,7 @@ module _ (reader : List ℕ → Outcome (Read Complement)) (source : ℕ → Lis
     left h = omega arith
 
     pub pair-letters : b ≤ size → Letters a b
-    pair-letters h = record { a-positive = positive; a-small = omega arith; b-positive = omega (arith, f .above); b-small = omega arith }
+    pair-letters h = (record { low = positive; high = omega arith }, record { low = omega (arith, f .above); high = omega arith })
 
     pub row-more : b ≤ size → (cells' : List ℕ) (next' : ℕ) → length cells' ≡ length cells → PairFrom reader source limit next size cells a b cells' next' → RowFilled reader source limit at size before a cells' next' (b + 1)
     row-more h cells' next' same p =
@@ -93,7 +99,7 @@ module _ (reader : List ℕ → Outcome (Read Complement)) (source : ℕ → Lis
           holds =
               one-more (λ j c. HoldsPair size cells' a (a + 1 + j) c) (f .done) (p .pair) undefined
               (λ j l.
-              let letters : Letters a (a + 1 + j) = record { a-positive = positive; a-small = omega arith; b-positive = omega arith; b-small = omega arith } in
+              let letters : Letters a (a + 1 + j) = (record { low = positive; high = omega arith }, record { low = omega arith; high = omega arith }) in
               holds-pair-kept size cells cells' a (a + 1 + j) (getD (f .done) j undefined)
               (p .kept a (a + 1 + j) letters (λ e. let x = e .1 in omega arith) (λ e. let x = e .0 in omega (arith, f .above)))
               (p .kept (a + 1 + j) a (swap-letters a (a + 1 + j) letters) (λ e. let x = e .0 in omega arith) (λ e. let x = e .0 in omega arith))
@@ -104,6 +110,9 @@ module _ (reader : List ℕ → Outcome (Read Complement)) (source : ℕ → Lis
               (p .kept u v l
               (λ e. ⊎-elim (λ (x : u < a). let y = e .0 in omega arith) (λ (x : v < a). let y = e .1 in omega (arith, f .above)) o)
               (λ e. ⊎-elim (λ (x : u < a). let y = e .0 in omega (arith, f .above)) (λ (x : v < a). let y = e .1 in omega arith) o));
+          diagonal = λ u l.
+              same-cell-after before cells cells' u u (f .diagonal u l)
+              (p .kept u u (l, l) (λ e. let x = e .0 in let y = e .1 in omega (arith, f .above)) (λ e. let x = e .0 in let y = e .1 in omega (arith, f .above)));
         }
 
     pub pair-refused : (n : ℕ) → b ≤ size → reader (source next) ≡ refused n [] → several reader (size - a) (source at) ≡ refused n []
@@ -123,6 +132,7 @@ module _ (reader : List ℕ → Outcome (Read Complement)) (source : ℕ → Lis
           position = record { inside = f .inside; near = omega (arith, f .near, f .some-left) };
           holds = f .holds;
           kept = f .kept;
+          diagonal = f .diagonal;
         }
 
 -- ROWS
@@ -132,7 +142,7 @@ pub record RowsFilled (reader : List ℕ → Outcome (Read Complement)) (source 
   pub some-left : a ≤ size + 1
   pub inside : at ≤ limit
   pub near : at + 2064 ≤ begin + 2064 * a
-  pub full : length cells ≡ 4096
+  pub blank : Blank cells
   pub done : List (List Complement)
   pub done-length : 1 + length done ≡ a
   pub resumed : rowsOf reader size (source begin) ≡ after done (rowsOf reader (size + 1 - a) (source at))
@@ -162,27 +172,27 @@ module _ (cells : List ℕ) (size : ℕ) (rows : List (List Complement)) (few : 
       (subst (λ q. HoldsPair size cells a q (getD (getD rows (a - 1) []) (b - a - 1) undefined)) eb
       (subst (λ p. HoldsPair size cells p (p + 1 + (b - a - 1)) (getD (getD rows (a - 1) []) (b - a - 1) undefined)) ea raw))
 
-  pub complete-holds : (a b : ℕ) → 1 ≤ a → a ≤ size → 1 ≤ b → b ≤ size → (a ≡ b → ⊥) → Holds size cells (cellAt a b) (complete T a b)
+  pub complete-holds : (a b : ℕ) → 1 ≤ a → a ≤ size → 1 ≤ b → b ≤ size → (a ≡ b → ⊥) → HoldsFirst size cells (cellAt a b) (complete T a b)
   unfolding complete
   complete-holds a b ha la hb lb d =
-      subst (λ t. Holds size cells (cellAt a b) (cond t (complement [] []) (cond (ltb a b) (listed T a b) (swapped (listed T b a))))) (sym (ne-eqb a b d))
+      subst (λ t. HoldsFirst size cells (cellAt a b) (cond t (complement [] []) (cond (ltb a b) (listed T a b) (swapped (listed T b a))))) (sym (ne-eqb a b d))
       (⊎-elim
-      (λ (h : a < b). subst (λ t. Holds size cells (cellAt a b) (cond t (listed T a b) (swapped (listed T b a)))) (sym (lt-ltb a b h)) (listed-holds a b ha h lb .there))
-      (λ (h : b ≤ a). subst (λ t. Holds size cells (cellAt a b) (cond t (listed T a b) (swapped (listed T b a)))) (sym (le-ltb a b h)) (listed-holds b a hb (differ h) la .back))
+      (λ (h : a < b). subst (λ t. HoldsFirst size cells (cellAt a b) (cond t (listed T a b) (swapped (listed T b a)))) (sym (lt-ltb a b h)) (listed-holds a b ha h lb .there))
+      (λ (h : b ≤ a). subst (λ t. HoldsFirst size cells (cellAt a b) (cond t (listed T a b) (swapped (listed T b a)))) (sym (le-ltb a b h)) (listed-holds b a hb (differ h) la .back))
       (below-or a b))
     where
       differ : b ≤ a → b < a
       differ h = ⊎-elim (λ (x : b < a). x) (λ (x : a ≤ b). let e : a ≡ b = omega arith in absurd (d e)) (below-or b a)
 
 module _ (reader : List ℕ → Outcome (Read Complement)) (source : ℕ → List ℕ) (limit begin size : ℕ) (some : 1 ≤ size) (few : size ≤ 16) where
-  pub rows-none : (cells : List ℕ) → begin ≤ limit → length cells ≡ 4096 → RowsFilled reader source limit begin size cells begin 1
-  rows-none cells inside full =
+  pub rows-none : (cells : List ℕ) → begin ≤ limit → Blank cells → RowsFilled reader source limit begin size cells begin 1
+  rows-none cells inside blank =
       record {
         positive = omega arith;
         some-left = omega arith;
         inside = inside;
         near = omega arith;
-        full = full;
+        blank = blank;
         done = [];
         done-length = refl;
         resumed = sym (after-none (rowsOf reader (size + 1 - 1) (source begin)) ∙ ap (λ k. rowsOf reader k (source begin)) {x = size + 1 - 1} {y = size} (omega arith));
@@ -203,7 +213,13 @@ module _ (reader : List ℕ → Outcome (Read Complement)) (source : ℕ → Lis
           some-left = omega arith;
           inside = r .position .inside;
           near = omega (arith, f .near, r .position .near);
-          full = same ∙ f .full;
+          blank =
+              record {
+                full = same ∙ f .blank .full;
+                diagonal = λ p l.
+                    let e : cellAt p p + 0 ≡ cellAt p p = omega arith in
+                    subst (λ i. getD cells' i 0 ≡ getD cells i 0) e (r .diagonal p l 0 (omega arith)) ∙ f .blank .diagonal p l;
+              };
           done = f .done ++ (r .row ∷ []);
           done-length = omega (arith, length-append (f .done) (r .row ∷ []));
           resumed =
@@ -216,7 +232,7 @@ module _ (reader : List ℕ → Outcome (Read Complement)) (source : ℕ → Lis
               one-more (λ i row. HoldsRow size cells' (1 + i) row) (f .done) (r .row) []
               (λ i l j k.
               let w : length (getD (f .done) i []) ≡ size - (1 + i) = f .widths i l in
-              let letters : Letters (1 + i) (1 + i + 1 + j) = record { a-positive = omega arith; a-small = omega arith; b-positive = omega arith; b-small = omega arith } in
+              let letters : Letters (1 + i) (1 + i + 1 + j) = (record { low = omega arith; high = omega arith }, record { low = omega arith; high = omega arith }) in
               holds-pair-kept size cells cells' (1 + i) (1 + i + 1 + j) (getD (getD (f .done) i []) j undefined)
               (r .kept (1 + i) (1 + i + 1 + j) letters (inl (omega arith)))
               (r .kept (1 + i + 1 + j) (1 + i) (swap-letters (1 + i) (1 + i + 1 + j) letters) (inr (omega arith)))
@@ -242,11 +258,26 @@ module _ (reader : List ℕ → Outcome (Read Complement)) (source : ℕ → Lis
     pub rows-stand : size < a → Stands cells (record { size = size; rows = f .done })
     rows-stand h =
         record {
-          full = f .full;
+          full = f .blank .full;
           some = some;
           few = few;
-          holds = complete-holds cells size (f .done) few (f .holds) (omega (arith, f .done-length, f .some-left)) (f .widths);
+          cell = λ a b ra rb. by-letters a b ra rb (ℕ-discrete a b);
         }
+      where
+        T : Presentation
+        T = record { size = size; rows = f .done }
+
+        by-letters : (a b : ℕ) → InRange size a → InRange size b → Dec (a ≡ b) → HoldsFirst size cells (cellAt a b) (complete T a b)
+        by-letters a b ra rb (yes e) =
+            let empty : complete T a b ≡ complement [] [] = rw (← e) (complete-same T a) in
+            subst (HoldsFirst size cells (cellAt a b)) (sym empty)
+            (record {
+              count = ap (λ i. getD cells (cellAt a i) 0) (sym e) ∙ f .blank .diagonal a (record { low = ra .low; high = omega (arith, ra .high) });
+              letters = λ k l. absurd (omega arith);
+              in-range = record { short = omega arith; letters = tt };
+            })
+        by-letters a b ra rb (no e) =
+            complete-holds cells size (f .done) few (f .holds) (omega (arith, f .done-length, f .some-left)) (f .widths) a b (ra .low) (ra .high) (rb .low) (rb .high) e
 
 -- FROM A TABLE IMAGE
 
@@ -273,8 +304,8 @@ module _ (image : List ℕ) (m size : ℕ) (head : FieldAt image 0 4 m) (size-is
   size-few : size ≤ 16
   size-few = omega (arith, head .small)
 
-  pub image-rows-none : (cells : List ℕ) → length cells ≡ 4096 → RowsFilled (pairField size) (from image) (8 * length image) 4 size cells 4 1
-  image-rows-none cells full = rows-none (pairField size) (from image) (8 * length image) 4 size size-some size-few cells (head .inside) full
+  pub image-rows-none : (cells : List ℕ) → Blank cells → RowsFilled (pairField size) (from image) (8 * length image) 4 size cells 4 1
+  image-rows-none cells blank = rows-none (pairField size) (from image) (8 * length image) 4 size size-some size-few cells (head .inside) blank
 
   module _ (cells : List ℕ) (at a : ℕ) (f : RowsFilled (pairField size) (from image) (8 * length image) 4 size cells at a) where
     pub image-rows-more : a ≤ size → (cells' : List ℕ) (next : ℕ) → length cells' ≡ length cells → RowAt image at size cells a cells' next → RowsFilled (pairField size) (from image) (8 * length image) 4 size cells' next (a + 1)
@@ -294,9 +325,8 @@ module _ (image : List ℕ) (m size : ℕ) (head : FieldAt image 0 4 m) (size-is
         record {
           table = record { size = size; rows = f .done };
           read = ended h ∙ ap (λ t. cond t (answered (record { size = size; rows = f .done })) (refused 3 [])) t;
-          size-is = refl;
           listed = rows-listed (pairField size) (from image) (8 * length image) 4 size size-some size-few cells at a f h;
-          stands = rows-stand (pairField size) (from image) (8 * length image) 4 size size-some size-few cells at a f h;
+          of = record { stands = rows-stand (pairField size) (from image) (8 * length image) 4 size size-some size-few cells at a f h; sized = refl };
         }
 
     pub table-tail : size < a → filling (from image at) ≡ false → readTable image ≡ refused 3 []
@@ -309,9 +339,9 @@ size-done image cells (Table size) t =
     record {
       table = t .table;
       read = t .read;
-      size-is = t .size-is;
-      some = subst (λ n. 1 ≤ n) (t .size-is) (t .stands .some);
-      few = subst (λ n. n ≤ 16) (t .size-is) (t .stands .few);
+      size-is = t .of .sized;
+      some = subst (λ n. 1 ≤ n) (t .of .sized) (t .of .stands .some);
+      few = subst (λ n. n ≤ 16) (t .of .sized) (t .of .stands .few);
     }
 size-done image cells (Refused r) e = e
 
@@ -371,9 +401,8 @@ module _ (plain : List ℕ) (inside : 0 < length plain) where
           record {
             table = record { size = size; rows = f .done };
             read = plain-ended h ∙ ap (λ t. unless t 3 (record { size = size; rows = f .done })) (le-ltb 0 (length (bytesFrom plain at)) (omega (arith, length-drop at plain)));
-            size-is = refl;
             listed = rows-listed (plainPairAt size) (bytesFrom plain) (length plain) 1 size some few cells at a f h;
-            stands = rows-stand (plainPairAt size) (bytesFrom plain) (length plain) 1 size some few cells at a f h;
+            of = record { stands = rows-stand (plainPairAt size) (bytesFrom plain) (length plain) 1 size some few cells at a f h; sized = refl };
           }
 
       pub plain-tail : size < a → at < length plain → readPlainTable plain ≡ refused 3 []

@@ -18,7 +18,7 @@ use Rattle.model.specs.Images.{letterField, wordField, several}
 use Rattle.model.specs.Plain.{nextByte, plainLetter, plainLetters}
 use Rattle.bits.proofs.Packing.{below-or}
 use Rattle.images.specs.Fields.{FieldAt, from}
-use Rattle.model.specs.Range.{All, GeneratorInRange}
+use Rattle.model.specs.Range.{All, InRange}
 use Rattle.images.specs.Tables.{KeptOutside, WordFrom, bytesFrom}
 use Rattle.images.proofs.Several.{after, after-none, several-step, several-refused, several-done}
 
@@ -33,7 +33,7 @@ pub record Filled (reader : List ℕ → Outcome (Read ℕ)) (source : ℕ → L
   pub resumed : several reader count (source begin) ≡ after done (several reader (count - k) (source next))
   pub first : getD cells cell 0 ≡ count
   pub letters : (j : ℕ) → j < length done → getD cells (cell + 1 + j) 0 ≡ getD done j 0
-  pub in-range : All (GeneratorInRange size) done
+  pub in-range : All (InRange size) done
   pub kept : KeptOutside before cell cells
 
 all-more : {A : Type 0} (P : A → Type 0) (xs : List A) (x : A) → All P xs → P x → All P (xs ++ (x ∷ []))
@@ -81,7 +81,7 @@ module _ (reader : List ℕ → Outcome (Read ℕ)) (source : ℕ → List ℕ) 
     left : k < count → count - k ≡ suc (count - (k + 1))
     left h = omega arith
 
-    pub letters-more : (a next' : ℕ) → k < count → next' ≤ next + 4 → next' ≤ limit → GeneratorInRange size a → reader (source next) ≡ answered (record { value = a; rest = source next' })
+    pub letters-more : (a next' : ℕ) → k < count → next' ≤ next + 4 → next' ≤ limit → InRange size a → reader (source next) ≡ answered (record { value = a; rest = source next' })
         → Filled reader source limit begin size (set before cell count) cell count (set cells (cell + 1 + k) a) next' (k + 1)
     letters-more a next' h step inside range e =
         let n : length (f .done) ≡ k = f .done-length in
@@ -100,7 +100,7 @@ module _ (reader : List ℕ → Outcome (Read ℕ)) (source : ℕ → List ℕ) 
           letters =
               subst (λ m. (j : ℕ) → j < length (f .done ++ (a ∷ [])) → getD (set cells (cell + 1 + m) a) (cell + 1 + j) 0 ≡ getD (f .done ++ (a ∷ [])) j 0) n
               (stored-letters cells (cell + 1) (f .done) a (omega (arith, f .same-length, length-set before cell count)) (f .letters));
-          in-range = all-more (GeneratorInRange size) (f .done) a (f .in-range) range;
+          in-range = all-more (InRange size) (f .done) a (f .in-range) range;
           kept = kept-store (set before cell count) cell cells (cell + 1 + k) a (f .kept) (omega arith) (omega arith);
         }
 

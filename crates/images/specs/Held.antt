@@ -5,7 +5,7 @@ use Prim.Native.Nat.{ℕ, _+_, _≤_}
 use lib.ListN.{length}
 use Rattle.model.specs.Word.{Positive}
 use Rattle.model.specs.Presentation.{Complement}
-use Rattle.images.specs.Cells.{HoldsWord}
+use Rattle.cells.specs.Stands.{HoldsWord}
 use Rattle.images.specs.Tables.{HoldsPair, HoldsRow, Listed}
 
 -- a cell holds some word

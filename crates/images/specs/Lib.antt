@@ -1,6 +1,5 @@
 pub mod Fields
 pub mod Programs
-pub mod Cells
 pub mod Tables
 pub mod Chains
 pub mod Held

@@ -12,7 +12,9 @@ use Rattle.model.specs.Images.{wordField, pairField, several, readTable}
 use Rattle.model.specs.Plain.{plainLetters, plainPairAt, readPlainTable}
 use Rattle.model.specs.Stated.{refusal}
 use Rattle.images.specs.Fields.{from}
-use Rattle.images.specs.Cells.{Letters, cellAt, HoldsWord, Holds, Stands}
+use Rattle.model.specs.Range.{InRange}
+use Rattle.cells.specs.Layout.{Letters, cellAt}
+use Rattle.cells.specs.Stands.{Of, HoldsWord, HoldsFirst}
 use Rattle.images.specs.declared.tables.TablePart.{TablePart}
 use Rattle.images.specs.declared.tables.TablePart.the-variants.{Next, Ends, Wrong}
 use Rattle.images.specs.declared.tables.TableRead.{TableRead}
@@ -47,8 +49,8 @@ SameCell before after p q = (k : ℕ) → k < 16 → getD after (cellAt p q + k)
 
 -- the pair a, b stands in the cells of a, b and of b, a
 pub record HoldsPair (size : ℕ) (cells : List ℕ) (a b : ℕ) (pair : Complement) : Type 0 where
-  pub there : Holds size cells (cellAt a b) pair
-  pub back : Holds size cells (cellAt b a) (swapped pair)
+  pub there : HoldsFirst size cells (cellAt a b) pair
+  pub back : HoldsFirst size cells (cellAt b a) (swapped pair)
 
 -- every cell but those of a, b and of b, a is as it was
 abbrev pub KeptPair : List ℕ → ℕ → ℕ → List ℕ → Type 0
@@ -76,6 +78,7 @@ pub record RowFrom (reader : List ℕ → Outcome (Read Complement)) (source : �
   pub position : After limit at 2064 next
   pub holds : HoldsRow size after a row
   pub kept : (p q : ℕ) → Letters p q → (p < a) ⊎ (q < a) → SameCell before after p q
+  pub diagonal : (p : ℕ) → InRange 16 p → SameCell before after p p
 
 abbrev pub RowDoneFrom : (List ℕ → Outcome (Read Complement)) → (ℕ → List ℕ) → ℕ → ℕ → ℕ → List ℕ → ℕ → List ℕ → TablePart → Type 0
 RowDoneFrom reader source limit at size before a after (Next next) = RowFrom reader source limit at size before a after next
@@ -130,16 +133,14 @@ pub record Listed (size : ℕ) (cells : List ℕ) (rows : List (List Complement)
 pub record TableOf (image cells : List ℕ) (size : ℕ) : Type 0 where
   pub table : Presentation
   pub read : readTable image ≡ answered table
-  pub size-is : table .size ≡ size
-  pub stands : Stands cells table
+  pub of : Of cells size table
   pub listed : Listed size cells (table .rows)
 
 -- the cells stand for the table that the plain form says
 pub record PlainTableOf (plain cells : List ℕ) (size : ℕ) : Type 0 where
   pub table : Presentation
   pub read : readPlainTable plain ≡ answered table
-  pub size-is : table .size ≡ size
-  pub stands : Stands cells table
+  pub of : Of cells size table
   pub listed : Listed size cells (table .rows)
 
 abbrev pub PlainTableDone : List ℕ → List ℕ → TableRead → Type 0

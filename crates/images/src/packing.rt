@@ -1,6 +1,6 @@
 // Table images written from cells.
 
-use crate::tables;
+use cells::layout::cell_at;
 ghost use mathlib.Core.Path.{_≡_};
 ghost use mathlib.Core.List.{List, _++_};
 ghost use Prim.Native.Nat.{_+_, _-_, _≤_, _<_};
@@ -10,7 +10,8 @@ ghost use Rattle.model.specs.Presentation.{Complement};
 ghost use Rattle.model.specs.Enumeration.{concatMap};
 ghost use Rattle.model.specs.Bits.{digits};
 ghost use Rattle.model.specs.Images.{wordBits, pairBits};
-ghost use Rattle.images.specs.Cells.{HoldsWord, Letters};
+ghost use Rattle.cells.specs.Stands.{HoldsWord};
+ghost use Rattle.cells.specs.Layout.{Letters};
 ghost use Rattle.images.specs.Tables.{HoldsPair, HoldsRow, Listed};
 ghost use Rattle.images.specs.Written.{WidthOf};
 ghost use Rattle.images.specs.Held.{HoldsSomeWord, HoldsSomePair, HoldsSomeRow, HoldsSomeTable};
@@ -59,8 +60,8 @@ pub fn pack_pair(
     ensures length { λ r. ⌜ length (now (out .exit)) ≡ length (now (out .entry)) ⌝ }
     ensures near { λ r. ⌜ r ≤ at + 129 ⌝ }
 {
-    let there = tables::cell_of(a, b);
-    let back = tables::cell_of(b, a);
+    let there = cell_at(a, b);
+    let back = cell_at(b, a);
     if cells[there] == 255 {
         bits::write_field(out, at, 1, 0);
         return at + 1;

@@ -1,9 +1,9 @@
 // Plain forms: a program is a byte a letter; a table its number of letters, then its pairs.
 
-use crate::tables;
 use crate::tables::TablePart;
 use crate::tables::TableRead;
 use crate::writing;
+use cells::layout::cell_at;
 use model::answers::Refusal;
 ghost use mathlib.Core.Path.{_≡_};
 ghost use Prim.Native.Nat.{ℕ, _+_, _≤_, _<_};
@@ -13,7 +13,8 @@ ghost use mathlib.Core.List.{List, _∷_};
 ghost use Rattle.model.specs.Presentation.{Complement};
 ghost use Rattle.model.specs.Enumeration.{concatMap};
 ghost use Rattle.model.specs.Plain.{plainWord, plainPair};
-ghost use Rattle.images.specs.Cells.{HoldsWord, Letters};
+ghost use Rattle.cells.specs.Stands.{HoldsWord, Blank};
+ghost use Rattle.cells.specs.Layout.{Letters};
 ghost use Rattle.images.specs.Tables.{HoldsPair, HoldsRow, Listed, PlainBefore, PlainWordDone, PlainPairDone, PlainRowDone, PlainTableDone};
 ghost use Rattle.images.specs.Held.{HoldsSomeWord, HoldsSomePair, HoldsSomeRow, HoldsSomeTable};
 ghost use Rattle.images.specs.Bytewise.{PlainDone, Wrote};
@@ -95,8 +96,8 @@ pub fn read_plain_pair(
         return TablePart::Ends;
     }
     let count = plain[at];
-    let there = tables::cell_of(a, b);
-    let back = tables::cell_of(b, a);
+    let there = cell_at(a, b);
+    let back = cell_at(b, a);
     if count == 255 {
         cells[there] = 255;
         cells[back] = 255;
@@ -137,7 +138,7 @@ pub fn read_plain_row(plain: &[u8], at: usize, size: u8, cells: &mut [u8], a: u8
 
 // Refusals 1 and 2, the first met, then 3. After an answer the cells stand for the table.
 pub fn read_plain_table(plain: &[u8], cells: &mut [u8]) -> TableRead
-    requires { ⌜ length (now cells) ≡ 4096 ⌝ }
+    requires { ⌜ Blank (now cells) ⌝ }
     ensures length { λ r. ⌜ length (now (cells .exit)) ≡ length (now (cells .entry)) ⌝ }
     ensures table { λ r. ⌜ PlainTableDone (now (plain .entry)) (now (cells .exit)) r ⌝ }
 {
@@ -192,8 +193,8 @@ pub fn write_plain_pair(cells: &[u8], a: u8, b: u8, out: &mut [u8], at: usize) -
     ensures length { λ r. ⌜ length (now (out .exit)) ≡ length (now (out .entry)) ⌝ }
     ensures pair { λ r. ⌜ ((size : ℕ) (pair : Complement) → HoldsPair size (now (cells .entry)) a b pair → Wrote (now (out .entry)) at (plainPair pair) (now (out .exit)) r) ⌝ }
 {
-    let there = tables::cell_of(a, b);
-    let back = tables::cell_of(b, a);
+    let there = cell_at(a, b);
+    let back = cell_at(b, a);
     if cells[there] == 255 {
         out[at] = 255;
         return at + 1;

@@ -3,12 +3,14 @@
 use crate::fields;
 use crate::fields::Field;
 use crate::fields::LetterField;
+use cells::layout::cell_at;
 use model::answers::Refusal;
 ghost use mathlib.Core.Path.{_≡_};
-ghost use Prim.Native.Nat.{_+_, _*_, _^_, _≤_, _<_};
+ghost use Prim.Native.Nat.{_+_, _^_, _≤_, _<_};
 ghost use lib.ListN.{length};
 ghost use Rattle.images.specs.Fields.{Before};
-ghost use Rattle.images.specs.Cells.{cellAt, Letters};
+ghost use Rattle.cells.specs.Layout.{Letters};
+ghost use Rattle.cells.specs.Stands.{Blank};
 ghost use Rattle.images.specs.Tables.{WordDone, PairDone, RowDone, TableDone, SizeDone};
 
 // The position after a part of a table, or why there is none.
@@ -21,14 +23,6 @@ pub enum TablePart {
 pub enum TableRead {
     Table { size: u8 },
     Refused(Refusal),
-}
-
-// Where the cell of two letters begins.
-pub fn cell_of(a: u8, b: u8) -> usize
-    requires { ⌜ Letters a b ⌝ }
-    ensures { λ r. ⌜ r ≡ cellAt a b ⌝ }
-{
-    (((a - 1) as usize) * 16 + ((b - 1) as usize)) * 16
 }
 
 // A word of a table image, into a cell.
@@ -82,8 +76,8 @@ pub fn read_pair(
     let Field::Value(bit) = fields::next_field(image, at, 1) else {
         return TablePart::Ends;
     };
-    let there = cell_of(a, b);
-    let back = cell_of(b, a);
+    let there = cell_at(a, b);
+    let back = cell_at(b, a);
     if bit == 0 {
         cells[there] = 255;
         cells[back] = 255;
@@ -126,7 +120,7 @@ pub fn read_row(
 
 // Refusals 1 and 2, the first met, then 3. After an answer the cells stand for the table.
 pub fn read_table(image: &[u8], cells: &mut [u8]) -> TableRead
-    requires { ⌜ length (now cells) ≡ 4096 ⌝ }
+    requires { ⌜ Blank (now cells) ⌝ }
     ensures length { λ r. ⌜ length (now (cells .exit)) ≡ length (now (cells .entry)) ⌝ }
     ensures table { λ r. ⌜ TableDone (now (image .entry)) (now (cells .exit)) r ⌝ }
 {

@@ -17,23 +17,30 @@ abbrev pub AreBytes : List ℕ → Type 0
 AreBytes xs = (i : ℕ) → getD xs i 0 < 256
 
 -- "moves, numbered 1 to n"
-pub record GeneratorInRange (n a : ℕ) : Type 0 where
-  pub positive : 1 ≤ a
-  pub small : a ≤ n
+pub record InRange (n a : ℕ) : Type 0 where
+  pub low : 1 ≤ a
+  pub high : a ≤ n
+
+abbrev pub numberOf : Letter → ℕ
+numberOf (forward a) = a
+numberOf (back a) = a
 
 abbrev pub LetterInRange : ℕ → Letter → Type 0
-LetterInRange n (forward a) = GeneratorInRange n a
-LetterInRange n (back a) = GeneratorInRange n a
+LetterInRange n x = InRange n (numberOf x)
+
+-- every letter of a word is one of n
+abbrev pub Lettered : ℕ → Word → Type 0
+Lettered n w = All (LetterInRange n) w
 
 -- "A program is 0 to 4,095 moves"
 pub record ProgramInRange (n : ℕ) (w : Word) : Type 0 where
   pub short : length w < 4096
-  pub letters : All (LetterInRange n) w
+  pub letters : Lettered n w
 
 -- "words of forward moves, each 0 to 15 long"
 pub record WordInRange (n : ℕ) (x : Positive) : Type 0 where
   pub short : length x < 16
-  pub letters : All (GeneratorInRange n) x
+  pub letters : All (InRange n) x
 
 abbrev pub PairInRange : ℕ → Complement → Type 0
 PairInRange n undefined = Unit {0}
@@ -54,8 +61,8 @@ pub record TableInRange (T : Presentation) : Type 0 where
 
 pub record EntryInRange (n : ℕ) (e : Entry) : Type 0 where
   pub offset-small : e .offset < 4096
-  pub a-names : GeneratorInRange n (e .a)
-  pub b-names : GeneratorInRange n (e .b)
+  pub a-names : InRange n (e .a)
+  pub b-names : InRange n (e .b)
 
 pub record ChainInRange (n : ℕ) (es : List Entry) : Type 0 where
   pub short : length es < 65536

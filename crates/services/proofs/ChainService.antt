@@ -1,6 +1,6 @@
 -- Listing a chain after a comparison, and the outcome of chain after its reading.
 use mathlib.Core.Path.{_≡_, refl, sym, ap, subst, _∙_}
-use mathlib.Core.List.{List, [], _∷_, _++_}
+use mathlib.Core.List.{List, [], _++_}
 use mathlib.Core.Bool.{Bool, true, false}
 use Prim.Native.Nat.{ℕ, _+_, _≤_, _<_}
 use native.Mathlib.Omega.{arith}
@@ -10,7 +10,6 @@ use lib.Dec.{ltb}
 use lib.ListN.{length, length-append}
 use Rattle.model.specs.Word.{Word, Positive, positive, negative}
 use Rattle.model.specs.Presentation.{Presentation, complete}
-use Rattle.model.specs.Equivalence.{Entry}
 use Rattle.model.specs.Reversing.{finished, room, reversing}
 use Rattle.model.specs.Outcome.{Outcome, answered, refused, _>>=_, unless}
 use Rattle.model.specs.Images.{readProgram, chainImage}
@@ -31,18 +30,15 @@ use Rattle.theory.proofs.Comparison.{answered-clear}
 use Rattle.theory.specs.Verdicts.{DemandThree}
 use Rattle.theory.proofs.Verdicts.{demand-three-told}
 use Rattle.images.proofs.Several.{answer-of}
-use Rattle.model.specs.Range.{EntryInRange, ProgramInRange}
-use Rattle.model.specs.Range.{All as Every}
+use Rattle.model.specs.Range.{ProgramInRange, Lettered}
 use Rattle.images.specs.Programs.{ForwardOf}
 use Rattle.images.proofs.RoundTrip.{chain-reads-back, program-in-range}
-use Rattle.engine.specs.Cells.{Lettered}
+use Rattle.cells.specs.Stands.{Of}
 use Rattle.engine.proofs.Lettering.{length-positive, length-negative}
-use Rattle.chains.specs.Slots.{All, EntryFits}
 use Rattle.chains.specs.Listing.{Chained}
 use Rattle.chains.specs.Listing.{Compared as Listed-from}
 use Rattle.chains.proofs.Courses.{even-of}
 use Rattle.chains.proofs.Layouts.{room-for-fewer}
-use Rattle.checks.specs.Table.{Of}
 use Rattle.services.specs.Loading.{Images, readPair}
 use Rattle.services.specs.Compare.{toldAs, Ended, Judged, LoadedPair, Meaning}
 use Rattle.services.specs.Chain.{Area, ListedAs, JoinsChecked, ListedChecks}
@@ -51,7 +47,6 @@ use Rattle.services.specs.declared.compare.Judgement.the-variants.{Same,
 use Rattle.images.proofs.Refusals.{told}
 use Rattle.services.proofs.Outcomes.{AsFound, still-refused}
 use Rattle.services.proofs.Reading.{pair-refused, pair-runs}
-use Rattle.services.proofs.Programs.{lettered-program}
 use Rattle.services.proofs.CheckService.{check-runs}
 
 -- A VERDICT THAT LISTS NOTHING
@@ -110,17 +105,6 @@ pair-fits T u v steps width k r e =
     let h = finished-fits T steps width (negative u ++ positive v) [] [] k r (e .empty) in
     omega (arith, length-append (negative u) (positive v), length-negative u, length-positive v)
 
-entries-in-range : (n : ℕ) (es : List Entry) → All (EntryFits n) es → Every (EntryInRange n) es
-entries-in-range n [] p = tt
-entries-in-range n (e ∷ es) p = (
-  record {
-    offset-small = p .0 .offset-small;
-    a-names = record { positive = p .0 .a-names .low; small = p .0 .a-names .high };
-    b-names = record { positive = p .0 .b-names .low; small = p .0 .b-names .high };
-  },
-  entries-in-range n es (p .1),
-)
-
 pub listed-of : (T : Presentation) (u v : Positive) (k : ℕ) (before after : List ℕ) → T .size ≤ 16 → Chained T u v k before after → Listed T u v k before after
 listed-of T u v k before after few c =
     record {
@@ -128,7 +112,7 @@ listed-of T u v k before after few c =
       leads = c .leads;
       few = c .few;
       written = c .written;
-      readable = chain-reads-back (T .size) few (c .entries) (record { short = c .short; entries = entries-in-range (T .size) (c .entries) (c .fit) });
+      readable = chain-reads-back (T .size) few (c .entries) (record { short = c .short; entries = c .fit });
     }
 
 -- what the listing asks, from the comparison and the programs that were loaded again
@@ -148,7 +132,7 @@ module _ (cells : List ℕ) (size : ℕ) (T : Presentation) (o : Of cells size T
   second-range = named v second (two .read-signed ∙ ap (λ x. answered (positive x)) ev)
 
   lettered : (w : Positive) → ProgramInRange size (positive w) → Lettered (T .size) (positive w)
-  lettered w p = subst (λ i. Lettered i (positive w)) (sym (o .sized)) (lettered-program size (positive w) (p .letters))
+  lettered w p = subst (λ i. Lettered i (positive w)) (sym (o .sized)) (p .letters)
 
   pub listed-from : Listed-from cells size bytes m right r room T u v k
   listed-from =

@@ -1,5 +1,4 @@
 pub mod Fractions
-pub mod Tables
 pub mod Early
 pub mod Programs
 pub mod Answers

@@ -12,18 +12,17 @@ use Rattle.model.specs.Images.{readProgram}
 use Rattle.model.specs.Plain.{plainProgram}
 use Rattle.model.specs.declared.answers.Ending.the-variants.{Stopped}
 use Rattle.model.specs.declared.answers.Stop.the-variants.{Room}
-use Rattle.model.specs.Range.{ProgramInRange}
+use Rattle.model.specs.Range.{ProgramInRange, Lettered}
 use Rattle.images.specs.Programs.{written, ForwardOf}
 use Rattle.images.proofs.RoundTrip.{program-in-range}
 use Rattle.engine.specs.Gap.{letters}
-use Rattle.engine.specs.Cells.{Lettered}
+use Rattle.cells.specs.Stands.{Of}
 use Rattle.engine.specs.Run.{Reverses}
 use Rattle.engine.proofs.Lettering.{length-positive, length-negative}
 use Rattle.engine.proofs.Loads.{loaded, load-searched, load-serves}
-use Rattle.checks.specs.Table.{Of}
 use Rattle.checks.specs.Words.{Inverted}
 use Rattle.services.specs.Compare.{LoadedPair}
-use Rattle.services.proofs.Programs.{byte-letters, lettered-program, written-end, too-long}
+use Rattle.services.proofs.Programs.{byte-letters, written-end, too-long}
 
 module _ (cells : List ℕ) (size : ℕ) (T : Presentation) (o : Of cells size T) (u v : Positive) (pu : ProgramInRange size (positive u)) (pv : ProgramInRange size (positive v))
     (start turned : List ℕ) (m n : ℕ) (um : length u ≡ m) (vn : length v ≡ n) (fit : m + n ≤ length start)
@@ -71,7 +70,7 @@ module _ (cells : List ℕ) (size : ℕ) (T : Presentation) (o : Of cells size T
       simp (length-append, length-take, length-drop, length-map) (omega (arith, turned-length, vn, fit))
 
   named : (w : Positive) → ProgramInRange size (positive w) → Lettered (T .size) (positive w)
-  named w p = subst (λ k. Lettered k (positive w)) (sym (o .sized)) (lettered-program size (positive w) (p .letters))
+  named w p = subst (λ k. Lettered k (positive w)) (sym (o .sized)) (p .letters)
 
   pub pair-loaded : LoadedPair cells T u v both m (length start - n)
   pair-loaded =

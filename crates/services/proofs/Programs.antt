@@ -13,27 +13,21 @@ use Rattle.model.specs.declared.answers.Ending.{Ending}
 use Rattle.model.specs.declared.answers.Ending.the-variants.{Stopped}
 use Rattle.model.specs.declared.answers.Stop.the-variants.{Room}
 use Rattle.model.proofs.Reversal.{reversing-long}
-use Rattle.model.specs.Range.{All, LetterInRange, ProgramInRange}
+use Rattle.model.specs.Range.{All, LetterInRange, ProgramInRange, Lettered}
 use Rattle.images.specs.Programs.{written}
 use Rattle.engine.specs.Gap.{letters, wordAt, Searched}
-use Rattle.engine.specs.Cells.{Lettered, Serves}
+use Rattle.cells.specs.Stands.{Serves, Of}
 use Rattle.engine.specs.Run.{Reverses}
 use Rattle.engine.proofs.Letters.{letter-forward, letter-back, letters-cons, letters-nil}
-use Rattle.checks.specs.Table.{Of}
 
 -- the bytes of letters that a table can have are those letters
 pub byte-letters : (n : ℕ) → n ≤ 16 → (w : Word) → All (LetterInRange n) w → letters (map byte w) ≡ w
 byte-letters n h [] p = letters-nil
 byte-letters n h (forward a ∷ w) p =
-    letters-cons a (map byte w) ∙ ap₂ (λ l v. l ∷ v) (letter-forward a (omega (arith, p .0 .small))) (byte-letters n h w (p .1))
+    letters-cons a (map byte w) ∙ ap₂ (λ l v. l ∷ v) (letter-forward a (omega (arith, p .0 .high))) (byte-letters n h w (p .1))
 byte-letters n h (back a ∷ w) p =
     let e : 128 + a - 128 ≡ a = omega arith in
     letters-cons (128 + a) (map byte w) ∙ ap₂ (λ l v. l ∷ v) (letter-back (128 + a) (omega arith) ∙ ap back e) (byte-letters n h w (p .1))
-
-pub lettered-program : (n : ℕ) (w : Word) → All (LetterInRange n) w → Lettered n w
-lettered-program n [] p = tt
-lettered-program n (forward a ∷ w) p = (record { low = p .0 .positive; high = p .0 .small }, lettered-program n w (p .1))
-lettered-program n (back a ∷ w) p = (record { low = p .0 .positive; high = p .0 .small }, lettered-program n w (p .1))
 
 -- at the end of an area
 pub written-end : (area bytes : List ℕ) (at : ℕ) → at + length bytes ≡ length area → drop at (written area at bytes) ≡ bytes
@@ -70,7 +64,7 @@ module _ (cells : List ℕ) (size : ℕ) (T : Presentation) (o : Of cells size T
   word-served =
       record {
         stands = o .stands;
-        lettered = rw word-loaded (subst (λ n. Lettered n w) (sym (o .sized)) (lettered-program size w (p .letters)));
+        lettered = rw word-loaded (subst (λ n. Lettered n w) (sym (o .sized)) (p .letters));
       }
 
   pub word-reverses : (steps : ℕ) (after : List ℕ) (r : Ending) → Reverses T (wordAt ready 0 right) steps after r → Reverses T w steps after r

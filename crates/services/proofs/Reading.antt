@@ -12,7 +12,8 @@ use Rattle.model.specs.Areas.{Compares}
 use Rattle.model.specs.Stated.{refusal}
 use Rattle.model.specs.declared.answers.Refusal.{Refusal}
 use Rattle.images.specs.Programs.{ForwardOf}
-use Rattle.services.specs.Loading.{Loaded, Images, readPair, PairLoaded}
+use Rattle.images.specs.Tables.{TableOf}
+use Rattle.services.specs.Loading.{Images, readPair, PairLoaded}
 use Rattle.services.proofs.Early.{images-early}
 use Rattle.services.proofs.Outcomes.{AsFound, still-refused, goes-on, reading-refused}
 
@@ -22,7 +23,7 @@ regrouped : {A B C : Type 0} (o : Outcome A) (f : A → Outcome B) (rest : B →
 regrouped (answered x) f rest g e = e x
 regrouped (refused n ps) f rest g e = refl
 
-pub loaded-size : {table cells : List ℕ} {size : ℕ} → Loaded table cells size → (1 ≤ size) × (size ≤ 16)
+pub loaded-size : {table cells : List ℕ} {size : ℕ} → TableOf table cells size → (1 ≤ size) × (size ≤ 16)
 loaded-size t = (omega (arith, t .of .sized, t .of .stands .some), omega (arith, t .of .sized, t .of .stands .few))
 
 module _ (table first second : List ℕ) where
@@ -31,7 +32,7 @@ module _ (table first second : List ℕ) where
   no-table r e = still-refused (readTable table) r e _
 
   -- programs under the table that was loaded
-  module _ {cells : List ℕ} {size : ℕ} (t : Loaded table cells size) where
+  module _ {cells : List ℕ} {size : ℕ} (t : TableOf table cells size) where
     sized : (image : List ℕ) → readForward (t .table .size) image ≡ readForward size image
     sized image = ap (λ i. readForward i image) (t .of .sized)
 

@@ -10,7 +10,7 @@ use Rattle.model.specs.Services.{Verdict, same-after, different-after, readForw
 use Rattle.model.specs.Areas.{begins, Compares, Listed, workspaceAfter}
 use Rattle.model.specs.Stated.{compared}
 use Rattle.model.specs.declared.answers.Compared.{Compared}
-use Rattle.checks.specs.Table.{Of}
+use Rattle.cells.specs.Stands.{Of}
 
 -- the answer area: a chain after `same`, else as it was
 abbrev pub Area : Presentation → Positive → Positive → List ℕ → List ℕ → Outcome Verdict → Type 0

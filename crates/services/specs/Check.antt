@@ -15,7 +15,7 @@ use Rattle.model.specs.Stated.{checked}
 use Rattle.model.specs.declared.answers.Checked.{Checked}
 use Rattle.theory.specs.Passages.{Passes}
 use Rattle.images.specs.Chains.{ChainOf}
-use Rattle.checks.specs.Table.{Of}
+use Rattle.cells.specs.Stands.{Of}
 use Rattle.services.specs.Loading.{Forward}
 
 pub record ForwardChain (cells : List ℕ) (size : ℕ) (first : List ℕ) (first-count : ℕ) (second : List ℕ) (second-count : ℕ) (entries : List ℕ) (entry-count : ℕ) : Type 0 where

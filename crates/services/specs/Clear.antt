@@ -13,7 +13,7 @@ use Rattle.model.specs.declared.answers.Refusal.the-variants.{CubeFails, Allowa
 use Rattle.model.specs.declared.answers.Cleared.{Cleared}
 use Rattle.model.specs.declared.answers.Cleared.the-variants.{Passed, Refused}
 use Rattle.theory.specs.Cube.{CubeMeaning}
-use Rattle.checks.specs.Table.{Of}
+use Rattle.cells.specs.Stands.{Of}
 use Rattle.checks.specs.declared.table.Triples.{Triples}
 use Rattle.checks.specs.declared.table.Triples.the-variants.{Hold, Fail, Halt}
 

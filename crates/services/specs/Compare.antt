@@ -20,9 +20,8 @@ use Rattle.model.specs.declared.answers.Compared.{Compared}
 use Rattle.model.specs.declared.answers.Compared.the-variants.{Same as SameAnswer, Different as DifferentAnswer, Refused as RefusedAnswer}
 use Rattle.theory.specs.Verdicts.{DemandThree}
 use Rattle.engine.specs.Gap.{wordAt, Searched}
-use Rattle.engine.specs.Cells.{Serves}
+use Rattle.cells.specs.Stands.{Serves, Of}
 use Rattle.engine.specs.Run.{Reverses}
-use Rattle.checks.specs.Table.{Of}
 use Rattle.services.specs.Reverse.{stopRefusal}
 use Rattle.services.specs.declared.compare.Judgement.{Judgement}
 use Rattle.services.specs.declared.compare.Judgement.the-variants.{Same, Different, Refused}

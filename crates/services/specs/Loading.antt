@@ -2,7 +2,6 @@
 use mathlib.Core.List.{List}
 use mathlib.Core.Path.{_≡_}
 use Prim.Native.Nat.{ℕ, _≤_}
-use lib.ListN.{length, getD}
 use Rattle.model.specs.Word.{Word, Positive}
 use Rattle.model.specs.Presentation.{Presentation}
 use Rattle.model.specs.Outcome.{Outcome, answered, _>>=_}
@@ -12,29 +11,10 @@ use Rattle.model.specs.Areas.{Compares}
 use Rattle.model.specs.Stated.{refusal}
 use Rattle.model.specs.declared.answers.Ending.{Ending}
 use Rattle.images.specs.Programs.{Accepted, ForwardOf}
-use Rattle.images.specs.declared.tables.TableRead.{TableRead}
-use Rattle.images.specs.declared.tables.TableRead.the-variants.{Table, Refused}
-use Rattle.engine.specs.Cells.{cellAt}
+use Rattle.cells.specs.Stands.{Of}
 use Rattle.engine.specs.Run.{Reverses}
-use Rattle.checks.specs.Table.{Of}
 use Rattle.services.specs.declared.loading.PairRead.{PairRead}
 use Rattle.services.specs.declared.loading.PairRead.the-variants.{Pair as PairAnswer, Refused as RefusedAnswer}
-
--- the cells of the first `n` letters with themselves begin with 0, and no other byte has changed
-pub record Diagonal (before after : List ℕ) (n : ℕ) : Type 0 where
-  pub same-length : length after ≡ length before
-  pub emptied : (a : ℕ) → 1 ≤ a → a ≤ n → getD after (cellAt a a) 0 ≡ 0
-  pub kept : (i : ℕ) → ((a : ℕ) → 1 ≤ a → a ≤ n → i ≡ cellAt a a → ⊥) → getD after i 0 ≡ getD before i 0
-
--- the cells stand for the table that the image holds
-pub record Loaded (image cells : List ℕ) (size : ℕ) : Type 0 where
-  pub table : Presentation
-  pub read : readTable image ≡ answered table
-  pub of : Of cells size table
-
-abbrev pub TableLoaded : List ℕ → List ℕ → TableRead → Type 0
-TableLoaded image cells (Table size) = Loaded image cells size
-TableLoaded image cells (Refused r) = readTable image ≡ refusal r
 
 -- an accepted program under cells that stand for a table
 pub record ProgramRuns (cells : List ℕ) (size : ℕ) (program : List ℕ) (count : ℕ) : Type 0 where

@@ -20,7 +20,7 @@ use Rattle.model.specs.declared.answers.Refusal.{Refusal}
 use Rattle.model.specs.declared.answers.Refusal.the-variants.{AllowanceUsed, WorkspaceShort}
 use Rattle.model.specs.declared.answers.Reversed.{Reversed}
 use Rattle.engine.specs.Run.{Reverses}
-use Rattle.checks.specs.Table.{Of}
+use Rattle.cells.specs.Stands.{Of}
 
 -- 11 and 12 of the programs
 abbrev pub stopRefusal : Stop → Refusal

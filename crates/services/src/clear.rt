@@ -4,15 +4,15 @@ ghost use lib.ListN.{length};
 ghost use Rattle.model.specs.Services.{clear};
 ghost use Rattle.model.specs.Areas.{workspaceAfter};
 ghost use Rattle.model.specs.Stated.{clearedAs};
-ghost use Rattle.checks.specs.Table.{Sized};
+ghost use Rattle.cells.specs.Stands.{Sized};
 ghost use Rattle.services.specs.Clear.{triplesRefusal, ClearMeans, ClearMeaning};
 use crate::areas::wipe;
-use crate::loading::load_table;
 use checks::table::Lengths;
 use checks::table::Triples;
 use checks::table::check_lengths;
 use checks::table::check_triples;
 use images::tables::TableRead;
+use images::tables::read_table;
 use model::answers::Cleared;
 use model::answers::Place;
 use model::answers::Refusal;
@@ -55,7 +55,7 @@ pub fn clear(table: &[u8], allowance: u16, workspace: &mut [u8]) -> Cleared
     ensures meaning { λ r. ⌜ ClearMeaning (now (table .entry)) (clearedAs r) ⌝ }
 {
     let mut cells = [0u8; 4096];
-    let read = load_table(table, &mut cells);
+    let read = read_table(table, &mut cells);
     match read {
         TableRead::Refused(refusal) => Cleared::Refused(refusal),
         TableRead::Table { size } => clear_cells(&cells, size, allowance, workspace),

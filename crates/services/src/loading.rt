@@ -1,7 +1,7 @@
 ghost use mathlib.Core.Path.{_≡_};
 ghost use lib.ListN.{length};
-ghost use Rattle.services.specs.Loading.{Diagonal, TableLoaded, PairDone, ProgramRuns, ProgramReverses};
-use engine::cells::cell_at;
+ghost use Rattle.cells.specs.Stands.{Blank};
+ghost use Rattle.services.specs.Loading.{PairDone, ProgramRuns, ProgramReverses};
 use engine::gap::Gap;
 use engine::run::reversing;
 use images::programs::ProgramRead;
@@ -19,36 +19,12 @@ pub enum PairRead {
     Refused(Refusal),
 }
 
-// Empties the cells of each letter with itself: C(a,a) is empty.
-pub(crate) fn clear_diagonal(cells: &mut [u8])
-    requires { ⌜ length (now cells) ≡ 4096 ⌝ }
-    ensures { λ r. ⌜ Diagonal (now (cells .entry)) (now (cells .exit)) 16 ⌝ }
-{
-    let mut a: u8 = 1;
-    while a <= 16 {
-        let at = cell_at(a, a);
-        cells[at] = 0;
-        a += 1;
-    }
-}
-
-// Reads a table image into cells for the engine.
-pub(crate) fn load_table(image: &[u8], cells: &mut [u8]) -> TableRead
-    requires { ⌜ length (now cells) ≡ 4096 ⌝ }
-    ensures length { λ r. ⌜ length (now (cells .exit)) ≡ length (now (cells .entry)) ⌝ }
-    ensures table { λ r. ⌜ TableLoaded (now (image .entry)) (now (cells .exit)) r ⌝ }
-{
-    let read = read_table(image, cells);
-    clear_diagonal(cells);
-    read
-}
-
-// Reads a table image into cells for the engine, then the images of two forward programs.
+// Reads a table image into cells, then the images of two forward programs.
 pub(crate) fn read_pair(table: &[u8], first: &[u8], second: &[u8], cells: &mut [u8]) -> PairRead
-    requires { ⌜ length (now cells) ≡ 4096 ⌝ }
+    requires { ⌜ Blank (now cells) ⌝ }
     ensures { λ r. ⌜ PairDone (now (table .entry)) (now (first .entry)) (now (second .entry)) (now (cells .exit)) r ⌝ }
 {
-    let read = load_table(table, cells);
+    let read = read_table(table, cells);
     match read {
         TableRead::Refused(refusal) => PairRead::Refused(refusal),
         TableRead::Table { size } => {

@@ -9,11 +9,11 @@ ghost use Rattle.services.specs.Loading.{ProgramRuns};
 ghost use Rattle.services.specs.Reverse.{stopRefusal, Finishable, AnswerOf, ProgramAnswered};
 use crate::areas::wipe;
 use crate::areas::write_fraction;
-use crate::loading::load_table;
 use crate::loading::run_program;
 use images::programs::ProgramRead;
 use images::programs::read_program;
 use images::tables::TableRead;
+use images::tables::read_table;
 use model::answers::Ending;
 use model::answers::Place;
 use model::answers::Refusal;
@@ -88,7 +88,7 @@ pub fn reverse(
     ensures workspace { λ r. ⌜ now (workspace .exit) ≡ workspaceAfter (reverse (now (table .entry)) (now (program .entry)) allowance (length (now (workspace .entry))) (length (now (answer .entry)))) (now (workspace .entry)) ⌝ }
 {
     let mut cells = [0u8; 4096];
-    let read = load_table(table, &mut cells);
+    let read = read_table(table, &mut cells);
     match read {
         TableRead::Refused(refusal) => Reversed::Refused(refusal),
         TableRead::Table { size } => {

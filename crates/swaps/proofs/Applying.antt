@@ -12,8 +12,10 @@ use lib.Seq.{drop-drop, drop-at, take-at, length-take-le}
 use Rattle.model.specs.Word.{Positive}
 use Rattle.model.specs.Presentation.{Presentation, Complement, undefined, complement, complete}
 use Rattle.model.specs.Equivalence.{Entry, equal, related, applied}
-use Rattle.engine.specs.Cells.{cellAt, InRange, Stands}
-use Rattle.engine.proofs.Rules.{Rule, open-cell, word-cell}
+use Rattle.cells.specs.Layout.{cellAt}
+use Rattle.model.specs.Range.{InRange}
+use Rattle.cells.specs.Stands.{Stands}
+use Rattle.cells.proofs.Rules.{Rule, open-cell, word-cell}
 use Rattle.model.proofs.Impossible.{impossible}
 use Rattle.swaps.proofs.Comparing.{lengths-differ}
 use Rattle.swaps.specs.Held.{heldAt, Placed}
@@ -69,7 +71,7 @@ module _ (T : Presentation) (u : Positive) (e : Entry) where
         to-count = ap (λ i. getD cells i 0) et ∙ rule .to .count
 
         pub side-fits : (to + 1 + getD cells to 0 ≤ length cells) × (getD cells to 0 ≤ 255)
-        side-fits = (omega (arith, to-count, rule .to .short, et, s .whole, s .few, ra .high, rb .high, ra .low, rb .low), omega (arith, to-count, rule .to .short))
+        side-fits = (omega (arith, to-count, rule .to .short, et, s .full, s .few, ra .high, rb .high, ra .low, rb .low), omega (arith, to-count, rule .to .short))
 
         module _ (back : ℕ) (eb : back ≡ cellAt (e .b) (e .a)) where
           back-count : getD cells back 0 ≡ length y
@@ -77,7 +79,7 @@ module _ (T : Presentation) (u : Positive) (e : Entry) where
 
           pub other-fits : (back + 1 + getD cells back 0 ≤ length cells) × (getD cells back 0 ≤ 255)
           other-fits =
-              (omega (arith, back-count, rule .from .short, eb, s .whole, s .few, ra .high, rb .high, ra .low, rb .low), omega (arith, back-count, rule .from .short))
+              (omega (arith, back-count, rule .from .short, eb, s .full, s .few, ra .high, rb .high, ra .low, rb .low), omega (arith, back-count, rule .from .short))
 
           module _ (bytes : List ℕ) (right : ℕ) (p : Placed bytes (e .offset) right) (held : heldAt bytes (e .offset) right ≡ u) where
             offset-fits : length (take (e .offset) bytes) ≡ e .offset

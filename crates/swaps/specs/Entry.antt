@@ -7,8 +7,8 @@ use lib.ListN.{length, take, drop}
 use Rattle.model.specs.Word.{Positive}
 use Rattle.model.specs.Presentation.{Presentation}
 use Rattle.model.specs.Equivalence.{Entry, applied}
-use Rattle.engine.specs.Cells.{InRange}
-use Rattle.checks.specs.Table.{Of, Sized}
+use Rattle.model.specs.Range.{InRange}
+use Rattle.cells.specs.Stands.{Of, Sized}
 use Rattle.swaps.specs.Held.{heldAt, Placed}
 use Rattle.swaps.specs.declared.entry.Applied.{Applied}
 use Rattle.swaps.specs.declared.entry.Applied.the-variants.{Word, Breaks, Short}

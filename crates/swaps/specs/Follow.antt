@@ -12,7 +12,7 @@ use Rattle.model.specs.Images.{readChain}
 use Rattle.model.specs.Services.{Passage, joins, breaks, ends-elsewhere, followed}
 use Rattle.images.specs.Chains.{ChainOf}
 use Rattle.images.specs.Programs.{ForwardOf}
-use Rattle.checks.specs.Table.{Of, Sized}
+use Rattle.cells.specs.Stands.{Of, Sized}
 use Rattle.swaps.specs.Held.{heldAt, Placed}
 use Rattle.swaps.specs.declared.follow.Followed.{Followed}
 use Rattle.swaps.specs.declared.follow.Followed.the-variants.{Ended, Breaks, Short}

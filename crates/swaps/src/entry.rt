@@ -8,7 +8,7 @@ ghost use Rattle.swaps.specs.Entry.{Applies, ReplaceMeans, ApplyMeans};
 use crate::held::carry;
 use crate::side::put_side;
 use crate::side::stands_at;
-use engine::cells::cell_at;
+use cells::layout::cell_at;
 use engine::gap::Gap;
 use images::chains::ChainEntry;
 

@@ -86,7 +86,7 @@ module _ (table program : List ℕ) where
 pub bytes-word : (n : ℕ) → n ≤ 16 → (w : Word) → All (LetterInRange n) w → bytesText (map byte w) ≡ wordText w
 unfolding bytesText wordText
 bytes-word n h [] p = refl
-bytes-word n h (forward a ∷ w) p = ap₂ _++_ (ap letterText (letter-forward a (omega (arith, p .0 .small)))) (bytes-word n h w (p .1))
+bytes-word n h (forward a ∷ w) p = ap₂ _++_ (ap letterText (letter-forward a (omega (arith, p .0 .high)))) (bytes-word n h w (p .1))
 bytes-word n h (back a ∷ w) p =
     let e : 128 + a - 128 ≡ a = omega arith in
     ap₂ _++_ (ap letterText (letter-back (128 + a) (omega arith) ∙ ap back e)) (bytes-word n h w (p .1))

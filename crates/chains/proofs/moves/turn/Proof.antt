@@ -58,7 +58,7 @@ add-next c = search needs
 add-next-2 : tie.Need-add-next-2
 add-next-2 c =
     let s = c .before .before .before .before .before .before .before .before .before in
-    omega (arith, c .before .cell-at .ensures, top-inside (s .pre .0 .1) (s .pre .1) (c .before .before .before .read-slot .result) (c .before .before .before .read-slot .ensures), count-short (s .pre .0 .1) (s .pre .1) (c .before .before .before .read-slot .result) (c .before .before .before .read-slot .ensures) (c .before .cell-at .result) (c .before .cell-at .ensures), s .pre .0 .1 .settled .stands .whole)
+    omega (arith, c .before .cell-at .ensures, top-inside (s .pre .0 .1) (s .pre .1) (c .before .before .before .read-slot .result) (c .before .before .before .read-slot .ensures), count-short (s .pre .0 .1) (s .pre .1) (c .before .before .before .read-slot .result) (c .before .before .before .read-slot .ensures) (c .before .cell-at .result) (c .before .cell-at .ensures), s .pre .0 .1 .settled .stands .full)
 
 cast-next : tie.Need-cast-next
 cast-next c = search needs

@@ -2,7 +2,7 @@
 use mathlib.Core.Path.{refl, sym, ap, subst, _∙_}
 use lib.ListN.{length, getD}
 use Rattle.model.specs.Checks.{side}
-use Rattle.engine.proofs.Rules.{open-cell}
+use Rattle.cells.proofs.Rules.{open-cell}
 use Rattle.checks.specs.Residues.{Works}
 use Rattle.checks.specs.Cube.{RightSide}
 use Rattle.checks.specs.declared.residues.Residue.the-variants.{Missing, Halted}

@@ -7,7 +7,8 @@ use Rattle.model.specs.Presentation.{Presentation}
 use Rattle.model.specs.Enumeration.{pairs}
 use Rattle.model.specs.Outcome.{_>>=_}
 use Rattle.model.specs.Checks.{lengthCheck}
-use Rattle.checks.specs.Table.{Of, row, RowMeans}
+use Rattle.cells.specs.Stands.{Of}
+use Rattle.checks.specs.Table.{row, RowMeans}
 use Rattle.checks.proofs.Remaining.{pairsFrom, pairs-begin, pairs-some, pairs-none}
 use Rattle.checks.proofs.Passing.{lengths-append, of-few}
 use Rattle.checks.proofs.table.check_lengths.Statement.{statement}

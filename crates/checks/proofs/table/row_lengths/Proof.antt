@@ -5,8 +5,9 @@ use native.Mathlib.Omega.{arith}
 use lib.ListN.{getD}
 use Rattle.model.specs.Presentation.{Presentation}
 use Rattle.model.specs.Checks.{lengthCheck}
-use Rattle.checks.specs.Table.{Of, row}
-use Rattle.engine.proofs.Rules.{inside}
+use Rattle.cells.specs.Stands.{Of}
+use Rattle.checks.specs.Table.{row}
+use Rattle.cells.proofs.Rules.{inside}
 use Rattle.checks.proofs.Remaining.{pair, rowFrom, row-begins, row-some, row-none}
 use Rattle.checks.proofs.Passing.{equal-bytes, unequal-bytes, pair-passes, pair-fails, of-range, of-few}
 use Rattle.checks.proofs.table.row_lengths.Statement.{statement}

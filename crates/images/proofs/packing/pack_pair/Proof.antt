@@ -8,7 +8,8 @@ use Rattle.model.specs.Word.{Positive}
 use Rattle.model.specs.Presentation.{Complement, complement}
 use Rattle.model.specs.Bits.{digits}
 use Rattle.model.specs.Images.{wordBits, pairBits}
-use Rattle.images.specs.Cells.{HoldsWord, cellAt}
+use Rattle.cells.specs.Stands.{HoldsWord}
+use Rattle.cells.specs.Layout.{cellAt}
 use Rattle.images.specs.Tables.{HoldsPair}
 use Rattle.images.specs.Bitwise.{AppendedTo}
 use Rattle.images.proofs.Plainly.{both-words}
@@ -20,8 +21,8 @@ use Rattle.images.proofs.packing.pack_pair.Tie as tie
 abbrev start : tie.After-shared-slice-known2 → tie.Start
 start c = c .before .before .before .before .before
 
-first-byte : (c : tie.After-shared-slice-known2) → getD (start c .args .cells .now) (cellAt (start c .args .a) (start c .args .b)) 0 ≡ getD (start c .args .cells .now) (c .before .before .cell-of .result) 0
-first-byte c = ap (λ i. getD (start c .args .cells .now) i 0) (sym (c .before .before .cell-of .ensures))
+first-byte : (c : tie.After-shared-slice-known2) → getD (start c .args .cells .now) (cellAt (start c .args .a) (start c .args .b)) 0 ≡ getD (start c .args .cells .now) (c .before .before .cell-at .result) 0
+first-byte c = ap (λ i. getD (start c .args .cells .now) i 0) (sym (c .before .before .cell-at .ensures))
 
 words : (c : tie.Else1) (pair : Complement) → HoldsPair (start (c .before) .args .size) (start (c .before) .args .cells .now) (start (c .before) .args .a) (start (c .before) .args .b) pair
     → (x : Positive) × (y : Positive) × (pair ≡ complement x y) × HoldsWord (start (c .before) .args .size) (start (c .before) .args .cells .now) (cellAt (start (c .before) .args .a) (start (c .before) .args .b)) x × HoldsWord (start (c .before) .args .size) (start (c .before) .args .cells .now) (cellAt (start (c .before) .args .b) (start (c .before) .args .a)) y
@@ -29,11 +30,11 @@ words c pair h =
     let s = start (c .before) in
     both-words (s .args .size) (s .args .cells .now) (s .args .a) (s .args .b) pair h (λ e. c .if1 .left (sym (first-byte (c .before)) ∙ e))
 
-cell-of-requires : tie.Need-cell-of-requires
-cell-of-requires c κs = search needs
+cell-at-requires : tie.Need-cell-at-requires
+cell-at-requires c κs = search needs
 
-cell-of-requires-2 : tie.Need-cell-of-requires-2
-cell-of-requires-2 c κs = search needs
+cell-at-requires-2 : tie.Need-cell-at-requires-2
+cell-at-requires-2 c κs = search needs
 
 shared-slice-read-if1 : tie.Need-shared-slice-read-if1
 shared-slice-read-if1 c = search needs
@@ -71,9 +72,9 @@ pack-word-requires c κs =
     let k = e .before in
     let s = start k in
     let w = words e (s .pre .0 .pair) (s .pre .0 .holds) in (
-      record { word = w .0; holds = subst (λ i. HoldsWord (s .args .size) (s .args .cells .now) i (w .0)) (sym (k .before .before .cell-of .ensures)) (w .3) },
+      record { word = w .0; holds = subst (λ i. HoldsWord (s .args .size) (s .args .cells .now) i (w .0)) (sym (k .before .before .cell-at .ensures)) (w .3) },
       s .pre .2,
-      omega (arith, k .before .before .cell-of .ensures, s .pre .1 .a-small, s .pre .1 .b-small, s .pre .3),
+      omega (arith, k .before .before .cell-at .ensures, s .pre .1 .0 .high, s .pre .1 .1 .high, s .pre .3),
       record { inside = omega (arith, s .pre .4 .inside, f .write-field2 .ensures .same-length); small = omega (arith, s .pre .4 .small) },
     )
 
@@ -85,9 +86,9 @@ pack-word-requires-2 c κs =
     let k = e .before in
     let s = start k in
     let w = words e (s .pre .0 .pair) (s .pre .0 .holds) in (
-      record { word = w .1; holds = subst (λ i. HoldsWord (s .args .size) (s .args .cells .now) i (w .1)) (sym (k .before .cell-of2 .ensures)) (w .4) },
+      record { word = w .1; holds = subst (λ i. HoldsWord (s .args .size) (s .args .cells .now) i (w .1)) (sym (k .before .cell-at2 .ensures)) (w .4) },
       s .pre .2,
-      omega (arith, k .before .cell-of2 .ensures, s .pre .1 .a-small, s .pre .1 .b-small, s .pre .3),
+      omega (arith, k .before .cell-at2 .ensures, s .pre .1 .0 .high, s .pre .1 .1 .high, s .pre .3),
       record { inside = omega (arith, s .pre .4 .inside, f .write-field2 .ensures .same-length, v .pack-word .ensures .1 .0, v .pack-word .ensures .1 .1); small = omega (arith, s .pre .4 .small, v .pack-word .ensures .1 .1) },
     )
 
@@ -106,8 +107,8 @@ returns-2 c =
       λ pair h.
           let w = words e pair h in
           let p = to-field o (s .args .at) 1 1 (f .write-field2 .last .0) (f .write-field2 .ensures) in
-          let x = v .pack-word .ensures .0 (w .0) (subst (λ i. HoldsWord (s .args .size) (s .args .cells .now) i (w .0)) (sym (k .before .before .cell-of .ensures)) (w .3)) in
-          let y = u .pack-word2 .ensures .0 (w .1) (subst (λ i. HoldsWord (s .args .size) (s .args .cells .now) i (w .1)) (sym (k .before .cell-of2 .ensures)) (w .4)) in
+          let x = v .pack-word .ensures .0 (w .0) (subst (λ i. HoldsWord (s .args .size) (s .args .cells .now) i (w .0)) (sym (k .before .before .cell-at .ensures)) (w .3)) in
+          let y = u .pack-word2 .ensures .0 (w .1) (subst (λ i. HoldsWord (s .args .size) (s .args .cells .now) i (w .1)) (sym (k .before .cell-at2 .ensures)) (w .4)) in
           subst (λ pair. AppendedTo o (s .args .at) (pairBits (s .args .size) pair) (u .pack-word2 .last .1 .1 .1 .1 .0) (u .pack-word2 .result)) (sym (w .2))
           (to-more o (s .args .at) (digits 1 1) (f .write-field2 .last .0) (s .args .at + 1) (wordBits (s .args .size) (w .0) ++ wordBits (s .args .size) (w .1)) (u .pack-word2 .last .1 .1 .1 .1 .0) (u .pack-word2 .result) (omega (arith, s .pre .4 .inside))
           p
@@ -123,8 +124,8 @@ pub pack-pair-spec : {M : Type 1} → statement M
 pack-pair-spec =
     tie.close
     (tie.spec
-    cell-of-requires
-    cell-of-requires-2
+    cell-at-requires
+    cell-at-requires-2
     shared-slice-read-if1
     write-field-requires
     add-result

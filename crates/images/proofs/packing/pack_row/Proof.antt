@@ -57,7 +57,7 @@ pack-pair-requires c κs =
     let l = c .before .before in
     let s = start l in (
       record { pair = getD (s .pre .0 .row) (l .loop .b - s .args .a - 1) undefined; holds = here (c .before) (s .pre .0 .row) (s .pre .0 .holds) (s .pre .0 .row-length) },
-      record { a-positive = s .pre .0 .positive; a-small = omega (arith, s .pre .0 .below, s .pre .0 .few); b-positive = omega (arith, l .loop .inv .0); b-small = omega (arith, c .before .loop-test .taken, s .pre .0 .few) },
+      (record { low = s .pre .0 .positive; high = omega (arith, s .pre .0 .below, s .pre .0 .few) }, record { low = omega (arith, l .loop .inv .0); high = omega (arith, c .before .loop-test .taken, s .pre .0 .few) }),
       s .pre .1,
       s .pre .2,
       record { inside = omega (arith, s .pre .3 .inside, l .loop .inv .2, near (c .before)); small = omega (arith, s .pre .3 .small, near (c .before)) },

@@ -7,7 +7,7 @@ use Rattle.model.specs.Word.{Positive}
 use Rattle.model.specs.Enumeration.{concatMap}
 use Rattle.model.specs.Bits.{digits}
 use Rattle.model.specs.Images.{letterBits}
-use Rattle.images.specs.Cells.{HoldsWord}
+use Rattle.cells.specs.Stands.{HoldsWord}
 use Rattle.images.specs.Bitwise.{AppendedTo}
 use Rattle.images.proofs.Packwise.{to-none, to-field, to-more, letter-in, letters-more, letters-all}
 use Rattle.images.proofs.packing.pack_word.Statement.{statement}
@@ -41,7 +41,7 @@ begun c = c .before .before .before .write-field .ensures .same-length
 near : (c : tie.In-loop Inv-loop μ-loop) → c .before .loop .next + start (byte-at (c .before)) .args .width ≤ start (byte-at (c .before)) .args .at + 64
 near c = omega (arith, c .before .loop .inv .2, c .loop-test .taken, few (byte-at (c .before)), start (byte-at (c .before)) .pre .1 .narrow)
 
-here : (c : tie.In-loop Inv-loop μ-loop) → Rattle.model.specs.Range.GeneratorInRange (start (byte-at (c .before)) .args .size) (getD (start (byte-at (c .before)) .args .cells .now) (start (byte-at (c .before)) .args .cell + 1 + c .before .loop .k) 0)
+here : (c : tie.In-loop Inv-loop μ-loop) → Rattle.model.specs.Range.InRange (start (byte-at (c .before)) .args .size) (getD (start (byte-at (c .before)) .args .cells .now) (start (byte-at (c .before)) .args .cell + 1 + c .before .loop .k) 0)
 here c =
     let s = start (byte-at (c .before)) in
     letter-in (s .args .size) (s .args .cells .now) (s .args .cell) (s .pre .0 .word) (s .pre .0 .holds) (c .before .loop .k) (omega (arith, c .loop-test .taken, s .pre .0 .holds .count))
@@ -74,10 +74,10 @@ shared-slice-read-a : tie.Need-shared-slice-read-a Inv-loop μ-loop
 shared-slice-read-a c = omega (arith, start (byte-at (c .before .before)) .pre .2, few (byte-at (c .before .before)), c .before .loop-test .taken)
 
 sub-write-field : tie.Need-sub-write-field Inv-loop μ-loop
-sub-write-field c = here (c .before .before) .positive
+sub-write-field c = here (c .before .before) .low
 
 cast-write-field-2 : tie.Need-cast-write-field-2 Inv-loop μ-loop
-cast-write-field-2 c = omega (arith, here (c .before .before) .small, start (byte-at (c .before .before .before)) .pre .1 .few)
+cast-write-field-2 c = omega (arith, here (c .before .before) .high, start (byte-at (c .before .before .before)) .pre .1 .few)
 
 write-field-requires-2 : tie.Need-write-field-requires-2 Inv-loop μ-loop
 write-field-requires-2 c κs =

@@ -4,20 +4,20 @@ use Prim.Native.Nat.{_+_, _<_}
 use native.Mathlib.Omega.{arith}
 use borrow.Author.Needs.{needs}
 use lib.ListN.{length, set, getD, length-set}
-use Rattle.images.specs.Cells.{cellAt}
+use Rattle.cells.specs.Layout.{cellAt}
 use Rattle.images.specs.Tables.{PlainWordDone, PlainPairDone}
 use Rattle.images.specs.declared.tables.TablePart.the-variants.{Next}
 use Rattle.images.proofs.Pairs.{pair-ends, plain-undefined, plain-first-refused, plain-second-ends, plain-second-done}
 use Rattle.images.proofs.plain.read_plain_pair.Statement.{statement}
 use Rattle.images.proofs.plain.read_plain_pair.Tie as tie
 
-abbrev start : tie.After-cell-of2 → tie.Start
+abbrev start : tie.After-cell-at2 → tie.Start
 start c = c .before .before .before .before .before .before
 
-inside : (c : tie.After-cell-of2) → start c .args .at < length (start c .args .plain .now)
+inside : (c : tie.After-cell-at2) → start c .args .at < length (start c .args .plain .now)
 inside c = c .before .before .before .if1 .left
 
-abbrev cells-of : tie.After-read-plain-word → tie.After-cell-of2
+abbrev cells-of : tie.After-read-plain-word → tie.After-cell-at2
 cells-of c = c .before .before .before
 
 -- what the first word's reading gives, in the cell of a, b
@@ -26,7 +26,7 @@ first-done : (c : tie.After-read-plain-word)
 first-done c =
     let s = start (cells-of c) in
     subst (λ cell. PlainWordDone (s .args .plain .now) (s .args .at + 1) (getD (s .args .plain .now) (s .args .at) 0) (s .args .size) (s .args .cells .now) cell (c .read-plain-word .last .1 .1 .1 .1 .0) (c .read-plain-word .result))
-    (cells-of c .before .cell-of .ensures) (c .read-plain-word .ensures .1)
+    (cells-of c .before .cell-at .ensures) (c .read-plain-word .ensures .1)
 
 abbrev word-of : tie.After-known-told → tie.After-read-plain-word
 word-of c = c .before .before .before .before .before
@@ -47,17 +47,17 @@ returns c =
 shared-slice-read-count : tie.Need-shared-slice-read-count
 shared-slice-read-count c = search needs
 
-cell-of-requires : tie.Need-cell-of-requires
-cell-of-requires c κs = search needs
+cell-at-requires : tie.Need-cell-at-requires
+cell-at-requires c κs = search needs
 
-cell-of-requires-2 : tie.Need-cell-of-requires-2
-cell-of-requires-2 c κs = search needs
+cell-at-requires-2 : tie.Need-cell-at-requires-2
+cell-at-requires-2 c κs = search needs
 
 slice-write-cells : tie.Need-slice-write-cells
 slice-write-cells c = search needs
 
 slice-write-cells-2 : tie.Need-slice-write-cells-2
-slice-write-cells-2 c = simp length-set (omega (arith, c .before .cell-of2 .ensures, start (c .before) .pre .1 .a-small, start (c .before) .pre .1 .b-small, start (c .before) .pre .3))
+slice-write-cells-2 c = simp length-set (omega (arith, c .before .cell-at2 .ensures, start (c .before) .pre .1 .0 .high, start (c .before) .pre .1 .1 .high, start (c .before) .pre .3))
 
 add-t17 : tie.Need-add-t17
 add-t17 c = search needs
@@ -69,8 +69,8 @@ returns-2 : tie.Need-returns-2
 returns-2 c =
     let s = start (c .before) in (
       simp length-set,
-      subst (λ j. PlainPairDone (s .args .plain .now) (s .args .at) (s .args .size) (s .args .cells .now) (s .args .a) (s .args .b) (set (set (s .args .cells .now) (c .before .before .cell-of .result) 255) j 255) (Next (s .args .at + 1))) (sym (c .before .cell-of2 .ensures))
-          (subst (λ i. PlainPairDone (s .args .plain .now) (s .args .at) (s .args .size) (s .args .cells .now) (s .args .a) (s .args .b) (set (set (s .args .cells .now) i 255) (cellAt (s .args .b) (s .args .a)) 255) (Next (s .args .at + 1))) (sym (c .before .before .cell-of .ensures))
+      subst (λ j. PlainPairDone (s .args .plain .now) (s .args .at) (s .args .size) (s .args .cells .now) (s .args .a) (s .args .b) (set (set (s .args .cells .now) (c .before .before .cell-at .result) 255) j 255) (Next (s .args .at + 1))) (sym (c .before .cell-at2 .ensures))
+          (subst (λ i. PlainPairDone (s .args .plain .now) (s .args .at) (s .args .size) (s .args .cells .now) (s .args .a) (s .args .b) (set (set (s .args .cells .now) i 255) (cellAt (s .args .b) (s .args .a)) 255) (Next (s .args .at + 1))) (sym (c .before .before .cell-at .ensures))
           (plain-undefined (s .args .plain .now) (s .args .at) (s .args .size) (s .args .cells .now) (s .args .a) (s .args .b) (s .pre .1) (s .pre .2) (s .pre .3) (inside (c .before)) (c .if2 .taken))),
     )
 
@@ -150,7 +150,7 @@ returns-6 c =
     let s = start k in (
       v .read-plain-word2 .ensures .0 ∙ w .read-plain-word .ensures .0,
       plain-second-done (s .args .plain .now) (s .args .at) (s .args .size) (s .args .cells .now) (s .args .a) (s .args .b) (s .pre .1) (s .pre .2) (s .pre .3) (inside k) (w .before .before .if2 .left) (w .read-plain-word .last .1 .1 .1 .1 .0) (t .before .next .given .0 .0) (first-read t) (e .if3 .left) (v .read-plain-word2 .last .1 .1 .1 .1 .0) (v .read-plain-word2 .result)
-          (subst (λ cell. PlainWordDone (s .args .plain .now) (t .before .next .given .0 .0 + 1) (getD (s .args .plain .now) (t .before .next .given .0 .0) 0) (s .args .size) (w .read-plain-word .last .1 .1 .1 .1 .0) cell (v .read-plain-word2 .last .1 .1 .1 .1 .0) (v .read-plain-word2 .result)) (k .cell-of2 .ensures) (v .read-plain-word2 .ensures .1)),
+          (subst (λ cell. PlainWordDone (s .args .plain .now) (t .before .next .given .0 .0 + 1) (getD (s .args .plain .now) (t .before .next .given .0 .0) 0) (s .args .size) (w .read-plain-word .last .1 .1 .1 .1 .0) cell (v .read-plain-word2 .last .1 .1 .1 .1 .0) (v .read-plain-word2 .result)) (k .cell-at2 .ensures) (v .read-plain-word2 .ensures .1)),
     )
 
 pub read-plain-pair-spec : {M : Type 1} → statement M
@@ -159,8 +159,8 @@ read-plain-pair-spec =
     (tie.spec
     returns
     shared-slice-read-count
-    cell-of-requires
-    cell-of-requires-2
+    cell-at-requires
+    cell-at-requires-2
     slice-write-cells
     slice-write-cells-2
     add-t17

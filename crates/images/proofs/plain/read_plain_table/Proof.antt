@@ -26,7 +26,7 @@ inside : (c : tie.Else2 Inv-loop μ-loop) → 0 < length (c .before .before .bef
 inside c = omega (arith, c .before .before .if1 .left)
 
 kept : (c : tie.At-loop Inv-loop μ-loop) → length (c .loop .cells) ≡ length (start c .args .cells .now)
-kept c = c .loop .inv .full ∙ sym (start c .pre)
+kept c = c .loop .inv .blank .full ∙ sym (start c .pre .full)
 
 returned : (c : tie.After-read-plain-row Inv-loop μ-loop) → length (c .read-plain-row .last .1 .1 .1 .0) ≡ length (start (c .before .before .before) .args .cells .now)
 returned c = c .read-plain-row .ensures .0 ∙ kept (c .before .before .before)
@@ -51,7 +51,7 @@ loop-holds c =
 read-plain-row-requires : tie.Need-read-plain-row-requires Inv-loop μ-loop
 read-plain-row-requires c κs =
     let l = c .before .before in
-    (record { inside = l .loop .inv .inside; some = l .before .before .if2 .left; few = l .before .if3 .left }, l .loop .inv .positive, c .before .loop-test .taken, l .loop .inv .full)
+    (record { inside = l .loop .inv .inside; some = l .before .before .if2 .left; few = l .before .if3 .left }, l .loop .inv .positive, c .before .loop-test .taken, l .loop .inv .blank .full)
 
 enum-told : tie.Need-enum-told Inv-loop μ-loop
 enum-told c = search needs

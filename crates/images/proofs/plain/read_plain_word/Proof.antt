@@ -107,7 +107,7 @@ loop-again c =
     let s = start l in
     letters-more (plainLetter (s .args .size)) (bytesFrom (s .args .plain .now)) (length (s .args .plain .now)) (s .args .at) (s .args .size) (s .args .cells .now) (s .args .cell) (s .args .count) (s .pre .1) (omega (arith, l .before .if1 .left)) (l .loop .cells) (l .loop .next) (l .loop .k) (l .loop .inv) (getD (s .args .plain .now) (l .loop .next) 0) (l .loop .next + 1) (i .loop-test .taken) (omega arith)
     (omega (arith, c .before .before .before .if2 .left))
-    (record { positive = c .before .if3 .left; small = c .if4 .left })
+    (record { low = c .before .if3 .left; high = c .if4 .left })
     (letter-read (s .args .plain .now) (l .loop .next) (s .args .size) (c .before .before .before .if2 .left) (c .before .if3 .left) (c .if4 .left))
 
 same-length-4 : tie.Need-same-length-4 Inv-loop μ-loop

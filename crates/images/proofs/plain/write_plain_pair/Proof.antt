@@ -6,7 +6,8 @@ use lib.ListN.{getD, length-set}
 use Rattle.model.specs.Word.{Positive}
 use Rattle.model.specs.Presentation.{complement}
 use Rattle.model.specs.Plain.{plainWord, plainPair}
-use Rattle.images.specs.Cells.{HoldsWord, cellAt}
+use Rattle.cells.specs.Stands.{HoldsWord}
+use Rattle.cells.specs.Layout.{cellAt}
 use Rattle.images.specs.Bytewise.{Wrote}
 use Rattle.images.proofs.Plainly.{wrote-more, undefined-wrote, both-words}
 use borrow.Author.Needs.{needs}
@@ -16,8 +17,8 @@ use Rattle.images.proofs.plain.write_plain_pair.Tie as tie
 abbrev start : tie.After-shared-slice-known2 → tie.Start
 start c = c .before .before .before .before .before
 
-first-byte : (c : tie.After-shared-slice-known2) → getD (start c .args .cells .now) (cellAt (start c .args .a) (start c .args .b)) 0 ≡ getD (start c .args .cells .now) (c .before .before .cell-of .result) 0
-first-byte c = ap (λ i. getD (start c .args .cells .now) i 0) (sym (c .before .before .cell-of .ensures))
+first-byte : (c : tie.After-shared-slice-known2) → getD (start c .args .cells .now) (cellAt (start c .args .a) (start c .args .b)) 0 ≡ getD (start c .args .cells .now) (c .before .before .cell-at .result) 0
+first-byte c = ap (λ i. getD (start c .args .cells .now) i 0) (sym (c .before .before .cell-at .ensures))
 
 words : (c : tie.Else1)
     → (x : Positive) × (y : Positive) × (start (c .before) .pre .0 .1 .pair ≡ complement x y) × HoldsWord (start (c .before) .pre .0 .0) (start (c .before) .args .cells .now) (cellAt (start (c .before) .args .a) (start (c .before) .args .b)) x × HoldsWord (start (c .before) .pre .0 .0) (start (c .before) .args .cells .now) (cellAt (start (c .before) .args .b) (start (c .before) .args .a)) y
@@ -29,13 +30,13 @@ wrote-first : (c : tie.After-write-plain-word) (size : ℕ) (x : Positive) → H
     → Wrote (start (c .before .before .before) .args .out .now) (start (c .before .before .before) .args .at) (plainWord x) (c .write-plain-word .last .1 .1 .0) (c .write-plain-word .result)
 wrote-first c size x h =
     let k = c .before .before .before in
-    c .write-plain-word .ensures .1 size x (subst (λ i. HoldsWord size (start k .args .cells .now) i x) (sym (k .before .before .cell-of .ensures)) h)
+    c .write-plain-word .ensures .1 size x (subst (λ i. HoldsWord size (start k .args .cells .now) i x) (sym (k .before .before .cell-at .ensures)) h)
 
-cell-of-requires : tie.Need-cell-of-requires
-cell-of-requires c κs = search needs
+cell-at-requires : tie.Need-cell-at-requires
+cell-at-requires c κs = search needs
 
-cell-of-requires-2 : tie.Need-cell-of-requires-2
-cell-of-requires-2 c κs = search needs
+cell-at-requires-2 : tie.Need-cell-at-requires-2
+cell-at-requires-2 c κs = search needs
 
 shared-slice-read-if1 : tie.Need-shared-slice-read-if1
 shared-slice-read-if1 c = search needs
@@ -61,8 +62,8 @@ write-plain-word-requires c κs =
     let k = c .before .before in
     let s = start k in
     let w = words (c .before) in (
-      (s .pre .0 .0, record { word = w .0; holds = subst (λ i. HoldsWord (s .pre .0 .0) (s .args .cells .now) i (w .0)) (sym (k .before .before .cell-of .ensures)) (w .3) }),
-      omega (arith, k .before .before .cell-of .ensures, s .pre .1 .a-small, s .pre .1 .b-small, s .pre .2),
+      (s .pre .0 .0, record { word = w .0; holds = subst (λ i. HoldsWord (s .pre .0 .0) (s .args .cells .now) i (w .0)) (sym (k .before .before .cell-at .ensures)) (w .3) }),
+      omega (arith, k .before .before .cell-at .ensures, s .pre .1 .0 .high, s .pre .1 .1 .high, s .pre .2),
       omega (arith, s .pre .3),
     )
 
@@ -73,8 +74,8 @@ write-plain-word-requires-2 c κs =
     let s = start k in
     let w = words (v .before .before) in
     let e = wrote-first v (s .pre .0 .0) (w .0) (w .3) in (
-      (s .pre .0 .0, record { word = w .1; holds = subst (λ i. HoldsWord (s .pre .0 .0) (s .args .cells .now) i (w .1)) (sym (k .before .cell-of2 .ensures)) (w .4) }),
-      omega (arith, k .before .cell-of2 .ensures, s .pre .1 .a-small, s .pre .1 .b-small, s .pre .2),
+      (s .pre .0 .0, record { word = w .1; holds = subst (λ i. HoldsWord (s .pre .0 .0) (s .args .cells .now) i (w .1)) (sym (k .before .cell-at2 .ensures)) (w .4) }),
+      omega (arith, k .before .cell-at2 .ensures, s .pre .1 .0 .high, s .pre .1 .1 .high, s .pre .2),
       omega (arith, s .pre .3, e .next-is, w .3 .in-range .short, v .write-plain-word .ensures .0),
     )
 
@@ -92,7 +93,7 @@ returns-2 c =
           let w = both-words size (s .args .cells .now) (s .args .a) (s .args .b) pair h (λ e. v .before .before .if1 .left (sym (first-byte k) ∙ e)) in
           let p = wrote-first v size (w .0) (w .3) in
           let q : Wrote (v .write-plain-word .last .1 .1 .0) (v .write-plain-word .result) (plainWord (w .1)) (u .write-plain-word2 .last .1 .1 .0) (u .write-plain-word2 .result) =
-          u .write-plain-word2 .ensures .1 size (w .1) (subst (λ i. HoldsWord size (s .args .cells .now) i (w .1)) (sym (k .before .cell-of2 .ensures)) (w .4)) in
+          u .write-plain-word2 .ensures .1 size (w .1) (subst (λ i. HoldsWord size (s .args .cells .now) i (w .1)) (sym (k .before .cell-at2 .ensures)) (w .4)) in
           subst (λ pair. Wrote (s .args .out .now) (s .args .at) (plainPair pair) (u .write-plain-word2 .last .1 .1 .0) (u .write-plain-word2 .result)) (sym (w .2))
           (wrote-more (s .args .out .now) (s .args .at) (plainWord (w .0)) (v .write-plain-word .last .1 .1 .0) (v .write-plain-word .result) (plainWord (w .1)) (u .write-plain-word2 .last .1 .1 .0) (u .write-plain-word2 .result)
           (omega (arith, s .pre .3, w .3 .in-range .short)) p q),
@@ -102,8 +103,8 @@ pub write-plain-pair-spec : {M : Type 1} → statement M
 write-plain-pair-spec =
     tie.close
     (tie.spec
-    cell-of-requires
-    cell-of-requires-2
+    cell-at-requires
+    cell-at-requires-2
     shared-slice-read-if1
     slice-write-out
     add-result

@@ -6,7 +6,7 @@ use lib.ListN.{length, set, getD, length-set}
 use lib.Seq.{paste, paste-zero}
 use Rattle.model.specs.Word.{Positive}
 use Rattle.model.specs.Plain.{plainWord}
-use Rattle.images.specs.Cells.{HoldsWord}
+use Rattle.cells.specs.Stands.{HoldsWord}
 use Rattle.images.specs.Bytewise.{Wrote}
 use Rattle.images.proofs.Plainly.{letter-more, word-wrote}
 use Rattle.images.proofs.plain.write_plain_word.Statement.{statement}

@@ -4,7 +4,7 @@ use Prim.Native.Nat.{_+_}
 use native.Mathlib.Omega.{arith}
 use lib.ListN.{set, length-set}
 use Rattle.images.specs.Fields.{FieldDone, FieldAt}
-use Rattle.images.specs.Cells.{cellAt}
+use Rattle.cells.specs.Layout.{cellAt}
 use Rattle.images.specs.Tables.{WordDone, WordAt, PairAt}
 use Rattle.images.proofs.Pairs.{bit-ends, cell-inside, back-inside, pair-undefined, first-refused, second-done}
 use borrow.Author.Needs.{needs}
@@ -23,7 +23,7 @@ first-at : (c : tie.After-read-word)
 first-at c =
     let s = start (c .before .before .before .before .before) in
     subst (λ cell. WordDone (s .args .image .now) (s .args .at + 1) (s .args .size) (s .args .cells .now) cell (c .read-word .last .1 .1 .1 .1 .0) (c .read-word .result))
-    (c .before .before .before .before .cell-of .ensures) (c .read-word .ensures .1)
+    (c .before .before .before .before .cell-at .ensures) (c .read-word .ensures .1)
 
 first-read : (c : tie.After-next)
     → WordAt (start (c .before .before .before .before .before .before .before .before .before) .args .image .now) (start (c .before .before .before .before .before .before .before .before .before) .args .at + 1) (start (c .before .before .before .before .before .before .before .before .before) .args .size) (start (c .before .before .before .before .before .before .before .before .before) .args .cells .now) (cellAt (start (c .before .before .before .before .before .before .before .before .before) .args .a) (start (c .before .before .before .before .before .before .before .before .before) .args .b)) (c .before .before .before .before .read-word .last .1 .1 .1 .1 .0) (c .next .given .0 .0)
@@ -47,17 +47,17 @@ returns c =
     let s = c .before .before .before .before .before in
     (refl, bit-ends (s .args .image .now) (s .args .at) (s .args .size) (subst (FieldDone (s .args .image .now) (s .args .at) 1) (c .enum-told .given .1) (c .before .before .next-field .ensures)))
 
-cell-of-requires : tie.Need-cell-of-requires
-cell-of-requires c κs = search needs
+cell-at-requires : tie.Need-cell-at-requires
+cell-at-requires c κs = search needs
 
-cell-of-requires-2 : tie.Need-cell-of-requires-2
-cell-of-requires-2 c κs = search needs
+cell-at-requires-2 : tie.Need-cell-at-requires-2
+cell-at-requires-2 c κs = search needs
 
 slice-write-cells : tie.Need-slice-write-cells
 slice-write-cells c = search needs
 
 slice-write-cells-2 : tie.Need-slice-write-cells-2
-slice-write-cells-2 c = simp length-set (omega (arith, c .before .cell-of2 .ensures, start (c .before .before .before) .pre .1 .a-small, start (c .before .before .before) .pre .1 .b-small, start (c .before .before .before) .pre .3))
+slice-write-cells-2 c = simp length-set (omega (arith, c .before .cell-at2 .ensures, start (c .before .before .before) .pre .1 .0 .high, start (c .before .before .before) .pre .1 .1 .high, start (c .before .before .before) .pre .3))
 
 add-t16 : tie.Need-add-t16
 add-t16 c = search needs
@@ -69,8 +69,8 @@ returns-2 : tie.Need-returns-2
 returns-2 c =
     let s = start (c .before .before .before) in (
       simp length-set,
-      subst (λ j. PairAt (s .args .image .now) (s .args .at) (s .args .size) (s .args .cells .now) (s .args .a) (s .args .b) (set (set (s .args .cells .now) (c .before .before .cell-of .result) 255) j 255) (s .args .at + 1)) (sym (c .before .cell-of2 .ensures))
-          (subst (λ i. PairAt (s .args .image .now) (s .args .at) (s .args .size) (s .args .cells .now) (s .args .a) (s .args .b) (set (set (s .args .cells .now) i 255) (cellAt (s .args .b) (s .args .a)) 255) (s .args .at + 1)) (sym (c .before .before .cell-of .ensures))
+      subst (λ j. PairAt (s .args .image .now) (s .args .at) (s .args .size) (s .args .cells .now) (s .args .a) (s .args .b) (set (set (s .args .cells .now) (c .before .before .cell-at .result) 255) j 255) (s .args .at + 1)) (sym (c .before .cell-at2 .ensures))
+          (subst (λ i. PairAt (s .args .image .now) (s .args .at) (s .args .size) (s .args .cells .now) (s .args .a) (s .args .b) (set (set (s .args .cells .now) i 255) (cellAt (s .args .b) (s .args .a)) 255) (s .args .at + 1)) (sym (c .before .before .cell-at .ensures))
           (pair-undefined (s .args .image .now) (s .args .at) (s .args .size) (s .args .cells .now) (s .args .a) (s .args .b) (s .pre .1) (s .pre .2) (s .pre .3) (c .before .before .before .before .bit .given .0 .0) (bit-at (c .before .before .before)) (c .if1 .taken))),
     )
 
@@ -83,7 +83,7 @@ read-word-requires c κs =
     let s = start (e .before .before .before) in
     let p = s .pre .0 in (
       record { inside = bit-at (e .before .before .before) .inside; small = omega (arith, s .pre .4); some = p .some; few = p .few; narrow = p .narrow; width-is = p .width-is },
-      omega (arith, e .before .before .cell-of .ensures, cell-inside (s .args .size) (s .args .cells .now) (s .args .a) (s .args .b) (s .pre .1) (s .pre .2) (s .pre .3), s .pre .3),
+      omega (arith, e .before .before .cell-at .ensures, cell-inside (s .args .size) (s .args .cells .now) (s .args .a) (s .args .b) (s .pre .1) (s .pre .2) (s .pre .3), s .pre .3),
     )
 
 enum-told-2 : tie.Need-enum-told-2
@@ -103,7 +103,7 @@ read-word-requires-2 c κs =
     let s = start k in
     let p = s .pre .0 in (
       record { inside = first-read n .position .inside; small = omega (arith, s .pre .4, first-read n .position .near); some = p .some; few = p .few; narrow = p .narrow; width-is = p .width-is },
-      omega (arith, w .before .before .before .cell-of2 .ensures, back-inside (s .args .size) (s .args .cells .now) (s .args .a) (s .args .b) (s .pre .1) (s .pre .2) (s .pre .3), s .pre .3, w .read-word .ensures .0),
+      omega (arith, w .before .before .before .cell-at2 .ensures, back-inside (s .args .size) (s .args .cells .now) (s .args .a) (s .args .b) (s .pre .1) (s .pre .2) (s .pre .3), s .pre .3, w .read-word .ensures .0),
     )
 
 same-length-2 : tie.Need-same-length-2
@@ -144,7 +144,7 @@ returns-5 c =
     let s = start k in (
       v .read-word2 .ensures .0 ∙ w .read-word .ensures .0,
       second-done (s .args .image .now) (s .args .at) (s .args .size) (s .args .cells .now) (s .args .a) (s .args .b) (s .pre .1) (s .pre .2) (s .pre .3) (k .before .bit .given .0 .0) (bit-at k) (w .before .before .if1 .left) (w .read-word .last .1 .1 .1 .1 .0) (n .next .given .0 .0) (first-read n) (v .read-word2 .last .1 .1 .1 .1 .0) (v .read-word2 .result)
-          (subst (λ cell. WordDone (s .args .image .now) (n .next .given .0 .0) (s .args .size) (w .read-word .last .1 .1 .1 .1 .0) cell (v .read-word2 .last .1 .1 .1 .1 .0) (v .read-word2 .result)) (w .before .before .before .cell-of2 .ensures) (v .read-word2 .ensures .1)),
+          (subst (λ cell. WordDone (s .args .image .now) (n .next .given .0 .0) (s .args .size) (w .read-word .last .1 .1 .1 .1 .0) cell (v .read-word2 .last .1 .1 .1 .1 .0) (v .read-word2 .result)) (w .before .before .before .cell-at2 .ensures) (v .read-word2 .ensures .1)),
     )
 
 pub read-pair-spec : {M : Type 1} → statement M
@@ -155,8 +155,8 @@ read-pair-spec =
     enum-known-bit
     enum-told
     returns
-    cell-of-requires
-    cell-of-requires-2
+    cell-at-requires
+    cell-at-requires-2
     slice-write-cells
     slice-write-cells-2
     add-t16

@@ -28,7 +28,7 @@ near : (c : tie.At-loop Inv-loop μ-loop) → c .loop .at ≤ 65536
 near c = omega (arith, c .loop .inv .near, c .loop .inv .some-left, head-at (c .before .before) .small)
 
 kept : (c : tie.At-loop Inv-loop μ-loop) → length (c .loop .cells) ≡ length (start (c .before .before) .args .cells .now)
-kept c = c .loop .inv .full ∙ sym (start (c .before .before) .pre)
+kept c = c .loop .inv .blank .full ∙ sym (start (c .before .before) .pre .full)
 
 returned : (c : tie.After-read-row Inv-loop μ-loop) → length (c .read-row .last .1 .1 .1 .1 .0) ≡ length (start (c .before .before .before .before .before) .args .cells .now)
 returned c = c .read-row .ensures .0 ∙ kept (c .before .before .before)
@@ -76,7 +76,7 @@ read-row-requires c κs =
       },
       l .loop .inv .positive,
       c .before .loop-test .taken,
-      l .loop .inv .full,
+      l .loop .inv .blank .full,
       omega (arith, near l),
     )
 

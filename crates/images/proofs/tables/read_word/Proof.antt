@@ -129,7 +129,7 @@ loop-again c =
     let s = start (l .before) in
     let t : LetterAt (s .args .image .now) (l .loop .next) (s .args .size) (s .args .width) (c .before .a .given .0 .0) =
     subst (LetterDone (s .args .image .now) (l .loop .next) (s .args .size) (s .args .width)) (c .before .a .given .1) (c .before .before .before .next-letter .ensures) in
-    letters-more (letterField 1 2 (s .args .size)) (from (s .args .image .now)) (8 * length (s .args .image .now)) (s .args .at + 4) (s .args .size) (s .args .cells .now) (s .args .cell) (l .before .before .value .given .0 .0) (s .pre .1) (length-at (l .before) .small) (l .loop .cells) (l .loop .next) (l .loop .k) (l .loop .inv) (c .before .a .given .0 .0) (l .loop .next + s .args .width) (c .before .before .before .before .loop-test .taken) (omega (arith, s .pre .0 .narrow)) (t .inside) (record { positive = t .positive; small = t .small }) (t .read 1 2)
+    letters-more (letterField 1 2 (s .args .size)) (from (s .args .image .now)) (8 * length (s .args .image .now)) (s .args .at + 4) (s .args .size) (s .args .cells .now) (s .args .cell) (l .before .before .value .given .0 .0) (s .pre .1) (length-at (l .before) .small) (l .loop .cells) (l .loop .next) (l .loop .k) (l .loop .inv) (c .before .a .given .0 .0) (l .loop .next + s .args .width) (c .before .before .before .before .loop-test .taken) (omega (arith, s .pre .0 .narrow)) (t .inside) (record { low = t .positive; high = t .small }) (t .read 1 2)
 
 same-length-3 : tie.Need-same-length-3 Inv-loop μ-loop
 same-length-3 c =

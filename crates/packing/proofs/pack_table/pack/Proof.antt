@@ -3,6 +3,7 @@ use mathlib.Core.Path.{_≡_, refl, sym, ap, subst, _∙_}
 use mathlib.Core.List.{List, _++_}
 use Prim.Native.Nat.{ℕ, _-_, _≤_}
 use native.Mathlib.Omega.{arith}
+use Rattle.cells.proofs.Rules.{blank-zeros}
 use borrow.Author.Needs.{needs}
 use lib.ListN.{length, take, drop}
 use Rattle.model.specs.declared.answers.Refusal.the-variants.{AnswerShort}
@@ -34,7 +35,7 @@ abbrev told : tie.After-pack-cells → tie.After-known-told2
 told c = c .before .before .before
 
 image-is : (c : tie.After-known-told2) → tableImage (table-of c .table) ≡ pack (bits c)
-image-is c = table-image (table-of c .table) (c .before .size .given .0 .0) (table-of c .size-is)
+image-is c = table-image (table-of c .table) (c .before .size .given .0 .0) (table-of c .of .sized)
 
 bits-length : (c : tie.After-pack-cells) → c .pack-cells .result ≡ length (bits (told c))
 bits-length c = c .pack-cells .ensures .0 (table-of (told c) .table .rows) (table-of (told c) .listed) .next-is ∙ omega arith
@@ -58,7 +59,7 @@ slice-aggregate-read-plain-table : tie.Need-slice-aggregate-read-plain-table
 slice-aggregate-read-plain-table c = search needs
 
 read-plain-table-requires : tie.Need-read-plain-table-requires
-read-plain-table-requires c κs = search needs
+read-plain-table-requires c κs = blank-zeros
 
 enum-known-refusal : tie.Need-enum-known-refusal
 enum-known-refusal c = search needs
@@ -75,8 +76,8 @@ slice-aggregate-pack-cells-2 c = search needs
 pack-cells-requires : tie.Need-pack-cells-requires
 pack-cells-requires c κs =
     let t = table-of (c .before .before) in (
-      record { some = subst (λ n. 1 ≤ n) (t .size-is) (t .stands .some); few = subst (λ n. n ≤ 16) (t .size-is) (t .stands .few); rows = t .table .rows; listed = t .listed },
-      t .stands .full,
+      record { some = subst (λ n. 1 ≤ n) (t .of .sized) (t .of .stands .some); few = subst (λ n. n ≤ 16) (t .of .sized) (t .of .stands .few); rows = t .table .rows; listed = t .listed },
+      t .of .stands .full,
       refl,
     )
 

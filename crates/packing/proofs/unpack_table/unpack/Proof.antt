@@ -12,6 +12,7 @@ use Rattle.model.specs.Services.{unpackTable}
 use Rattle.images.specs.Tables.{TableDone, TableOf}
 use Rattle.packing.proofs.Packing.{refused-keeps, answered-writes, short-area, long-area, table-refused, table-read, plain-bytes, taken-first}
 use Rattle.packing.proofs.ReadBack.{plain-table-back}
+use Rattle.cells.proofs.Rules.{blank-zeros}
 use borrow.Author.Needs.{needs}
 use Rattle.packing.proofs.unpack_table.unpack.Statement.{statement}
 use Rattle.packing.proofs.unpack_table.unpack.Tie as tie
@@ -27,19 +28,19 @@ bytes-taken c =
     let t = table-of (c .before .before .before) in
     taken-first _ (c .before .before .before .before .size .given .0 .0 ∷ concatMap (concatMap plainPair) (t .table .rows)) (c .write-plain-table .last .1 .1 .0) (c .write-plain-table .result)
     (c .write-plain-table .ensures .1 .0 (t .table .rows) (t .listed))
-    ∙ plain-bytes (t .table) (c .before .before .before .before .size .given .0 .0) (t .size-is)
+    ∙ plain-bytes (t .table) (c .before .before .before .before .size .given .0 .0) (t .of .sized)
 
 bytes-length : (c : tie.After-write-plain-table) → length (plainTable (table-of (c .before .before .before) .table)) ≡ c .write-plain-table .result
 bytes-length c =
     let t = table-of (c .before .before .before) in
     let w = c .write-plain-table .ensures .1 .0 (t .table .rows) (t .listed) in
-    ap length (sym (plain-bytes (t .table) (c .before .before .before .before .size .given .0 .0) (t .size-is))) ∙ omega (arith, w .next-is)
+    ap length (sym (plain-bytes (t .table) (c .before .before .before .before .size .given .0 .0) (t .of .sized))) ∙ omega (arith, w .next-is)
 
 slice-aggregate-read-table : tie.Need-slice-aggregate-read-table
 slice-aggregate-read-table c = search needs
 
 read-table-requires : tie.Need-read-table-requires
-read-table-requires c κs = search needs
+read-table-requires c κs = blank-zeros
 
 enum-known-refusal : tie.Need-enum-known-refusal
 enum-known-refusal c = search needs
@@ -57,8 +58,8 @@ write-plain-table-requires : tie.Need-write-plain-table-requires
 write-plain-table-requires c κs =
     let k = c .before .before in
     let t = table-of k in (
-      record { some = subst (λ n. 1 ≤ n) (t .size-is) (t .stands .some); few = subst (λ n. n ≤ 16) (t .size-is) (t .stands .few); rows = t .table .rows; listed = t .listed },
-      t .stands .full,
+      record { some = subst (λ n. 1 ≤ n) (t .of .sized) (t .of .stands .some); few = subst (λ n. n ≤ 16) (t .of .sized) (t .of .stands .few); rows = t .table .rows; listed = t .listed },
+      t .of .stands .full,
       refl,
     )
 

@@ -5,6 +5,7 @@ use Rattle.model.specs.Areas.{workspaceAfter}
 use Rattle.model.specs.Stated.{compared}
 use Rattle.services.specs.Loading.{PairDone}
 use Rattle.services.proofs.ChainService.{chain-refused, chain-runs, chain-means, area-refused, area-listed, listed-checks}
+use Rattle.cells.proofs.Rules.{blank-zeros}
 use borrow.Author.Needs.{needs}
 use Rattle.services.proofs.chain.chain.Statement.{statement}
 use Rattle.services.proofs.chain.chain.Tie as tie
@@ -13,7 +14,7 @@ slice-aggregate-read-pair : tie.Need-slice-aggregate-read-pair
 slice-aggregate-read-pair c = search needs
 
 read-pair-requires : tie.Need-read-pair-requires
-read-pair-requires c κs = search needs
+read-pair-requires c κs = blank-zeros
 
 enum-known-read : tie.Need-enum-known-read
 enum-known-read c = search needs

@@ -8,7 +8,7 @@ use Rattle.model.specs.Checks.{cleared}
 use Rattle.model.specs.Services.{Verdict}
 use Rattle.model.specs.Areas.{workspaceAfter}
 use Rattle.model.specs.Stated.{clearedAs}
-use Rattle.checks.specs.Table.{Of}
+use Rattle.cells.specs.Stands.{Of}
 use Rattle.services.specs.Compare.{judgementAs, Judged}
 use Rattle.services.proofs.Early.{refusal-same}
 use Rattle.services.proofs.Comparing.{comparison-refused, unequal-programs, equal-programs, judged-wipe}

@@ -1,14 +1,14 @@
 -- `services::loading::read_pair` meets its contract.
 use mathlib.Core.Path.{subst}
 use Rattle.images.specs.Programs.{ForwardDone}
-use Rattle.services.specs.Loading.{TableLoaded}
+use Rattle.images.specs.Tables.{TableDone}
 use Rattle.services.proofs.Reading.{loaded-size, no-table, no-first, no-second, pair-loaded}
 use borrow.Author.Needs.{needs}
 use Rattle.services.proofs.loading.read_pair.Statement.{statement}
 use Rattle.services.proofs.loading.read_pair.Tie as tie
 
-load-table-requires : tie.Need-load-table-requires
-load-table-requires c κs = search needs
+read-table-requires : tie.Need-read-table-requires
+read-table-requires c κs = search needs
 
 enum-known-read : tie.Need-enum-known-read
 enum-known-read c = search needs
@@ -19,8 +19,8 @@ enum-known-read-2 c = search needs
 read-forward-requires : tie.Need-read-forward-requires
 read-forward-requires c κs =
     let a = c .before .before .before .before .before .before .before .before .before .before .before .args in
-    let v = c .before .before .before .before .before .load-table in
-    let t = subst (TableLoaded (a .table .now) (v .last .1 .0)) (c .before .read2 .given .1) (v .ensures .1) in
+    let v = c .before .before .before .before .before .read-table in
+    let t = subst (TableDone (a .table .now) (v .last .1 .0)) (c .before .read2 .given .1) (v .ensures .1) in
     loaded-size t
 
 enum-known-one : tie.Need-enum-known-one
@@ -32,8 +32,8 @@ enum-known-one-2 c = search needs
 read-forward-requires-2 : tie.Need-read-forward-requires-2
 read-forward-requires-2 c κs =
     let a = c .before .before .before .before .before .before .before .before .before .before .before .before .before .before .before .args in
-    let v = c .before .before .before .before .before .before .before .before .before .load-table in
-    let t = subst (TableLoaded (a .table .now) (v .last .1 .0)) (c .before .before .before .before .before .read2 .given .1) (v .ensures .1) in
+    let v = c .before .before .before .before .before .before .before .before .before .read-table in
+    let t = subst (TableDone (a .table .now) (v .last .1 .0)) (c .before .before .before .before .before .read2 .given .1) (v .ensures .1) in
     loaded-size t
 
 enum-known-two : tie.Need-enum-known-two
@@ -48,8 +48,8 @@ same-length c = search needs
 returns : tie.Need-returns
 returns c =
     let a = c .before .before .before .before .before .before .before .before .before .before .before .args in
-    let v = c .before .before .before .before .before .load-table in
-    let e = subst (TableLoaded (a .table .now) (v .last .1 .0)) (c .before .read .given .1) (v .ensures .1) in
+    let v = c .before .before .before .before .before .read-table in
+    let e = subst (TableDone (a .table .now) (v .last .1 .0)) (c .before .read .given .1) (v .ensures .1) in
     no-table (a .table .now) (a .first .now) (a .second .now) (c .before .read .given .0 .0) e
 
 same-length-2 : tie.Need-same-length-2
@@ -58,9 +58,9 @@ same-length-2 c = search needs
 returns-2 : tie.Need-returns-2
 returns-2 c =
     let a = c .before .before .before .before .before .before .before .before .before .before .before .before .before .before .before .args in
-    let v = c .before .before .before .before .before .before .before .before .before .load-table in
+    let v = c .before .before .before .before .before .before .before .before .before .read-table in
     let size = c .before .before .before .before .before .read2 .given .0 .0 in
-    let t = subst (TableLoaded (a .table .now) (v .last .1 .0)) (c .before .before .before .before .before .read2 .given .1) (v .ensures .1) in
+    let t = subst (TableDone (a .table .now) (v .last .1 .0)) (c .before .before .before .before .before .read2 .given .1) (v .ensures .1) in
     let e = subst (ForwardDone (a .first .now) size) (c .before .one .given .1) (c .before .before .before .read-forward .ensures) in
     no-first (a .table .now) (a .first .now) (a .second .now) t (c .before .one .given .0 .0) e
 
@@ -70,9 +70,9 @@ same-length-3 c = search needs
 returns-3 : tie.Need-returns-3
 returns-3 c =
     let a = c .before .before .before .before .before .before .before .before .before .before .before .before .before .before .before .before .before .before .before .args in
-    let v = c .before .before .before .before .before .before .before .before .before .before .before .before .before .load-table in
+    let v = c .before .before .before .before .before .before .before .before .before .before .before .before .before .read-table in
     let size = c .before .before .before .before .before .before .before .before .before .read2 .given .0 .0 in
-    let t = subst (TableLoaded (a .table .now) (v .last .1 .0)) (c .before .before .before .before .before .before .before .before .before .read2 .given .1) (v .ensures .1) in
+    let t = subst (TableDone (a .table .now) (v .last .1 .0)) (c .before .before .before .before .before .before .before .before .before .read2 .given .1) (v .ensures .1) in
     let one = subst (ForwardDone (a .first .now) size) (c .before .before .before .before .before .one2 .given .1) (c .before .before .before .before .before .before .before .read-forward .ensures) in
     let e = subst (ForwardDone (a .second .now) size) (c .before .two .given .1) (c .before .before .before .read-forward2 .ensures) in
     no-second (a .table .now) (a .first .now) (a .second .now) t one (c .before .two .given .0 .0) e
@@ -83,9 +83,9 @@ same-length-4 c = search needs
 returns-4 : tie.Need-returns-4
 returns-4 c =
     let a = c .before .before .before .before .before .before .before .before .before .before .before .before .before .before .before .before .before .before .before .args in
-    let v = c .before .before .before .before .before .before .before .before .before .before .before .before .before .load-table in
+    let v = c .before .before .before .before .before .before .before .before .before .before .before .before .before .read-table in
     let size = c .before .before .before .before .before .before .before .before .before .read2 .given .0 .0 in
-    let t = subst (TableLoaded (a .table .now) (v .last .1 .0)) (c .before .before .before .before .before .before .before .before .before .read2 .given .1) (v .ensures .1) in
+    let t = subst (TableDone (a .table .now) (v .last .1 .0)) (c .before .before .before .before .before .before .before .before .before .read2 .given .1) (v .ensures .1) in
     let one = subst (ForwardDone (a .first .now) size) (c .before .before .before .before .before .one2 .given .1) (c .before .before .before .before .before .before .before .read-forward .ensures) in
     let two = subst (ForwardDone (a .second .now) size) (c .before .two2 .given .1) (c .before .before .before .read-forward2 .ensures) in
     pair-loaded (a .table .now) (a .first .now) (a .second .now) t one two
@@ -94,7 +94,7 @@ pub read-pair-spec : {M : Type 1} → statement M
 read-pair-spec =
     tie.close
     (tie.spec
-    load-table-requires
+    read-table-requires
     enum-known-read
     enum-known-read-2
     read-forward-requires

@@ -6,7 +6,7 @@ use lib.ListN.{length}
 use Rattle.model.specs.Presentation.{Presentation}
 use Rattle.images.proofs.RoundTrip.{program-in-range}
 use Rattle.engine.specs.Gap.{wordAt, Searched}
-use Rattle.engine.specs.Cells.{Serves}
+use Rattle.cells.specs.Stands.{Serves}
 use Rattle.engine.specs.Run.{Reverses}
 use Rattle.services.proofs.Programs.{too-long, word-searched, word-served, word-reverses}
 use borrow.Author.Needs.{needs}

@@ -8,20 +8,21 @@ use Rattle.model.specs.Images.{readTable, readProgram}
 use Rattle.model.specs.Areas.{fractionBytes, outputAfter, workspaceAfter}
 use Rattle.model.specs.Stated.{sizes, refusal}
 use Rattle.images.specs.Programs.{ProgramDone}
-use Rattle.services.specs.Loading.{TableLoaded}
+use Rattle.images.specs.Tables.{TableDone}
 use Rattle.services.proofs.Early.{table-early, program-early}
 use Rattle.services.proofs.Outcomes.{refused-stated, refused-output, refused-workspace}
 use Rattle.services.proofs.Answers.{zero-after}
 use Rattle.services.proofs.ReverseService.{reverse-no-table, reverse-no-program, reverse-runs}
+use Rattle.cells.proofs.Rules.{blank-zeros}
 use borrow.Author.Needs.{needs}
 use Rattle.services.proofs.reverse.reverse.Statement.{statement}
 use Rattle.services.proofs.reverse.reverse.Tie as tie
 
-slice-aggregate-load-table : tie.Need-slice-aggregate-load-table
-slice-aggregate-load-table c = search needs
+slice-aggregate-read-table : tie.Need-slice-aggregate-read-table
+slice-aggregate-read-table c = search needs
 
-load-table-requires : tie.Need-load-table-requires
-load-table-requires c κs = search needs
+read-table-requires : tie.Need-read-table-requires
+read-table-requires c κs = blank-zeros
 
 enum-known-read : tie.Need-enum-known-read
 enum-known-read c = search needs
@@ -32,8 +33,8 @@ enum-known-read-2 c = search needs
 read-program-requires : tie.Need-read-program-requires
 read-program-requires c κs =
     let s = c .before .before .before .before .before .before .before .before .before .before in
-    let v = c .before .before .before .before .load-table in
-    let t = subst (TableLoaded (s .args .table .now) (v .last .1 .0)) (c .before .read2 .given .1) (v .ensures .1) in
+    let v = c .before .before .before .before .read-table in
+    let t = subst (TableDone (s .args .table .now) (v .last .1 .0)) (c .before .read2 .given .1) (v .ensures .1) in
     (omega (arith, t .of .sized, t .of .stands .some), omega (arith, t .of .sized, t .of .stands .few))
 
 enum-known-accepted : tie.Need-enum-known-accepted
@@ -48,25 +49,25 @@ slice-aggregate-reverse-program c = search needs
 reverse-program-requires : tie.Need-reverse-program-requires
 reverse-program-requires c κs =
     let s = c .before .before .before .before .before .before .before .before .before .before .before .before .before .before .before .before .before in
-    let v = c .before .before .before .before .before .before .before .before .before .before .before .load-table in
-    let t = subst (TableLoaded (s .args .table .now) (v .last .1 .0)) (c .before .before .before .before .before .before .before .before .read2 .given .1) (v .ensures .1) in
+    let v = c .before .before .before .before .before .before .before .before .before .before .before .read-table in
+    let t = subst (TableDone (s .args .table .now) (v .last .1 .0)) (c .before .before .before .before .before .before .before .before .read2 .given .1) (v .ensures .1) in
     let q = subst (ProgramDone (s .args .program .now) (c .before .before .before .before .before .before .before .before .read2 .given .0 .0)) (c .before .before .before .before .accepted2 .given .1) (c .before .before .before .before .before .before .read-program .ensures) in
     record { table = t .table; of = t .of; accepted = record { some = omega (arith, t .of .sized, t .of .stands .some); few = omega (arith, t .of .sized, t .of .stands .few); program = q } }
 
 returns : tie.Need-returns
 returns c =
     let s = c .before .before .before .before .before .before .before .before .before .before in
-    let v = c .before .before .before .before .load-table in
+    let v = c .before .before .before .before .read-table in
     let r = c .before .read .given .0 .0 in
-    let e = subst (TableLoaded (s .args .table .now) (v .last .1 .0)) (c .before .read .given .1) (v .ensures .1) in
+    let e = subst (TableDone (s .args .table .now) (v .last .1 .0)) (c .before .read .given .1) (v .ensures .1) in
     let o = reverse-no-table (s .args .table .now) (s .args .program .now) (s .args .allowance) (length (s .args .workspace .now)) (length (s .args .answer .now)) r e in
     (refused-stated _ r o sizes, (refused-output _ r o fractionBytes (s .args .answer .now), refused-workspace _ r o (readTable (s .args .table .now)) 3 e (table-early (s .args .table .now)) (omega arith) (s .args .workspace .now)))
 
 returns-2 : tie.Need-returns-2
 returns-2 c =
     let s = c .before .before .before .before .before .before .before .before .before .before .before .before .before .before in
-    let v = c .before .before .before .before .before .before .before .before .load-table in
-    let t = subst (TableLoaded (s .args .table .now) (v .last .1 .0)) (c .before .before .before .before .before .read2 .given .1) (v .ensures .1) in
+    let v = c .before .before .before .before .before .before .before .before .read-table in
+    let t = subst (TableDone (s .args .table .now) (v .last .1 .0)) (c .before .before .before .before .before .read2 .given .1) (v .ensures .1) in
     let r = c .before .accepted .given .0 .0 in
     let q : readProgram (c .before .before .before .before .before .read2 .given .0 .0) (s .args .program .now) ≡ refusal r = subst (ProgramDone (s .args .program .now) (c .before .before .before .before .before .read2 .given .0 .0)) (c .before .accepted .given .1) (c .before .before .before .read-program .ensures) in
     let e : readProgram (t .table .size) (s .args .program .now) ≡ refusal r = ap (λ n. readProgram n (s .args .program .now)) (t .of .sized) ∙ q in
@@ -82,8 +83,8 @@ same-length-2 c = search needs
 returns-3 : tie.Need-returns-3
 returns-3 c =
     let s = c .before .before .before .before .before .before .before .before .before .before .before .before .before .before .before .before .before .before .before .before .before .before in
-    let v = c .before .before .before .before .before .before .before .before .before .before .before .before .before .before .before .before .load-table in
-    let t = subst (TableLoaded (s .args .table .now) (v .last .1 .0)) (c .before .before .before .before .before .before .before .before .before .before .before .before .before .read2 .given .1) (v .ensures .1) in
+    let v = c .before .before .before .before .before .before .before .before .before .before .before .before .before .before .before .before .read-table in
+    let t = subst (TableDone (s .args .table .now) (v .last .1 .0)) (c .before .before .before .before .before .before .before .before .before .before .before .before .before .read2 .given .1) (v .ensures .1) in
     let q = subst (ProgramDone (s .args .program .now) (c .before .before .before .before .before .before .before .before .before .before .before .before .before .read2 .given .0 .0)) (c .before .before .before .before .before .before .before .before .before .accepted2 .given .1) (c .before .before .before .before .before .before .before .before .before .before .before .read-program .ensures) in
     let e = ap (λ n. readProgram n (s .args .program .now)) (t .of .sized) ∙ q .read in
     let o = reverse-runs (s .args .table .now) (s .args .program .now) (s .args .allowance) (length (s .args .workspace .now)) (length (s .args .answer .now)) (t .table) (t .read) (q .word) e in
@@ -100,8 +101,8 @@ pub reverse-spec : {M : Type 1} → statement M
 reverse-spec =
     tie.close
     (tie.spec
-    slice-aggregate-load-table
-    load-table-requires
+    slice-aggregate-read-table
+    read-table-requires
     enum-known-read
     enum-known-read-2
     read-program-requires

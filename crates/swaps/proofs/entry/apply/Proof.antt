@@ -3,7 +3,7 @@ use mathlib.Core.Path.{refl, sym, subst, _∙_}
 use Prim.Native.Nat.{_+_}
 use native.Mathlib.Omega.{arith}
 use borrow.Author.Tests.{not-true, not-false}
-use Rattle.engine.specs.Cells.{InRange}
+use Rattle.model.specs.Range.{InRange}
 use Rattle.images.specs.Chains.{entryOf}
 use Rattle.swaps.specs.Held.{heldAt}
 use Rattle.swaps.proofs.Applying.{held-length, same-breaks, open-breaks, past-breaks, side-fits, other-fits, no-fit-breaks, fit-leads, fit-inside}

@@ -11,12 +11,12 @@ use Rattle.model.specs.Equivalence.{Entry}
 use Rattle.model.specs.Outcome.{answered}
 use Rattle.model.specs.Images.{readChain}
 use Rattle.model.specs.Services.{followed}
-use Rattle.checks.specs.Table.{Of}
+use Rattle.cells.specs.Stands.{Of}
+use Rattle.model.specs.Range.{InRange}
 use Rattle.swaps.specs.Held.{heldAt, Placed}
 use Rattle.bits.proofs.Width.{width-small}
 use Rattle.images.specs.Chains.{entryOf}
 use Rattle.images.proofs.RoundTrip.{chain-in-range}
-use Rattle.engine.specs.Cells.{InRange}
 use Rattle.swaps.specs.Entry.{AppliedAs}
 use Rattle.swaps.specs.declared.entry.Applied.the-variants.{Word, Breaks, Short}
 use Rattle.swaps.proofs.Applying.{held-length}
@@ -64,7 +64,7 @@ apply-requires c κs =
     let f = s .pre .entries in
     let z = c .before .entry-at .ensures (f .entries) (f .read) in
     let q = entry-in-range (s .args .size) (f .entries) (l .i) (omega (arith, f .count-is, c .before .before .loop-test .taken)) (chain-in-range (s .args .size) (omega (arith, o .sized, o .stands .few)) (s .args .chain .now) (f .entries) (f .read) .entries) in
-    record { placed = l .inv .0; sized = s .pre .sized; a-names = subst (λ e. InRange (s .args .size) (e .a)) (sym z) (record { low = q .a-names .positive; high = q .a-names .small }); b-names = subst (λ e. InRange (s .args .size) (e .b)) (sym z) (record { low = q .b-names .positive; high = q .b-names .small }) }
+    record { placed = l .inv .0; sized = s .pre .sized; a-names = subst (λ e. InRange (s .args .size) (e .a)) (sym z) (q .a-names); b-names = subst (λ e. InRange (s .args .size) (e .b)) (sym z) (q .b-names) }
 
 enum-told : tie.Need-enum-told Inv-loop μ-loop
 enum-told c = search needs

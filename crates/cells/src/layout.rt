@@ -1,9 +1,9 @@
 ghost use mathlib.Core.Path.{_≡_};
-ghost use Rattle.engine.specs.Cells.{cellAt, InRange};
+ghost use Rattle.cells.specs.Layout.{Letters, cellAt};
 
 // Where the cell of a pair begins.
 pub fn cell_at(a: u8, b: u8) -> usize
-    requires { ⌜ InRange 16 a × InRange 16 b ⌝ }
+    requires { ⌜ Letters a b ⌝ }
     ensures { λ r. ⌜ r ≡ cellAt a b ⌝ }
 {
     ((a as usize - 1) * 16 + (b as usize - 1)) * 16

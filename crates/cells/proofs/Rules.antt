@@ -1,0 +1,83 @@
+-- What the cells of a pair tell of its complement.
+use mathlib.Core.Path.{_≡_, refl, ap, subst, _∙_}
+use mathlib.Core.List.{List, [], _∷_}
+use Prim.Native.Nat.{ℕ, _+_, _≤_, _<_}
+use native.Mathlib.Omega.{arith}
+use lib.ListN.{length, take, drop, getD, replicate, length-drop, length-replicate, getD-replicate}
+use lib.Seq.{getD-take, getD-drop, length-take-le, ext-getD}
+use Rattle.model.specs.Word.{Positive, positive}
+use Rattle.model.specs.Presentation.{Presentation, Complement, undefined, complement, swapped, complete}
+use Rattle.model.specs.Range.{All, InRange, Lettered}
+use Rattle.model.proofs.Complete.{complete-turn}
+use Rattle.cells.specs.Layout.{cellAt}
+use Rattle.cells.specs.Stands.{HoldsWord, HoldsFirst, Stands, Blank}
+
+lettered-all : (n : ℕ) (x : Positive) → All (InRange n) x → Lettered n (positive x)
+lettered-all n [] p = tt
+lettered-all n (a ∷ x) p = (p .0, lettered-all n x (p .1))
+
+-- a cell's word as the bytes behind its length
+pub record WordAt (cells : List ℕ) (at n : ℕ) (x : Positive) : Type 0 where
+  pub count : getD cells at 0 ≡ length x
+  pub word : take (length x) (drop (at + 1) cells) ≡ x
+  pub short : length x ≤ 15
+  pub lettered : Lettered n (positive x)
+
+pub word-at : (size : ℕ) (cells : List ℕ) (cell : ℕ) (x : Positive) → cell + 16 ≤ length cells → HoldsWord size cells cell x → WordAt cells cell size x
+word-at size cells cell x room h =
+    record {
+      count = h .count;
+      word = ext-getD 0 (take (length x) (drop (cell + 1) cells)) x long same;
+      short = omega (arith, h .in-range .short);
+      lettered = lettered-all size x (h .in-range .letters);
+    }
+  where
+    long : length (take (length x) (drop (cell + 1) cells)) ≡ length x
+    long = length-take-le (length x) (drop (cell + 1) cells) (simp length-drop (omega (arith, h .in-range .short)))
+
+    same : (k : ℕ) → k < length (take (length x) (drop (cell + 1) cells)) → getD (take (length x) (drop (cell + 1) cells)) k 0 ≡ getD x k 0
+    same k i =
+        let j : k < length x = omega (arith, long) in
+        getD-take (length x) (drop (cell + 1) cells) k 0 j ∙ (getD-drop (cell + 1) cells k 0 ∙ h .letters k j)
+
+-- both words of a pair that is not undefined
+pub record Rule (cells : List ℕ) (T : Presentation) (a b : ℕ) : Type 0 where
+  pub x : Positive
+  pub y : Positive
+  pub rule : complete T a b ≡ complement x y
+  pub to : WordAt cells (cellAt a b) (T .size) x
+  pub from : WordAt cells (cellAt b a) (T .size) y
+
+module _ (cells : List ℕ) (T : Presentation) (s : Stands cells T) (a b : ℕ) (ra : InRange (T .size) a) (rb : InRange (T .size) b) where
+  pub inside : cellAt a b + 16 ≤ length cells
+  inside = omega (arith, s .full, s .few, ra .high, rb .high)
+
+  -- the word of a complement
+  pub cell-word : (x y : Positive) → complete T a b ≡ complement x y → WordAt cells (cellAt a b) (T .size) x
+  cell-word x y e = word-at (T .size) cells (cellAt a b) x inside (subst (HoldsFirst (T .size) cells (cellAt a b)) e (s .cell a b ra rb))
+
+  pub open-cell : getD cells (cellAt a b) 0 ≡ 255 → complete T a b ≡ undefined
+  open-cell e = go (complete T a b) refl
+    where
+      go : (c : Complement) → complete T a b ≡ c → complete T a b ≡ undefined
+      go undefined p = p
+      go (complement x y) p = let w = cell-word x y p in absurd (omega (arith, w .count, w .short))
+
+module _ (cells : List ℕ) (T : Presentation) (s : Stands cells T) (a b : ℕ) (ra : InRange (T .size) a) (rb : InRange (T .size) b) where
+  pub word-cell : (getD cells (cellAt a b) 0 ≡ 255 → ⊥) → Rule cells T a b
+  word-cell e = go (complete T a b) refl
+    where
+      go : (c : Complement) → complete T a b ≡ c → Rule cells T a b
+      go undefined p = absurd (e (subst (HoldsFirst (T .size) cells (cellAt a b)) p (s .cell a b ra rb)))
+      go (complement x y) p =
+          record {
+            x = x;
+            y = y;
+            rule = p;
+            to = cell-word cells T s a b ra rb x y p;
+            from = cell-word cells T s b a rb ra y x (complete-turn T a b ∙ ap swapped p);
+          }
+
+-- cells of zeros
+pub blank-zeros : Blank (replicate 4096 0)
+blank-zeros = record { full = length-replicate {A = ℕ} 4096 0; diagonal = λ a l. getD-replicate {A = ℕ} 4096 (cellAt a a) 0 0 (omega (arith, l .low, l .high)) }

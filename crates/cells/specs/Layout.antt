@@ -1,0 +1,11 @@
+-- Where the cells of a table lie: 4,096 bytes, sixteen for each two letters a, b.
+use Prim.Native.Nat.{ℕ, _+_, _-_, _*_}
+use Rattle.model.specs.Range.{InRange}
+
+-- two letters that a table can have
+abbrev pub Letters : ℕ → ℕ → Type 0
+Letters a b = InRange 16 a × InRange 16 b
+
+-- where the cell of a, b begins
+abbrev pub cellAt : ℕ → ℕ → ℕ
+cellAt a b = ((a - 1) * 16 + (b - 1)) * 16
