@@ -6,7 +6,7 @@ use native.Mathlib.Omega.{arith}
 use lib.ListN.{length, take, drop, getD, length-append}
 use Rattle.model.specs.Word.{Positive, positive, negative, inverse}
 use Rattle.model.specs.Equivalence.{Entry}
-use Rattle.model.specs.Images.{entryBits}
+use Rattle.model.specs.Images.{entryBits, entryPosition}
 use Rattle.engine.specs.Gap.{letters}
 use Rattle.engine.specs.Turn.{Pushed}
 use Rattle.cells.specs.Layout.{cellAt}
@@ -15,12 +15,13 @@ use Rattle.engine.proofs.Lettering.{length-positive, length-negative}
 use Rattle.engine.proofs.Stepping.{cell-letters}
 use Rattle.chains.specs.declared.moves.Place.{Place}
 use Rattle.chains.specs.Faces.{Face, below, passedOf}
-use Rattle.chains.specs.Slots.{slotAt, SlotInside, Placed, Layout}
+use Rattle.chains.specs.Layout.{Layout}
+use Rattle.entries.specs.Entry.{EntryInside, Placed}
 use Rattle.chains.specs.Course.{Task, Course, Situation, TopDone}
 use Rattle.chains.proofs.Ends.{relations-within}
 use Rattle.chains.proofs.Marks.{marked, markedDone, passed-marked, slots-marked, length-marked}
 use Rattle.chains.proofs.Courses.{a-named, b-named, to-cell, from-cell, passed-short, listed, all-done, emitted}
-use Rattle.chains.proofs.Placing.{placed-as}
+use Rattle.entries.proofs.Placing.{placed-as}
 use Rattle.chains.proofs.Layouts.{given-up}
 use Rattle.chains.proofs.Rests.{held-length, left-length, pushed-rest, pushed-left}
 use Rattle.chains.proofs.Restated.{course-of, layout-of, passed-of, stacked-of}
@@ -96,7 +97,7 @@ module _ {t : Task} {cells : List ℕ} {size total : ℕ} {bytes answer : List �
   pub slots-over : at .emitted < total
   slots-over = omega (arith, s .held .emitted, relations-within t total (course .running))
 
-  pub slot-over : SlotInside size (at .emitted) answer
+  pub slot-over : EntryInside size (at .emitted) answer
   slot-over = slot-in (s .settled) (s .held .layout .same-length) (at .emitted) slots-over
 
   -- C(b,a) fits between the rest and what is left of the second word
@@ -127,7 +128,7 @@ module _ {t : Task} {cells : List ℕ} {size total : ℕ} {bytes answer : List �
     pub offset-is : offset ≡ length (passedOf (top .others) (s .done))
     offset-is = omega (arith, passed-is, to-count to et)
 
-    pub emitted-here : {after pushed : List ℕ} → Placed answer (slotAt size (at .emitted)) (entryBits size (record { offset = offset; a = a; b = b })) after
+    pub emitted-here : {after pushed : List ℕ} → Placed answer (entryPosition size (at .emitted)) (entryBits size (record { offset = offset; a = a; b = b })) after
         → Pushed (inverse (letters (take (getD cells from 0) (drop (from + 1) cells)))) bytes (at .left + getD cells from 0) (getD cells from 0) pushed
         → Situation t cells size total [] pushed after
         (record {
@@ -172,7 +173,7 @@ module _ {t : Task} {cells : List ℕ} {size total : ℕ} {bytes answer : List �
                 layout =
                     subst (λ l. Layout size total (t .area) (s .entries ++ (listed (s .settled) course ∷ [])) l after) (sym (slots-marked (f .b) (top .others)))
                     (given-up size total (t .area) (s .entries) (layout-of s (top .top)) (listed (s .settled) course)
-                    (placed-as (ap (slotAt size) (s .held .emitted))
+                    (placed-as (ap (entryPosition size) (s .held .emitted))
                     (ap₂ (λ o g. entryBits size (record { offset = o; a = g .a; b = g .b })) offset-is same-pair) p));
               };
         }

@@ -10,7 +10,7 @@ use lib.Seq.{take-at, drop-at, drop-drop, length-take-le, getD-drop}
 use Rattle.model.specs.Bits.{bitsOf, digits, letterWidth, bytesFor, pack, filling}
 use Rattle.model.specs.Equivalence.{Entry}
 use Rattle.model.specs.Enumeration.{concatMap}
-use Rattle.model.specs.Images.{entryBits, letterBits, chainImage}
+use Rattle.model.specs.Images.{entryBits, letterBits, chainImage, entryWidth, entryPosition}
 use Rattle.model.specs.Services.{chainBytes}
 use Rattle.model.specs.Areas.{begins}
 use Rattle.bits.specs.Fields.{Inside, Written}
@@ -18,9 +18,9 @@ use Rattle.bits.proofs.Digits.{AreBits, length-digits, digits-are-bits, bits-ap
 use Rattle.bits.proofs.Bytes.{length-bits, bits-of-append}
 use Rattle.model.specs.Range.{AreBytes}
 use Rattle.bits.proofs.Packing.{pack-filling, bits-injective, packed-of}
-use Rattle.chains.specs.Slots.{slotWidth, slotAt, Layout}
+use Rattle.chains.specs.Layout.{Layout}
 use Rattle.chains.proofs.Parts.{part-within, part-whole, empty-of}
-use Rattle.chains.proofs.Placing.{placed-at, written-placed, slot-small}
+use Rattle.entries.proofs.Placing.{placed-at, written-placed, entry-small}
 use Rattle.chains.proofs.Layouts.{length-entries, image-end}
 
 -- AT THE START
@@ -28,39 +28,39 @@ use Rattle.chains.proofs.Layouts.{length-entries, image-end}
 pub fill-width : (bits : ℕ) → 8 * bytesFor bits - bits ≡ (8 - bits % 8) % 8
 fill-width bits = omega arith
 
-module _ (n total : ℕ) (before mid after : List ℕ) (room : chainBytes n total ≤ length before) (end : ℕ) (here : end ≡ slotAt n total) where
+module _ (n total : ℕ) (before mid after : List ℕ) (room : chainBytes n total ≤ length before) (end : ℕ) (here : end ≡ entryPosition n total) where
   fill : ℕ
-  fill = 8 * chainBytes n total - slotAt n total
+  fill = 8 * chainBytes n total - entryPosition n total
 
   rest : List ℕ
   rest = drop 16 (bitsOf before)
 
   gap : List ℕ
-  gap = take (total * slotWidth n) rest
+  gap = take (total * entryWidth n) rest
 
   behind : List ℕ
-  behind = drop (total * slotWidth n) rest
+  behind = drop (total * entryWidth n) rest
 
   rest-length : length rest ≡ 8 * length before - 16
   unfolding rest
   rest-length = length-drop 16 (bitsOf before) ∙ ap (λ i. i - 16) (length-bits before)
 
-  enough : total * slotWidth n + fill ≤ length rest
+  enough : total * entryWidth n + fill ≤ length rest
   unfolding fill
-  enough = sums (total * slotWidth n) (8 * chainBytes n total) (length rest) (8 * length before) (image-end n total) rest-length (omega arith)
+  enough = sums (total * entryWidth n) (8 * chainBytes n total) (length rest) (8 * length before) (image-end n total) rest-length (omega arith)
     where
       sums : (s c r l : ℕ) → 16 + s ≤ c → r ≡ l - 16 → c ≤ l → s + (c - (16 + s)) ≤ r
       sums s c r l p q m = omega arith
 
-  gap-length : length gap ≡ total * slotWidth n
+  gap-length : length gap ≡ total * entryWidth n
   unfolding gap
-  gap-length = length-take-le (total * slotWidth n) rest (part-within (total * slotWidth n) fill (length rest) enough)
+  gap-length = length-take-le (total * entryWidth n) rest (part-within (total * entryWidth n) fill (length rest) enough)
 
   filled : length (take fill behind) ≡ fill
   unfolding behind
   filled =
       length-take-le fill behind
-      (second (total * slotWidth n) fill (length rest) (length (drop (total * slotWidth n) rest)) (length-drop (total * slotWidth n) rest) enough)
+      (second (total * entryWidth n) fill (length rest) (length (drop (total * entryWidth n) rest)) (length-drop (total * entryWidth n) rest) enough)
     where
       second : (s f r b : ℕ) → b ≡ r - s → s + f ≤ r → f ≤ b
       second s f r b e h = omega arith
@@ -68,16 +68,16 @@ module _ (n total : ℕ) (before mid after : List ℕ) (room : chainBytes n tota
   last-bits : drop fill behind ≡ drop (8 * chainBytes n total) (bitsOf before)
   unfolding behind rest fill
   last-bits =
-      ap (drop fill) (drop-drop (total * slotWidth n) 16 (bitsOf before))
-      ∙ (drop-drop fill (16 + total * slotWidth n) (bitsOf before)
-      ∙ ap (λ i. drop i (bitsOf before)) (part-whole (16 + total * slotWidth n) (8 * chainBytes n total) (image-end n total)))
+      ap (drop fill) (drop-drop (total * entryWidth n) 16 (bitsOf before))
+      ∙ (drop-drop fill (16 + total * entryWidth n) (bitsOf before)
+      ∙ ap (λ i. drop i (bitsOf before)) (part-whole (16 + total * entryWidth n) (8 * chainBytes n total) (image-end n total)))
 
   pub prepared : Written before 0 16 total mid → Written mid end ((8 - end % 8) % 8) 0 after → Layout n total before [] [] after
   unfolding gap behind rest fill
   prepared p q =
-      let w : (8 - end % 8) % 8 ≡ fill = ap (λ i. (8 - i % 8) % 8) here ∙ sym (fill-width (slotAt n total)) in
+      let w : (8 - end % 8) % 8 ≡ fill = ap (λ i. (8 - i % 8) % 8) here ∙ sym (fill-width (entryPosition n total)) in
       let split : rest ≡ gap ++ (take fill behind ++ drop fill behind) =
-      sym (take-append-drop (total * slotWidth n) rest) ∙ ap (λ l. gap ++ l) (sym (take-append-drop fill behind)) in
+      sym (take-append-drop (total * entryWidth n) rest) ∙ ap (λ l. gap ++ l) (sym (take-append-drop fill behind)) in
       let b : bitsOf mid ≡ (digits 16 total ++ gap) ++ (take fill behind ++ drop fill behind) =
       p .bits ∙ (ap (λ l. digits 16 total ++ l) split ∙ sym (append-assoc (digits 16 total) gap (take fill behind ++ drop fill behind))) in
       let l : length (digits 16 total ++ gap) ≡ end =
@@ -100,8 +100,8 @@ module _ (n total : ℕ) (before mid after : List ℕ) (room : chainBytes n tota
   fill-inside e h =
       record {
         narrow = omega arith;
-        inside = ends (slotAt n total) here (length before) e room;
-        small = small (slotAt n total) (slotWidth n) here (slot-small n total h);
+        inside = ends (entryPosition n total) here (length before) e room;
+        small = small (entryPosition n total) (entryWidth n) here (entry-small n total h);
       }
     where
       ends : (k : ℕ) → end ≡ k → (l : ℕ) → length mid ≡ l → bytesFor k ≤ l → end + (8 - end % 8) % 8 ≤ 8 * length mid
@@ -145,16 +145,16 @@ module _ (n total : ℕ) (area answer : List ℕ) (entries : List Entry) (h : La
   image = digits 16 total ++ concatMap (entryBits n) entries
 
   zeros : List ℕ
-  zeros = digits (8 * chainBytes n total - slotAt n total) 0
+  zeros = digits (8 * chainBytes n total - entryPosition n total) 0
 
-  image-length : length image ≡ slotAt n total
+  image-length : length image ≡ entryPosition n total
   unfolding image
   image-length =
       length-append (digits 16 total) (concatMap (entryBits n) entries)
-      ∙ (ap₂ (λ i j. i + j) (length-digits 16 total) (length-entries n entries) ∙ ap (λ k. 16 + k * slotWidth n) all)
+      ∙ (ap₂ (λ i j. i + j) (length-digits 16 total) (length-entries n entries) ∙ ap (λ k. 16 + k * entryWidth n) all)
 
   no-gap : h .gap ≡ []
-  no-gap = empty-of (h .gap) (h .gap-length ∙ (ap (λ k. k * slotWidth n) (none (length entries) (h .free) total all (h .counted)) ∙ zero-mul (slotWidth n)))
+  no-gap = empty-of (h .gap) (h .gap-length ∙ (ap (λ k. k * entryWidth n) (none (length entries) (h .free) total all (h .counted)) ∙ zero-mul (entryWidth n)))
     where
       none : (e f t : ℕ) → e ≡ t → e + (f + 0) ≡ t → f ≡ 0
       none e f t p q = omega arith
@@ -171,8 +171,8 @@ module _ (n total : ℕ) (area answer : List ℕ) (entries : List Entry) (h : La
   unfolding zeros
   whole-length =
       length-append image zeros
-      ∙ (ap₂ (λ i j. i + j) image-length (length-digits (8 * chainBytes n total - slotAt n total) 0)
-      ∙ part-whole (slotAt n total) (8 * chainBytes n total) (image-end n total))
+      ∙ (ap₂ (λ i j. i + j) image-length (length-digits (8 * chainBytes n total - entryPosition n total) 0)
+      ∙ part-whole (entryPosition n total) (8 * chainBytes n total) (image-end n total))
 
   fits : chainBytes n total ≤ length answer
   fits = rw (h .same-length) room
@@ -197,7 +197,7 @@ module _ (n total : ℕ) (area answer : List ℕ) (entries : List Entry) (h : La
   zeros-fill : filling zeros ≡ true
   unfolding zeros
   zeros-fill =
-      ap filling (zero-digits (8 * chainBytes n total - slotAt n total))
+      ap filling (zero-digits (8 * chainBytes n total - entryPosition n total))
       ∙ (ap (λ k. filling (replicate (8 * bytesFor k - k) 0)) (sym image-length) ∙ pack-filling image)
 
   image-is : pack image ≡ chainImage n entries

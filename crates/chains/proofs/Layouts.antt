@@ -9,46 +9,47 @@ use lib.Seq.{drop-at, length-take-le}
 use Rattle.model.specs.Bits.{bitsOf, digits, bytesFor}
 use Rattle.model.specs.Equivalence.{Entry}
 use Rattle.model.specs.Enumeration.{concatMap}
-use Rattle.model.specs.Images.{entryBits}
+use Rattle.model.specs.Images.{entryBits, entryWidth, entryPosition}
 use Rattle.model.specs.Services.{chainBytes}
 use Rattle.bits.proofs.Digits.{length-digits}
-use Rattle.chains.specs.Slots.{slotWidth, slotAt, Placed, tailBits, Layout}
+use Rattle.chains.specs.Layout.{tailBits, Layout}
+use Rattle.entries.specs.Entry.{Placed}
 use Rattle.chains.proofs.Parts.{part-within, part-left}
-use Rattle.chains.proofs.Placing.{length-entry, placed-at}
+use Rattle.entries.proofs.Placing.{length-entry, placed-at}
 
 concat-append : (n : ℕ) (es : List Entry) (e : Entry) → concatMap (entryBits n) (es ++ (e ∷ [])) ≡ concatMap (entryBits n) es ++ entryBits n e
 concat-append n [] e = append-nil (entryBits n e)
 concat-append n (f ∷ es) e =
     ap (λ l. entryBits n f ++ l) (concat-append n es e) ∙ sym (append-assoc (entryBits n f) (concatMap (entryBits n) es) (entryBits n e))
 
-pub length-entries : (n : ℕ) (es : List Entry) → length (concatMap (entryBits n) es) ≡ length es * slotWidth n
-length-entries n [] = sym (zero-mul (slotWidth n))
+pub length-entries : (n : ℕ) (es : List Entry) → length (concatMap (entryBits n) es) ≡ length es * entryWidth n
+length-entries n [] = sym (zero-mul (entryWidth n))
 length-entries n (e ∷ es) =
     length-append (entryBits n e) (concatMap (entryBits n) es)
-    ∙ (ap₂ (λ i j. i + j) (length-entry n e) (length-entries n es) ∙ turned (slotWidth n) (length es))
+    ∙ (ap₂ (λ i j. i + j) (length-entry n e) (length-entries n es) ∙ turned (entryWidth n) (length es))
   where
     turned : (s k : ℕ) → s + k * s ≡ suc k * s
     turned s k = omega (arith, suc-mul k s)
 
 -- where the image ends
-pub image-end : (n total : ℕ) → slotAt n total ≤ 8 * chainBytes n total
-image-end n total = up (slotAt n total)
+pub image-end : (n total : ℕ) → entryPosition n total ≤ 8 * chainBytes n total
+image-end n total = up (entryPosition n total)
   where
     up : (bits : ℕ) → bits ≤ 8 * bytesFor bits
     up bits = omega arith
 
 -- room for as many entries as steps is room for fewer
 pub room-for-fewer : (n : ℕ) {few many : ℕ} → few ≤ many → chainBytes n few ≤ chainBytes n many
-room-for-fewer n {few} {many} h = up (few * slotWidth n) (many * slotWidth n) (mul-le-mul-right (slotWidth n) h)
+room-for-fewer n {few} {many} h = up (few * entryWidth n) (many * entryWidth n) (mul-le-mul-right (entryWidth n) h)
   where
     up : (i j : ℕ) → i ≤ j → bytesFor (16 + i) ≤ bytesFor (16 + j)
     up i j h = omega arith
 
-pub slot-fits : (n total : ℕ) (answer : List ℕ) → chainBytes n total ≤ length answer → (index : ℕ) → index < total → slotAt n index + slotWidth n ≤ 8 * length answer
+pub slot-fits : (n total : ℕ) (answer : List ℕ) → chainBytes n total ≤ length answer → (index : ℕ) → index < total → entryPosition n index + entryWidth n ≤ 8 * length answer
 slot-fits n total answer room index h =
-    let m : suc index * slotWidth n ≤ total * slotWidth n = mul-le-mul-right (slotWidth n) (omega arith) in
-    let e : suc index * slotWidth n ≡ index * slotWidth n + slotWidth n = suc-mul index (slotWidth n) in
-    sum (index * slotWidth n) (slotWidth n) (total * slotWidth n) (rw e at m) (image-end n total)
+    let m : suc index * entryWidth n ≤ total * entryWidth n = mul-le-mul-right (entryWidth n) (omega arith) in
+    let e : suc index * entryWidth n ≡ index * entryWidth n + entryWidth n = suc-mul index (entryWidth n) in
+    sum (index * entryWidth n) (entryWidth n) (total * entryWidth n) (rw e at m) (image-end n total)
   where
     sum : (i s t : ℕ) → i + s ≤ t → 16 + t ≤ 8 * chainBytes n total → 16 + i + s ≤ 8 * length answer
     sum i s t p q = omega arith
@@ -79,15 +80,15 @@ module _ (n total : ℕ) (area : List ℕ) (entries : List Entry) where
   abbrev tail : List ℕ
   tail = tailBits n total area
 
-  head-length : length head ≡ slotAt n (length entries)
+  head-length : length head ≡ entryPosition n (length entries)
   head-length =
       length-append (digits 16 total) (concatMap (entryBits n) entries)
       ∙ ap₂ (λ i j. i + j) (length-digits 16 total) (length-entries n entries)
 
   -- so many slots after the entries
-  after-head : (k : ℕ) (l : List ℕ) → length l ≡ k * slotWidth n → length (head ++ l) ≡ slotAt n (length entries + k)
+  after-head : (k : ℕ) (l : List ℕ) → length l ≡ k * entryWidth n → length (head ++ l) ≡ entryPosition n (length entries + k)
   after-head k l e =
-      length-append head l ∙ (ap₂ (λ i j. i + j) head-length e ∙ sums (length entries) k (slotWidth n))
+      length-append head l ∙ (ap₂ (λ i j. i + j) head-length e ∙ sums (length entries) k (entryWidth n))
     where
       sums : (i k s : ℕ) → 16 + i * s + k * s ≡ 16 + (i + k) * s
       sums i k s = omega (arith, add-mul i k s)
@@ -100,24 +101,24 @@ module _ (n total : ℕ) (area : List ℕ) (entries : List Entry) where
 
     module _ (some : length entries + length slots < total) (e : Entry) (index : ℕ) (here : index + (length slots + 1) ≡ total) where
       kept : ℕ
-      kept = (h .free - 1) * slotWidth n
+      kept = (h .free - 1) * entryWidth n
 
       one-less : h .gap ≡ take kept (h .gap) ++ drop kept (h .gap)
       one-less = sym (take-append-drop kept (h .gap))
 
-      gap-is : length (h .gap) ≡ kept + slotWidth n
+      gap-is : length (h .gap) ≡ kept + entryWidth n
       unfolding kept
       gap-is =
           let f : h .free ≡ suc (h .free - 1) = omega (arith, h .counted) in
-          h .gap-length ∙ (ap (λ i. i * slotWidth n) f ∙ suc-mul (h .free - 1) (slotWidth n))
+          h .gap-length ∙ (ap (λ i. i * entryWidth n) f ∙ suc-mul (h .free - 1) (entryWidth n))
 
       first-part : length (take kept (h .gap)) ≡ kept
-      first-part = length-take-le kept (h .gap) (part-within kept (slotWidth n) (length (h .gap)) (le-of-eq (sym gap-is)))
+      first-part = length-take-le kept (h .gap) (part-within kept (entryWidth n) (length (h .gap)) (le-of-eq (sym gap-is)))
 
-      second-part : length (drop kept (h .gap)) ≡ slotWidth n
-      second-part = length-drop kept (h .gap) ∙ part-left kept (slotWidth n) (length (h .gap)) gap-is
+      second-part : length (drop kept (h .gap)) ≡ entryWidth n
+      second-part = length-drop kept (h .gap) ∙ part-left kept (entryWidth n) (length (h .gap)) gap-is
 
-      pub pushed : {after : List ℕ} → Placed answer (slotAt n index) (entryBits n e) after → Layout n total area entries (e ∷ slots) after
+      pub pushed : {after : List ℕ} → Placed answer (entryPosition n index) (entryBits n e) after → Layout n total area entries (e ∷ slots) after
       unfolding kept
       pushed {after} p =
           let i : length entries + (h .free - 1) ≡ index = omega (arith, h .counted) in
@@ -125,8 +126,8 @@ module _ (n total : ℕ) (area : List ℕ) (entries : List Entry) where
           bits-are
           ∙ (ap (λ g. head ++ (g ++ (concatMap (entryBits n) slots ++ tailBits n total area))) one-less
           ∙ one-group count body (take kept (h .gap)) (drop kept (h .gap)) (concatMap (entryBits n) slots) tail) in
-          let l : length (head ++ take kept (h .gap)) ≡ slotAt n index =
-          after-head (h .free - 1) (take kept (h .gap)) first-part ∙ ap (slotAt n) i in
+          let l : length (head ++ take kept (h .gap)) ≡ entryPosition n index =
+          after-head (h .free - 1) (take kept (h .gap)) first-part ∙ ap (entryPosition n) i in
           record {
             same-length = p .same-length ∙ h .same-length;
             free = h .free - 1;
@@ -143,18 +144,18 @@ module _ (n total : ℕ) (area : List ℕ) (entries : List Entry) where
 
   module _ {slots : List Entry} {s : Entry} {answer : List ℕ} (h : Layout n total area entries (s ∷ slots) answer) where
     module _ (index : ℕ) (here : index + (length slots + 1) ≡ total) where
-      before-top : length (head ++ h .gap) ≡ slotAt n index
+      before-top : length (head ++ h .gap) ≡ entryPosition n index
       before-top =
           let i : length entries + h .free ≡ index = omega (arith, h .counted) in
-          after-head (h .free) (h .gap) (h .gap-length) ∙ ap (slotAt n) i
+          after-head (h .free) (h .gap) (h .gap-length) ∙ ap (entryPosition n) i
 
       top-bits : bitsOf answer ≡ (head ++ h .gap) ++ (entryBits n s ++ (concatMap (entryBits n) slots ++ tailBits n total area))
       top-bits = h .bits ∙ sym (pushed-group count body (h .gap) (entryBits n s) (concatMap (entryBits n) slots) tail)
 
-      pub top-read : drop (slotAt n index) (bitsOf answer) ≡ entryBits n s ++ (concatMap (entryBits n) slots ++ tailBits n total area)
-      top-read = ap (drop (slotAt n index)) top-bits ∙ drop-at (head ++ h .gap) _ (slotAt n index) before-top
+      pub top-read : drop (entryPosition n index) (bitsOf answer) ≡ entryBits n s ++ (concatMap (entryBits n) slots ++ tailBits n total area)
+      top-read = ap (drop (entryPosition n index)) top-bits ∙ drop-at (head ++ h .gap) _ (entryPosition n index) before-top
 
-      pub changed : (e : Entry) {after : List ℕ} → Placed answer (slotAt n index) (entryBits n e) after → Layout n total area entries (e ∷ slots) after
+      pub changed : (e : Entry) {after : List ℕ} → Placed answer (entryPosition n index) (entryBits n e) after → Layout n total area entries (e ∷ slots) after
       changed e p =
           record {
             same-length = p .same-length ∙ h .same-length;
@@ -171,36 +172,36 @@ module _ (n total : ℕ) (area : List ℕ) (entries : List Entry) where
     freed : List ℕ
     freed = h .gap ++ entryBits n s
 
-    freed-length : length freed ≡ slotWidth n + h .free * slotWidth n
+    freed-length : length freed ≡ entryWidth n + h .free * entryWidth n
     unfolding freed
     freed-length =
         length-append (h .gap) (entryBits n s)
-        ∙ (ap₂ (λ i j. i + j) (h .gap-length) (length-entry n s) ∙ add-comm (h .free * slotWidth n) (slotWidth n))
+        ∙ (ap₂ (λ i j. i + j) (h .gap-length) (length-entry n s) ∙ add-comm (h .free * entryWidth n) (entryWidth n))
 
-    freed-first : length (take (slotWidth n) freed) ≡ slotWidth n
-    freed-first = length-take-le (slotWidth n) freed (part-within (slotWidth n) (h .free * slotWidth n) (length freed) (le-of-eq (sym freed-length)))
+    freed-first : length (take (entryWidth n) freed) ≡ entryWidth n
+    freed-first = length-take-le (entryWidth n) freed (part-within (entryWidth n) (h .free * entryWidth n) (length freed) (le-of-eq (sym freed-length)))
 
-    freed-rest : length (drop (slotWidth n) freed) ≡ h .free * slotWidth n
-    freed-rest = length-drop (slotWidth n) freed ∙ part-left (slotWidth n) (h .free * slotWidth n) (length freed) freed-length
+    freed-rest : length (drop (entryWidth n) freed) ≡ h .free * entryWidth n
+    freed-rest = length-drop (entryWidth n) freed ∙ part-left (entryWidth n) (h .free * entryWidth n) (length freed) freed-length
 
-    pub given-up : (e : Entry) {after : List ℕ} → Placed answer (slotAt n (length entries)) (entryBits n e) after → Layout n total area (entries ++ (e ∷ [])) slots after
+    pub given-up : (e : Entry) {after : List ℕ} → Placed answer (entryPosition n (length entries)) (entryBits n e) after → Layout n total area (entries ++ (e ∷ [])) slots after
     unfolding freed
     given-up e p =
-        let b : bitsOf answer ≡ head ++ (take (slotWidth n) freed ++ (drop (slotWidth n) freed ++ (concatMap (entryBits n) slots ++ tail))) =
+        let b : bitsOf answer ≡ head ++ (take (entryWidth n) freed ++ (drop (entryWidth n) freed ++ (concatMap (entryBits n) slots ++ tail))) =
         h .bits
         ∙ (freed-group count body (h .gap) (entryBits n s) (concatMap (entryBits n) slots) tail
         ∙ ap (λ l. head ++ l)
-        (ap (λ l. l ++ (concatMap (entryBits n) slots ++ tail)) (sym (take-append-drop (slotWidth n) freed))
-        ∙ append-assoc (take (slotWidth n) freed) (drop (slotWidth n) freed) (concatMap (entryBits n) slots ++ tail))) in
+        (ap (λ l. l ++ (concatMap (entryBits n) slots ++ tail)) (sym (take-append-drop (entryWidth n) freed))
+        ∙ append-assoc (take (entryWidth n) freed) (drop (entryWidth n) freed) (concatMap (entryBits n) slots ++ tail))) in
         record {
           same-length = p .same-length ∙ h .same-length;
           free = h .free;
-          gap = drop (slotWidth n) freed;
+          gap = drop (entryWidth n) freed;
           counted = omega (arith, h .counted, length-append entries (e ∷ []));
           gap-length = freed-rest;
           bits =
-              placed-at p head (take (slotWidth n) freed) (drop (slotWidth n) freed ++ (concatMap (entryBits n) slots ++ tail)) b
+              placed-at p head (take (entryWidth n) freed) (drop (entryWidth n) freed ++ (concatMap (entryBits n) slots ++ tail)) b
               head-length (freed-first ∙ sym (length-entry n e))
-              ∙ (entry-group count body (entryBits n e) (drop (slotWidth n) freed) (concatMap (entryBits n) slots ++ tail)
-              ∙ ap (λ l. count ++ (l ++ (drop (slotWidth n) freed ++ (concatMap (entryBits n) slots ++ tail)))) (sym (concat-append n entries e)));
+              ∙ (entry-group count body (entryBits n e) (drop (entryWidth n) freed) (concatMap (entryBits n) slots ++ tail)
+              ∙ ap (λ l. count ++ (l ++ (drop (entryWidth n) freed ++ (concatMap (entryBits n) slots ++ tail)))) (sym (concat-append n entries e)));
         }

@@ -2,7 +2,6 @@ pub mod Parts
 pub mod Ends
 pub mod Marks
 pub mod Courses
-pub mod Placing
 pub mod Layouts
 pub mod Framing
 pub mod Rests

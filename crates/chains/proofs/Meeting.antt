@@ -7,7 +7,7 @@ use lib.ListN.{length, take, getD, length-append, length-map}
 use Rattle.model.specs.Word.{Positive, positive, negative}
 use Rattle.model.specs.Presentation.{complement, complete}
 use Rattle.model.specs.Equivalence.{Entry}
-use Rattle.model.specs.Images.{entryBits}
+use Rattle.model.specs.Images.{entryBits, entryPosition}
 use Rattle.model.proofs.Words.{positive-append}
 use Rattle.model.proofs.Complete.{complete-named}
 use Rattle.engine.specs.Gap.{letters}
@@ -17,12 +17,13 @@ use Rattle.cells.proofs.Rules.{cell-word, WordAt}
 use Rattle.engine.proofs.Lettering.{lettered-end}
 use Rattle.chains.specs.declared.moves.Place.{Place}
 use Rattle.chains.specs.Faces.{Face, slotOf, passedOf, Stacked}
-use Rattle.chains.specs.Slots.{slotAt, SlotInside, Placed, Layout}
+use Rattle.chains.specs.Layout.{Layout}
+use Rattle.entries.specs.Entry.{EntryInside, Placed}
 use Rattle.chains.specs.Course.{Task, Settled, Course, Situation}
 use Rattle.chains.proofs.Ends.{relations-within}
 use Rattle.chains.proofs.Marks.{marked, markedDone, passed-marked, slots-marked, length-marked}
 use Rattle.chains.proofs.Courses.{led-length, met, met-equal, made, met-different, never-empty}
-use Rattle.chains.proofs.Placing.{placed-as}
+use Rattle.entries.proofs.Placing.{placed-as}
 use Rattle.chains.proofs.Layouts.{slot-fits, pushed}
 use Rattle.chains.proofs.Rests.{First, first-letter}
 
@@ -53,7 +54,7 @@ module _ {t : Task} {cells : List ℕ} {size total : ℕ} (h : Settled t cells s
   cell-of {a} {b} {x} {y} ra rb e = cell-word cells (t .table) (h .stands) a b (unsized ra) (unsized rb) x y e
 
   -- a slot of the image lies inside the answer area
-  pub slot-in : {answer : List ℕ} → length answer ≡ length (t .area) → (index : ℕ) → index < total → SlotInside size index answer
+  pub slot-in : {answer : List ℕ} → length answer ≡ length (t .area) → (index : ℕ) → index < total → EntryInside size index answer
   slot-in {answer} e index i =
       record {
         some = size-some;
@@ -165,7 +166,7 @@ module _ {t : Task} {cells : List ℕ} {size total b : ℕ} {bytes answer : List
     pub slots-left : at .stacked + 1 ≤ total
     slots-left = omega (arith, s .held .stacked, relations-within t total (met-different (facing .course) apart .running))
 
-    pub slot-here : SlotInside size (total - (at .stacked + 1)) answer
+    pub slot-here : EntryInside size (total - (at .stacked + 1)) answer
     slot-here = slot-in (s .settled) (s .held .layout .same-length) (total - (at .stacked + 1)) (omega (arith, slots-left))
 
     letters-of : (to : ℕ) → to ≡ cellAt meeting b → getD cells to 0 ≡ length (met (facing .course) .x)
@@ -174,7 +175,7 @@ module _ {t : Task} {cells : List ℕ} {size total b : ℕ} {bytes answer : List
         ∙ cell-of (s .settled) (facing .course .named .0) b-here (met (facing .course) .rule) .count
 
     pub met-different-here : (to : ℕ) → to ≡ cellAt meeting b → {after : List ℕ}
-        → Placed answer (slotAt size (total - (at .stacked + 1))) (entryBits size (record { offset = getD cells to 0; a = meeting; b = b })) after
+        → Placed answer (entryPosition size (total - (at .stacked + 1))) (entryBits size (record { offset = getD cells to 0; a = meeting; b = b })) after
         → Situation t cells size total [] bytes after
         (record { left = at .left - 1; right = at .right; passed = at .passed + 1; emitted = at .emitted; stacked = at .stacked + 1 })
     met-different-here to e {after} p =

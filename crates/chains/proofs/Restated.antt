@@ -6,7 +6,7 @@ use lib.ListN.{length}
 use Rattle.model.specs.Word.{Positive}
 use Rattle.chains.specs.declared.moves.Place.{Place}
 use Rattle.chains.specs.Faces.{Face, slotOf, passedOf}
-use Rattle.chains.specs.Slots.{Layout}
+use Rattle.chains.specs.Layout.{Layout}
 use Rattle.chains.specs.Course.{Task, Course, Situation}
 
 module _ {t : Task} {cells : List ℕ} {size total : ℕ} {taken : Positive} {bytes answer : List ℕ} {at : Place} (s : Situation t cells size total taken bytes answer at)

@@ -7,19 +7,19 @@ use lib.ListN.{length, drop, getD, length-append, length-map}
 use lib.Seq.{getD-take, getD-drop, getD-append-seam}
 use Rattle.model.specs.Word.{Positive}
 use Rattle.model.specs.Equivalence.{Entry}
-use Rattle.model.specs.Images.{entryBits}
+use Rattle.model.specs.Images.{entryBits, entryPosition}
 use Rattle.cells.specs.Layout.{cellAt}
 use Rattle.model.specs.Range.{InRange, EntryInRange}
 use Rattle.cells.proofs.Rules.{WordAt}
 use Rattle.chains.specs.declared.moves.Place.{Place}
-use Rattle.chains.specs.declared.slots.Slot.{Slot}
+use Rattle.entries.specs.declared.entry.ChainEntry.{ChainEntry}
 use Rattle.chains.specs.Faces.{Face, slotOf}
-use Rattle.chains.specs.Slots.{slotAt, SlotInside, Placed, Same, SlotRead}
+use Rattle.entries.specs.Entry.{EntryInside, Placed, Same, ReadsEntry}
 use Rattle.chains.specs.Course.{Task, Course, Situation, TopDone}
 use Rattle.chains.proofs.Ends.{relations-within}
 use Rattle.chains.proofs.Courses.{a-named, b-named, to-cell, leaving, taken-of-face}
 use Rattle.chains.proofs.Parts.{empty-of}
-use Rattle.chains.proofs.Placing.{placed-as}
+use Rattle.entries.proofs.Placing.{placed-as}
 use Rattle.chains.proofs.Layouts.{top-read, changed}
 use Rattle.chains.proofs.Restated.{course-of, layout-of, passed-of, stacked-of}
 use Rattle.chains.proofs.Meeting.{wide, sized, cell-inside, slot-in}
@@ -68,7 +68,7 @@ module _ {t : Task} {cells : List ℕ} {size total : ℕ} {bytes answer : List �
   pub stacked-within : at .stacked ≤ total
   stacked-within = omega (arith, s .held .stacked, relations-within t total (s .course .running))
 
-  pub slot-top : SlotInside size (total - at .stacked) answer
+  pub slot-top : EntryInside size (total - at .stacked) answer
   slot-top = slot-in (s .settled) (s .held .layout .same-length) (total - at .stacked) (omega (arith, stacked-within))
 
   here : total - at .stacked + (length (map slotOf (top .others)) + 1) ≡ total
@@ -85,17 +85,17 @@ module _ {t : Task} {cells : List ℕ} {size total : ℕ} {bytes answer : List �
         b-names = sized (s .settled) (b-named (s .settled) course);
       }
 
-  module _ (r : Slot) (h : SlotRead size (total - at .stacked) answer r) where
+  module _ (r : ChainEntry) (h : ReadsEntry size (total - at .stacked) answer r) where
     same : Same (slotOf f) r
     same = h (slotOf f) _ slot-holds (top-read size total (t .area) (s .entries) (layout-of s (top .top)) (total - at .stacked) here)
 
-    pub top-done : r .count ≡ 0 → TopDone (s .faces) (r .a) (r .b)
+    pub top-done : r .offset ≡ 0 → TopDone (s .faces) (r .a) (r .b)
     top-done e =
         record {
           face = f;
           others = top .others;
           top = top .top;
-          none-left = empty-of (f .left) (sym (same .count) ∙ e);
+          none-left = empty-of (f .left) (sym (same .offset) ∙ e);
           is-a = sym (same .a);
           is-b = sym (same .b);
         }
@@ -116,27 +116,27 @@ module _ {t : Task} {cells : List ℕ} {size total : ℕ} {bytes answer : List �
       to-is : to ≡ cellAt (f .a) (f .b)
       to-is = et ∙ ap₂ (λ i j. cellAt i j) (same .a) (same .b)
 
-      count-is : getD cells to 0 ≡ length (f .done) + r .count
+      count-is : getD cells to 0 ≡ length (f .done) + r .offset
       count-is =
-          ap (λ i. getD cells i 0) to-is ∙ (word .count ∙ (length-append (f .done) (f .left) ∙ ap (λ i. length (f .done) + i) (sym (same .count))))
+          ap (λ i. getD cells i 0) to-is ∙ (word .count ∙ (length-append (f .done) (f .left) ∙ ap (λ i. length (f .done) + i) (sym (same .offset))))
 
-      pub count-within : r .count ≤ getD cells to 0
+      pub count-within : r .offset ≤ getD cells to 0
       count-within = omega (arith, count-is)
 
       pub count-short : getD cells to 0 ≤ 15
-      count-short = omega (arith, count-is, same .count, word .short, length-append (f .done) (f .left))
+      count-short = omega (arith, count-is, same .offset, word .short, length-append (f .done) (f .left))
 
-      module _ (more : r .count ≡ 0 → ⊥) where
-        found : At cells (to + 1 + getD cells to 0 - r .count) (f .left)
+      module _ (more : r .offset ≡ 0 → ⊥) where
+        found : At cells (to + 1 + getD cells to 0 - r .offset) (f .left)
         found =
-            subst (λ i. At cells i (f .left)) (place-is (cellAt (f .a) (f .b)) to (length (f .done)) (getD cells to 0) (r .count) to-is count-is)
-            (letter-at (f .done) (f .left) word (some-left (r .count) (length (f .left)) more (same .count)))
+            subst (λ i. At cells i (f .left)) (place-is (cellAt (f .a) (f .b)) to (length (f .done)) (getD cells to 0) (r .offset) to-is count-is)
+            (letter-at (f .done) (f .left) word (some-left (r .offset) (length (f .left)) more (same .offset)))
 
         pub taken-here : {after : List ℕ}
-            → Placed answer (slotAt size (total - at .stacked)) (entryBits size (record { offset = r .count - 1; a = r .a; b = r .b })) after
-            → Situation t cells size total (getD cells (to + 1 + getD cells to 0 - r .count) 0 ∷ []) bytes after at
+            → Placed answer (entryPosition size (total - at .stacked)) (entryBits size (record { offset = r .offset - 1; a = r .a; b = r .b })) after
+            → Situation t cells size total (getD cells (to + 1 + getD cells to 0 - r .offset) 0 ∷ []) bytes after at
         taken-here {after} p =
-            let fewer : r .count - 1 ≡ length (found .others) = omega (arith, same .count, ap length (found .is)) in
+            let fewer : r .offset - 1 ≡ length (found .others) = omega (arith, same .offset, ap length (found .is)) in
             record {
               settled = s .settled;
               rest = s .rest;

@@ -17,7 +17,7 @@ use Rattle.engine.proofs.Lettering.{length-negative}
 use Rattle.engine.proofs.Runs.{run-begun}
 use Rattle.model.specs.Range.{AreBytes, Lettered}
 use Rattle.chains.specs.declared.moves.Place.{Place}
-use Rattle.chains.specs.Slots.{Layout}
+use Rattle.chains.specs.Layout.{Layout}
 use Rattle.chains.specs.Course.{Task, Settled, Course, Situation, Complete}
 use Rattle.chains.specs.Listing.{Compared, Chained}
 use Rattle.chains.proofs.Parts.{empty-of}

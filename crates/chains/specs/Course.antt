@@ -12,7 +12,7 @@ use Rattle.engine.specs.Gap.{letters}
 use Rattle.model.specs.Range.{Lettered}
 use Rattle.cells.specs.Stands.{Stands}
 use Rattle.chains.specs.Faces.{Face, slotOf, wordOf, passedOf, Stacked}
-use Rattle.chains.specs.Slots.{Layout}
+use Rattle.chains.specs.Layout.{Layout}
 use Rattle.chains.specs.declared.moves.Place.{Place}
 
 -- two words, the steps of their comparison, the workspace's length, and the answer area as it was

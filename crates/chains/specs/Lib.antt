@@ -1,4 +1,4 @@
 pub mod Faces
-pub mod Slots
+pub mod Layout
 pub mod Course
 pub mod Listing

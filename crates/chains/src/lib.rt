@@ -2,4 +2,3 @@
 // listed children first, so those that are not done wait on a stack. The stack lies in the chain's own image, at its back.
 pub mod listing;
 pub mod moves;
-pub mod slots;

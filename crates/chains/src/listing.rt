@@ -3,23 +3,24 @@ ghost use mathlib.Core.Path.{_≡_};
 ghost use Prim.Native.Nat.{_≤_};
 ghost use lib.ListN.{length};
 ghost use Rattle.model.specs.Services.{chainBytes};
-ghost use Rattle.chains.specs.Slots.{Layout};
+ghost use Rattle.chains.specs.Layout.{Layout};
 ghost use Rattle.chains.specs.Course.{Somewhere, WalkMeans};
 ghost use Rattle.chains.specs.Listing.{Listable, ListMeans};
 use crate::moves::Place;
 use crate::moves::meet;
 use crate::moves::turn;
-use crate::slots::slot_at;
 use bits::write_field;
 use engine::gap::Gap;
+use entries::entry::COUNT_BITS;
+use entries::entry::position;
 
 // Writes the count of a chain's image and its filling bits.
 pub fn prepare(answer: &mut [u8], size: u8, total: u16)
     requires { ⌜ (1 ≤ size) × (size ≤ 16) × (chainBytes size total ≤ length (now answer)) ⌝ }
     ensures { λ r. ⌜ Layout size total (now (answer .entry)) [] [] (now (answer .exit)) ⌝ }
 {
-    let end = slot_at(size, total as usize);
-    write_field(answer, 0, 16, total);
+    let end = position(size, total as usize);
+    write_field(answer, 0, COUNT_BITS, total);
     write_field(answer, end, (8 - end % 8) % 8, 0);
 }
 

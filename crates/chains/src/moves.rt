@@ -3,11 +3,11 @@ ghost use mathlib.Core.Path.{_≡_};
 ghost use Prim.Native.Nat.{_≤_};
 ghost use lib.ListN.{length};
 ghost use Rattle.chains.specs.Course.{Somewhere, Emittable, Moves, Emits};
-use crate::slots::Slot;
-use crate::slots::read_slot;
-use crate::slots::write_slot;
 use cells::layout::cell_at;
 use engine::step::push_inverse;
+use entries::entry::ChainEntry;
+use entries::entry::read_entry;
+use entries::entry::write_entry;
 
 // How far a listing has come. The bytes before `left` are the inverse of the first word's rest, those from `right` on the letters left of
 // the second; `passed` letters stand before the rest in the word that the `emitted` entries have led to, and `stacked` faces are not done.
@@ -45,9 +45,9 @@ pub fn meet(
         };
     }
     let to = cell_at(a, b);
-    let count = cells[to] as u16;
+    let offset = cells[to] as u16;
     let stacked = at.stacked + 1;
-    write_slot(answer, size, total - stacked, Slot { count, a, b });
+    write_entry(answer, size, total - stacked, ChainEntry { offset, a, b });
     Place {
         left,
         right: at.right,
@@ -81,9 +81,13 @@ pub fn emit(
     let index = at.emitted;
     let emitted = index + 1;
     let stacked = at.stacked - 1;
-    let count = offset as u16;
-    let entry = Slot { count, a, b };
-    write_slot(answer, size, index, entry);
+    let place = offset as u16;
+    let entry = ChainEntry {
+        offset: place,
+        a,
+        b,
+    };
+    write_entry(answer, size, index, entry);
     push_inverse(bytes, left, cells, from);
     Place {
         left,
@@ -109,8 +113,8 @@ pub fn turn(
     ensures moves { λ r. ⌜ Moves (now (cells .entry)) size total [] (now (bytes .entry)) (now (answer .entry)) at (now (bytes .exit)) (now (answer .exit)) r ⌝ }
 {
     let index = total - at.stacked;
-    let face = read_slot(answer, size, index);
-    let count = face.count;
+    let face = read_entry(answer, size, index);
+    let count = face.offset;
     let a = face.a;
     let b = face.b;
     if count == 0 {
@@ -119,12 +123,12 @@ pub fn turn(
     let to = cell_at(a, b);
     let x = cells[to] as usize;
     let next = cells[to + 1 + x - (count as usize)];
-    write_slot(
+    write_entry(
         answer,
         size,
         index,
-        Slot {
-            count: count - 1,
+        ChainEntry {
+            offset: count - 1,
             a,
             b,
         },

@@ -1,19 +1,22 @@
 -- A chain's next entry, and the entries of an accepted chain one by one. Each stands where its number says.
 use mathlib.Core.Path.{_≡_, sym, ap, subst, _∙_}
 use mathlib.Core.List.{List, []}
-use Prim.Native.Nat.{ℕ, _+_, _*_, _≤_, _<_}
+use Prim.Native.Nat.{ℕ, _+_, _<_}
 use native.Mathlib.Omega.{arith}
-use native.Mathlib.Nat.{mul-le-mul-left}
 use lib.ListN.{length, getD}
 use Rattle.model.specs.Equivalence.{Entry}
 use Rattle.model.specs.Outcome.{Outcome, answered, refused, _>>=_}
-use Rattle.model.specs.Bits.{Read, field}
-use Rattle.model.specs.Images.{letterField, entryField, readChain}
-use Rattle.images.specs.declared.chains.ChainEntry.{ChainEntry}
-use Rattle.images.specs.Fields.{FieldAt, LetterAt, from, Before}
+use Rattle.model.specs.Bits.{Read, field, bitsOf}
+use Rattle.model.specs.Images.{letterField, entryWidth, entryPosition, entryField, readChain}
+use Rattle.bits.proofs.Bytes.{bits-are-bits}
+use Rattle.bits.proofs.Fields.{bits-drop}
+use Rattle.entries.specs.Entry.{EntryInside, ReadsEntry}
+use Rattle.entries.specs.declared.entry.ChainEntry.{ChainEntry}
+use Rattle.images.specs.Fields.{FieldAt, LetterAt, from}
 use Rattle.images.specs.Chains.{entryOf, EntryAt, HasEntry}
 use Rattle.images.proofs.Several.{same-answer}
 use Rattle.images.proofs.RoundTrip.{chain-in-range}
+use Rattle.images.proofs.Inverse.{entry-codec}
 use Rattle.images.proofs.Placed.{entry-placed, entry-inside}
 
 module _ (image : List ℕ) (at size width : ℕ) where
@@ -55,41 +58,23 @@ module _ (image : List ℕ) (at size width : ℕ) where
 abbrev none : Entry
 none = record { offset = 0; a = 0; b = 0 }
 
-pub near : (i width : ℕ) → i < 65536 → width ≤ 4 → i * (12 + (width + width)) ≤ 1310720
-near i width h l =
-    let k : 12 + (width + width) ≤ 20 = omega arith in
-    let m : i * (12 + (width + width)) ≤ i * 20 = mul-le-mul-left i k in
-    omega arith
-
-module _ (image : List ℕ) (size width i : ℕ) (p : HasEntry image size width i) where
-  pub index-small : i < 65536
-  index-small = omega (arith, p .inside, chain-in-range size (p .few) image (p .entries) (p .read) .short)
-
-  stands : (es : List Entry) → readChain size image ≡ answered es
-      → entryField size (from image (16 + i * (12 + (width + width)))) ≡ answered (record { value = getD es i none; rest = from image (16 + i * (12 + (width + width)) + (12 + (width + width))) })
-  stands es e =
-      let l : i < length es = subst (λ es. i < length es) (same-answer (p .entries) es (sym (p .read) ∙ e)) (p .inside) in
-      subst (λ k. entryField size (from image (16 + i * (12 + (k + k)))) ≡ answered (record { value = getD es i none; rest = from image (16 + i * (12 + (k + k)) + (12 + (k + k))) }))
-      (sym (p .width-is)) (entry-placed size (p .few) image es e i l none)
-
-  pub entry-before : Before image (16 + i * (12 + (width + width))) size width
-  entry-before =
-      let l : 16 + i * (12 + (width + width)) + (12 + (width + width)) ≤ 8 * length image =
-      subst (λ k. 16 + i * (12 + (k + k)) + (12 + (k + k)) ≤ 8 * length image) (sym (p .width-is)) (entry-inside size (p .few) image (p .entries) (p .read) i (p .inside)) in
+module _ (image : List ℕ) (size i : ℕ) (p : HasEntry image size i) where
+  pub entry-there : EntryInside size i image
+  entry-there =
       record {
-        inside = omega arith;
-        small = omega (arith, near i width index-small (p .narrow));
         some = p .some;
         few = p .few;
-        narrow = p .narrow;
-        width-is = p .width-is;
+        low = omega (arith, p .inside, chain-in-range size (p .few) image (p .entries) (p .read) .short);
+        inside = entry-inside size (p .few) image (p .entries) (p .read) i (p .inside);
       }
 
-  pub entry-answer : (x : ChainEntry) → EntryAt image (16 + i * (12 + (width + width))) size width x → (es : List Entry) → readChain size image ≡ answered es → entryOf x ≡ getD es i none
-  entry-answer x s es e =
-      ap (λ r. r .value) (same-answer _ (record { value = getD es i none; rest = from image (16 + i * (12 + (width + width)) + (12 + (width + width))) }) (sym (s .read) ∙ stands es e))
-
-  pub entry-stands : (n : ℕ) → entryField size (from image (16 + i * (12 + (width + width)))) ≡ refused n [] → ⊥
-  entry-stands n e =
-      let a = stands (p .entries) (p .read) in
-      let z : _≡_ {A = ℕ} 0 1 = cc in omega arith
+  pub entry-answer : (x : ChainEntry) → ReadsEntry size i image x → (es : List Entry) → readChain size image ≡ answered es → entryOf x ≡ getD es i none
+  entry-answer x reads es e =
+      let l : i < length es = subst (λ es. i < length es) (same-answer (p .entries) es (sym (p .read) ∙ e)) (p .inside) in
+      let bits = bits-drop (entryPosition size i) (bitsOf image) (bits-are-bits image) in
+      let r : Read Entry = record { value = getD es i none; rest = from image (entryPosition size i + entryWidth size) } in
+      let there = entry-placed size (p .few) image es e i l none in
+      let codec = entry-codec size (p .few) in
+      let same =
+      reads (getD es i none) (r .rest) (codec .in-range (from image (entryPosition size i)) bits r there) (codec .stood-there (from image (entryPosition size i)) bits r there) in
+      λ j. record { offset = same .offset j; a = same .a j; b = same .b j }

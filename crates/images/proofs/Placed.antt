@@ -1,7 +1,7 @@
 -- Where the letters of a program and the entries of a chain stand in an image that was accepted. Each has the same width, so its number gives
 -- its place.
 use mathlib.Core.Path.{_≡_, sym, ap, _∙_}
-use mathlib.Core.List.{List, [], _++_}
+use mathlib.Core.List.{List, []}
 use mathlib.Core.Bool.{Bool, true, false, cond}
 use Prim.Native.Nat.{ℕ, suc, _+_, _-_, _*_, _≤_, _<_}
 use native.Mathlib.Omega.{arith}
@@ -10,11 +10,12 @@ use lib.Seq.{drop-at, drop-drop}
 use Rattle.model.specs.Word.{Letter, forward, back, Word}
 use Rattle.model.specs.Equivalence.{Entry}
 use Rattle.model.specs.Outcome.{Outcome, answered, refused, _>>=_}
-use Rattle.model.specs.Bits.{Read, field, finish, filling, digits, bitsOf, letterWidth}
-use Rattle.model.specs.Images.{several, letterBits, signedField, signedBits, readProgram, entryField, entryBits, readChain}
+use Rattle.model.specs.Bits.{Read, field, finish, filling, bitsOf, letterWidth}
+use Rattle.model.specs.Images.{several, signedField, signedBits, readProgram, entryWidth, entryPosition, entryField, entryBits, readChain}
 use Rattle.bits.proofs.Digits.{AreBits, length-digits}
 use Rattle.bits.proofs.Bytes.{bits-are-bits}
 use Rattle.bits.proofs.Fields.{bits-drop}
+use Rattle.entries.proofs.Placing.{length-entry}
 use Rattle.images.specs.Fields.{from}
 use Rattle.images.proofs.Several.{answer-of, same-answer, several-length, value-at}
 use Rattle.images.proofs.Codec.{Codec, field-codec}
@@ -73,11 +74,6 @@ pub length-signed : (n : ℕ) (x : Letter) → length (signedBits n x) ≡ 1 + l
 length-signed n (forward a) = ap suc (length-digits (letterWidth n) (a - 1)) ∙ omega arith
 length-signed n (back a) = ap suc (length-digits (letterWidth n) (a - 1)) ∙ omega arith
 
-length-entry : (n : ℕ) (e : Entry) → length (entryBits n e) ≡ 12 + (letterWidth n + letterWidth n)
-length-entry n e =
-    length-append (digits 12 (e .offset)) (letterBits n (e .a) ++ letterBits n (e .b))
-    ∙ omega (arith, length-append (letterBits n (e .a)) (letterBits n (e .b)), length-digits (letterWidth n) (e .a - 1), length-digits (letterWidth n) (e .b - 1))
-
 module _ (n : ℕ) (few : n ≤ 16) (image : List ℕ) where
   pub letter-placed : (w : Word) → readProgram n image ≡ answered w → (i : ℕ) → i < length w → (d : Letter)
       → signedField n (from image (12 + i * (1 + letterWidth n))) ≡ answered (record { value = getD w i d; rest = from image (12 + i * (1 + letterWidth n) + (1 + letterWidth n)) })
@@ -89,10 +85,10 @@ module _ (n : ℕ) (few : n ≤ 16) (image : List ℕ) where
   letter-inside w e i h = omega (arith, placed-inside 12 6 4 (1 + letterWidth n) (signedField n) (signedBits n) _ (signed-codec n few) (length-signed n) image w e i h (forward 0))
 
   pub entry-placed : (es : List Entry) → readChain n image ≡ answered es → (i : ℕ) → i < length es → (d : Entry)
-      → entryField n (from image (16 + i * (12 + (letterWidth n + letterWidth n)))) ≡ answered (record { value = getD es i d; rest = from image (16 + i * (12 + (letterWidth n + letterWidth n)) + (12 + (letterWidth n + letterWidth n))) })
+      → entryField n (from image (entryPosition n i)) ≡ answered (record { value = getD es i d; rest = from image (entryPosition n i + entryWidth n) })
   unfolding readChain
-  entry-placed es e i h d = placed 16 6 4 (12 + (letterWidth n + letterWidth n)) (entryField n) (entryBits n) _ (entry-codec n few) (length-entry n) image es e i h d
+  entry-placed es e i h d = placed 16 6 4 (entryWidth n) (entryField n) (entryBits n) _ (entry-codec n few) (length-entry n) image es e i h d
 
-  pub entry-inside : (es : List Entry) → readChain n image ≡ answered es → (i : ℕ) → i < length es → 16 + i * (12 + (letterWidth n + letterWidth n)) + (12 + (letterWidth n + letterWidth n)) ≤ 8 * length image
+  pub entry-inside : (es : List Entry) → readChain n image ≡ answered es → (i : ℕ) → i < length es → entryPosition n i + entryWidth n ≤ 8 * length image
   unfolding readChain
-  entry-inside es e i h = omega (arith, placed-inside 16 6 4 (12 + (letterWidth n + letterWidth n)) (entryField n) (entryBits n) _ (entry-codec n few) (length-entry n) image es e i h (record { offset = 0; a = 0; b = 0 }))
+  entry-inside es e i h = omega (arith, placed-inside 16 6 4 (entryWidth n) (entryField n) (entryBits n) _ (entry-codec n few) (length-entry n) image es e i h (record { offset = 0; a = 0; b = 0 }))

@@ -5,11 +5,10 @@ use Prim.Native.Nat.{ℕ, _+_, _*_, _≤_, _<_}
 use lib.ListN.{length}
 use Rattle.model.specs.Equivalence.{Entry}
 use Rattle.model.specs.Outcome.{answered, refused}
-use Rattle.model.specs.Bits.{letterWidth}
-use Rattle.model.specs.Images.{entryField, readChain}
+use Rattle.model.specs.Images.{offsetWidth, entryField, readChain}
 use Rattle.model.specs.Stated.{refusal}
 use Rattle.images.specs.Fields.{from}
-use Rattle.images.specs.declared.chains.ChainEntry.{ChainEntry}
+use Rattle.entries.specs.declared.entry.ChainEntry.{ChainEntry}
 use Rattle.images.specs.declared.chains.EntryField.{EntryField}
 use Rattle.images.specs.declared.chains.EntryField.the-variants.{Found, Ends, Wrong}
 use Rattle.images.specs.declared.chains.ChainRead.{ChainRead}
@@ -20,8 +19,8 @@ abbrev pub entryOf : ChainEntry → Entry
 entryOf e = record { offset = e .offset; a = e .a; b = e .b }
 
 pub record EntryAt (image : List ℕ) (at size width : ℕ) (e : ChainEntry) : Type 0 where
-  pub inside : at + 12 + width + width ≤ 8 * length image
-  pub read : entryField size (from image at) ≡ answered (record { value = entryOf e; rest = from image (at + 12 + width + width) })
+  pub inside : at + offsetWidth + width + width ≤ 8 * length image
+  pub read : entryField size (from image at) ≡ answered (record { value = entryOf e; rest = from image (at + offsetWidth + width + width) })
 
 abbrev pub EntryDone : List ℕ → ℕ → ℕ → ℕ → EntryField → Type 0
 EntryDone image at size width (Found e) = EntryAt image at size width e
@@ -39,11 +38,9 @@ ChainDone image size (Chain count) = ChainOf image size count
 ChainDone image size (Refused r) = readChain size image ≡ refusal r
 
 -- an accepted chain has an entry numbered i, from 0
-pub record HasEntry (image : List ℕ) (size width i : ℕ) : Type 0 where
+pub record HasEntry (image : List ℕ) (size i : ℕ) : Type 0 where
   pub some : 1 ≤ size
   pub few : size ≤ 16
-  pub narrow : width ≤ 4
-  pub width-is : width ≡ letterWidth size
   pub entries : List Entry
   pub read : readChain size image ≡ answered entries
   pub inside : i < length entries

@@ -1,7 +1,7 @@
 -- Document 01, "Images": table, program and chain images, written and read. Reading refuses by document 01's numbers.
 use mathlib.Core.List.{List, [], _∷_, _++_}
 use mathlib.Core.Bool.{cond}
-use Prim.Native.Nat.{ℕ, zero, suc, _+_, _-_}
+use Prim.Native.Nat.{ℕ, zero, suc, _+_, _-_, _*_}
 use lib.Dec.{leb, eqb}
 use lib.ListN.{length}
 use Rattle.model.specs.Word.{Letter, forward, back, Word, Positive}
@@ -39,9 +39,18 @@ signedBits n (back a) = 1 ∷ letterBits n a
 unfoldable pub programImage : ℕ → Word → List ℕ
 programImage n w = pack (digits 12 (length w) ++ concatMap (signedBits n) w)
 
--- "each entry an offset in 12 bits and fields a, b"
+-- "each entry an offset in 12 bits and fields a, b", after "the count in 16 bits"
+abbrev pub offsetWidth : ℕ
+offsetWidth = 12
+
+abbrev pub entryWidth : ℕ → ℕ
+entryWidth n = offsetWidth + 2 * letterWidth n
+
+abbrev pub entryPosition : ℕ → ℕ → ℕ
+entryPosition n index = 16 + index * entryWidth n
+
 abbrev pub entryBits : ℕ → Entry → List ℕ
-entryBits n e = digits 12 (e .offset) ++ (letterBits n (e .a) ++ letterBits n (e .b))
+entryBits n e = digits offsetWidth (e .offset) ++ (letterBits n (e .a) ++ letterBits n (e .b))
 
 -- "Chain: the count in 16 bits; each entry .."
 unfoldable pub chainImage : ℕ → List Entry → List ℕ
@@ -110,7 +119,7 @@ readProgram n bytes =
 
 abbrev pub entryField : ℕ → List ℕ → Outcome (Read Entry)
 entryField n bits =
-    field 4 12 bits >>= λ at.
+    field 4 offsetWidth bits >>= λ at.
     letterField 4 5 n (at .rest) >>= λ a.
     letterField 4 5 n (a .rest) >>= λ b.
     answered (record { value = record { offset = at .value; a = a .value; b = b .value }; rest = b .rest })

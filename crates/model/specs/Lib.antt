@@ -3,11 +3,11 @@ pub mod Presentation
 pub mod Equivalence
 pub mod Reversing
 pub mod Enumeration
-pub mod Range
 pub mod Outcome
 pub mod Checks
 pub mod Bits
 pub mod Images
+pub mod Range
 pub mod Plain
 pub mod Services
 pub mod Areas

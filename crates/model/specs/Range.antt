@@ -1,11 +1,12 @@
 -- What is in range: bytes, and the words, programs, tables and chains that an image can hold. Document 01, "Moves, tables, programs".
 use mathlib.Core.List.{List, [], _∷_}
 use mathlib.Core.Path.{_≡_}
-use Prim.Native.Nat.{ℕ, zero, suc, _≤_, _<_}
+use Prim.Native.Nat.{ℕ, zero, suc, _^_, _≤_, _<_}
 use lib.ListN.{length, getD}
 use Rattle.model.specs.Word.{Letter, forward, back, Word, Positive}
 use Rattle.model.specs.Presentation.{Presentation, Complement, undefined, complement}
 use Rattle.model.specs.Equivalence.{Entry}
+use Rattle.model.specs.Images.{offsetWidth}
 
 -- every element
 abbrev pub All : {A : Type 0} → (A → Type 0) → List A → Type 0
@@ -60,7 +61,7 @@ pub record TableInRange (T : Presentation) : Type 0 where
   pub pairs : Rows (PairInRange (T .size)) (T .size) (T .rows)
 
 pub record EntryInRange (n : ℕ) (e : Entry) : Type 0 where
-  pub offset-small : e .offset < 4096
+  pub offset-small : e .offset < 2 ^ offsetWidth
   pub a-names : InRange n (e .a)
   pub b-names : InRange n (e .b)
 

@@ -3,7 +3,7 @@
 use mathlib.Core.List.{List, [], _∷_, _++_}
 use mathlib.Core.Bool.{Bool, true, false, not, cond}
 use mathlib.Core.Option.{Option, none, some}
-use Prim.Native.Nat.{ℕ, suc, _+_, _*_}
+use Prim.Native.Nat.{ℕ, suc, _+_}
 use lib.Dec.{ltb, eqb}
 use lib.ListN.{length}
 use Rattle.model.specs.Word.{forward, back, Word, Positive, positive, negative, forwards}
@@ -12,8 +12,8 @@ use Rattle.model.specs.Reversing.{Ending, finished, open-pair, stopped, 
 use Rattle.model.specs.Equivalence.{Entry, applied, equal}
 use Rattle.model.specs.Checks.{stopNumber, cleared}
 use Rattle.model.specs.Outcome.{Outcome, answered, refused, _>>=_, unless}
-use Rattle.model.specs.Bits.{bytesFor, letterWidth}
-use Rattle.model.specs.Images.{readTable, readProgram, readChain, tableImage, programImage}
+use Rattle.model.specs.Bits.{bytesFor}
+use Rattle.model.specs.Images.{entryPosition, readTable, readProgram, readChain, tableImage, programImage}
 use Rattle.model.specs.Plain.{plainTable, plainProgram, readPlainTable, readPlainProgram}
 
 -- REVERSE
@@ -88,7 +88,7 @@ compare table first second steps width =
 
 -- the bytes of a chain image with so many entries
 abbrev pub chainBytes : ℕ → ℕ → ℕ
-chainBytes n entries = bytesFor (16 + entries * (12 + 2 * letterWidth n))
+chainBytes n entries = bytesFor (entryPosition n entries)
 
 -- refusal 13: "for a chain, only after 'same', shorter than an image with as many entries as there were steps"
 abbrev pub listable : ℕ → ℕ → Verdict → Outcome Verdict

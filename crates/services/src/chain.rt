@@ -1,8 +1,7 @@
 // Chain: as compare; where the verdict is `same`, a chain from the first program to the second is listed in the answer area.
 ghost use mathlib.Core.Path.{_≡_};
-ghost use Prim.Native.Nat.{_≤_};
 ghost use lib.ListN.{length};
-ghost use Rattle.model.specs.Services.{chain, chainBytes, listable};
+ghost use Rattle.model.specs.Services.{chain, listable};
 ghost use Rattle.model.specs.Areas.{workspaceAfter, ChainArea};
 ghost use Rattle.model.specs.Stated.{compared};
 ghost use Rattle.services.specs.Loading.{Forward};
@@ -15,20 +14,11 @@ use crate::compare::load_pair;
 use crate::compare::told;
 use crate::loading::PairRead;
 use crate::loading::read_pair;
-use bits::letter_width;
 use chains::listing::list;
 use engine::gap::Gap;
+use entries::entry::chain_bytes;
 use model::answers::Compared;
 use model::answers::Refusal;
-
-// The bytes of a chain image with so many entries.
-pub(crate) fn chain_bytes(size: u8, entries: u16) -> usize
-    requires { ⌜ (1 ≤ size) × (size ≤ 16) ⌝ }
-    ensures { λ r. ⌜ r ≡ chainBytes size entries ⌝ }
-{
-    let width = letter_width(size) as usize;
-    (16 + entries as usize * (12 + 2 * width) + 7) / 8
-}
 
 // Two accepted forward programs under a table that was loaded. The workspace is wiped, unless the length check refused.
 pub(crate) fn chain_programs(

@@ -10,7 +10,7 @@ use crate::side::put_side;
 use crate::side::stands_at;
 use cells::layout::cell_at;
 use engine::gap::Gap;
-use images::chains::ChainEntry;
+use entries::entry::ChainEntry;
 
 // The word after an entry; that the entry breaks the chain; or that its word is longer than the area.
 pub enum Applied {

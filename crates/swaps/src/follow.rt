@@ -32,12 +32,11 @@ pub fn follow(
     ensures length { λ r. ⌜ length (now (bytes .exit)) ≡ length (now (bytes .entry)) ⌝ }
     ensures followed { λ r. ⌜ FollowMeans (now (cells .entry)) size (now (chain .entry)) (now (bytes .entry)) (gap .left) (gap .right) (now (bytes .exit)) r ⌝ }
 {
-    let width = letter_width(size) as usize;
     let mut left = gap.left;
     let mut right = gap.right;
     let mut i: u16 = 0;
     while i < count {
-        let entry = entry_at(chain, size, width, i as usize);
+        let entry = entry_at(chain, size, i as usize);
         let applied = apply(cells, size, bytes, Gap { left, right }, entry);
         match applied {
             Applied::Breaks => return Followed::Breaks(i),

@@ -64,13 +64,13 @@ sub-stacked c =
     let s = c .before .before .before .before .before .before .before .before .before .before in
     stacked-some (s .pre .2) (s .pre .3)
 
-cast-count : tie.Need-cast-count
-cast-count c =
+cast-place : tie.Need-cast-place
+cast-place c =
     let s = c .before .before .before .before .before .before .before .before .before .before in
     omega (arith, passed-few (s .pre .2) (s .pre .3))
 
-write-slot-requires : tie.Need-write-slot-requires
-write-slot-requires c κs =
+write-entry-requires : tie.Need-write-entry-requires
+write-entry-requires c κs =
     let s = c .before .before .before .before .before .before .before .before .before .before .before in (
       slot-over (s .pre .2) (s .pre .3),
       omega (arith, a-top (s .pre .2) (s .pre .3) .low, b-top (s .pre .2) (s .pre .3) .low),
@@ -109,7 +109,7 @@ returns c =
         few-more = omega (arith, from-short (s .pre .2) (s .pre .3) (from .result) (from .ensures));
         situation = λ total t h top.
             emitted-here h top (to .result) (from .result) (s .args .at .passed - getD (s .args .cells .now) (to .result) 0 - 1) (to .ensures) (from .ensures) refl
-            (c .before .before .before .before .before .before .write-slot .ensures) (c .before .before .push-inverse .ensures .1);
+            (c .before .before .before .before .before .before .write-entry .ensures) (c .before .before .push-inverse .ensures .1);
       },
     )
 
@@ -129,8 +129,8 @@ emit-spec =
     add-left
     add-emitted
     sub-stacked
-    cast-count
-    write-slot-requires
+    cast-place
+    write-entry-requires
     push-inverse-requires
     same-length
     same-length-2

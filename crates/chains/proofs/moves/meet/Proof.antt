@@ -38,13 +38,13 @@ cell-at-requires c κs =
     let s = c .before .before .before .before .before .before .before in
     (wide (s .pre .1 .settled) (a-here (s .pre .1)), wide (s .pre .1 .settled) (b-here (s .pre .1)))
 
-shared-slice-read-count : tie.Need-shared-slice-read-count
-shared-slice-read-count c =
+shared-slice-read-offset : tie.Need-shared-slice-read-offset
+shared-slice-read-offset c =
     let s = c .before .before .before .before .before .before .before .before .before in
     omega (arith, c .before .cell-at .ensures, cell-inside (s .pre .1 .settled) (a-here (s .pre .1)) (b-here (s .pre .1)))
 
-cast-count : tie.Need-cast-count
-cast-count c =
+cast-offset : tie.Need-cast-offset
+cast-offset c =
     omega (arith, c .shared-slice-known4 .given (c .before .cell-at .result))
 
 add-stacked : tie.Need-add-stacked
@@ -52,13 +52,13 @@ add-stacked c =
     let s = c .before .before .before .before .before .before .before .before .before .before in
     omega (arith, stacked-small (s .pre .1))
 
-sub-write-slot : tie.Need-sub-write-slot
-sub-write-slot c =
+sub-write-entry : tie.Need-sub-write-entry
+sub-write-entry c =
     let s = c .before .before .before .before .before .before .before .before .before .before .before in
     slots-left (s .pre .1) (c .before .before .before .before .if1 .left)
 
-write-slot-requires : tie.Need-write-slot-requires
-write-slot-requires c κs =
+write-entry-requires : tie.Need-write-entry-requires
+write-entry-requires c κs =
     let s = c .before .before .before .before .before .before .before .before .before .before .before in (
       slot-here (s .pre .1) (c .before .before .before .before .if1 .left),
       (a-here (s .pre .1) .low, b-here (s .pre .1) .low),
@@ -72,7 +72,7 @@ returns-2 c =
     let s = c .before .before .before .before .before .before .before .before .before .before .before .before .before .before in
     record {
       falls = omega (arith, left-some (s .pre .1));
-      situation = λ t h. met-different-here h (c .before .before .before .before .before .before .before .if1 .left) (c .before .before .before .before .before .before .cell-at .result) (c .before .before .before .before .before .before .cell-at .ensures) (c .before .before .write-slot .ensures);
+      situation = λ t h. met-different-here h (c .before .before .before .before .before .before .before .if1 .left) (c .before .before .before .before .before .before .cell-at .result) (c .before .before .before .before .before .before .cell-at .ensures) (c .before .before .write-entry .ensures);
     }
 
 pub meet-spec : {M : Type 1} → statement M
@@ -85,10 +85,10 @@ meet-spec =
     add-passed
     returns
     cell-at-requires
-    shared-slice-read-count
-    cast-count
+    shared-slice-read-offset
+    cast-offset
     add-stacked
-    sub-write-slot
-    write-slot-requires
+    sub-write-entry
+    write-entry-requires
     same-length
     returns-2)

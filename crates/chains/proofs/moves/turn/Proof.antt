@@ -12,15 +12,15 @@ sub-index c =
     let s = c .before .before .before .before in
     stacked-within (s .pre .0 .1) (s .pre .1)
 
-read-slot-requires : tie.Need-read-slot-requires
-read-slot-requires c κs =
+read-entry-requires : tie.Need-read-entry-requires
+read-entry-requires c κs =
     let s = c .before .before .before .before .before in
     slot-top (s .pre .0 .1) (s .pre .1)
 
 emit-requires : tie.Need-emit-requires
 emit-requires c κs =
     let s = c .before .before .before .before .before .before .before .before .before in
-    (s .args .total, s .pre .0 .0, s .pre .0 .1, top-done (s .pre .0 .1) (s .pre .1) (c .before .before .before .read-slot .result) (c .before .before .before .read-slot .ensures) (c .before .before .if1 .taken))
+    (s .args .total, s .pre .0 .0, s .pre .0 .1, top-done (s .pre .0 .1) (s .pre .1) (c .before .before .before .read-entry .result) (c .before .before .before .read-entry .ensures) (c .before .before .if1 .taken))
 
 same-length : tie.Need-same-length
 same-length c = search needs
@@ -33,20 +33,20 @@ returns c =
     let s = c .before .before .before .before .before .before .before .before .before .before .before .before .before .before in (
       c .before .before .before .before .emit .ensures .0,
       record {
-        falls = omega (arith, c .before .before .before .before .emit .ensures .1 .one-more, c .before .before .before .before .emit .ensures .1 .few-more, slots-over (s .pre .0 .1) (top-done (s .pre .0 .1) (s .pre .1) (c .before .before .before .before .before .before .before .before .read-slot .result) (c .before .before .before .before .before .before .before .before .read-slot .ensures) (c .before .before .before .before .before .before .before .if1 .taken)));
-        situation = λ t h. c .before .before .before .before .emit .ensures .1 .situation (s .args .total) t h (top-done h (s .pre .1) (c .before .before .before .before .before .before .before .before .read-slot .result) (c .before .before .before .before .before .before .before .before .read-slot .ensures) (c .before .before .before .before .before .before .before .if1 .taken));
+        falls = omega (arith, c .before .before .before .before .emit .ensures .1 .one-more, c .before .before .before .before .emit .ensures .1 .few-more, slots-over (s .pre .0 .1) (top-done (s .pre .0 .1) (s .pre .1) (c .before .before .before .before .before .before .before .before .read-entry .result) (c .before .before .before .before .before .before .before .before .read-entry .ensures) (c .before .before .before .before .before .before .before .if1 .taken)));
+        situation = λ t h. c .before .before .before .before .emit .ensures .1 .situation (s .args .total) t h (top-done h (s .pre .1) (c .before .before .before .before .before .before .before .before .read-entry .result) (c .before .before .before .before .before .before .before .before .read-entry .ensures) (c .before .before .before .before .before .before .before .if1 .taken));
       },
     )
 
 cell-at-requires : tie.Need-cell-at-requires
 cell-at-requires c κs =
     let s = c .before .before .before .before .before .before .before in
-    pair-top (s .pre .0 .1) (s .pre .1) (c .before .read-slot .result) (c .before .read-slot .ensures)
+    pair-top (s .pre .0 .1) (s .pre .1) (c .before .read-entry .result) (c .before .read-entry .ensures)
 
 shared-slice-read-x : tie.Need-shared-slice-read-x
 shared-slice-read-x c =
     let s = c .before .before .before .before .before .before .before .before .before in
-    omega (arith, c .before .cell-at .ensures, top-inside (s .pre .0 .1) (s .pre .1) (c .before .before .before .read-slot .result) (c .before .before .before .read-slot .ensures))
+    omega (arith, c .before .cell-at .ensures, top-inside (s .pre .0 .1) (s .pre .1) (c .before .before .before .read-entry .result) (c .before .before .before .read-entry .ensures))
 
 cast-x : tie.Need-cast-x
 cast-x c =
@@ -58,7 +58,7 @@ add-next c = search needs
 add-next-2 : tie.Need-add-next-2
 add-next-2 c =
     let s = c .before .before .before .before .before .before .before .before .before in
-    omega (arith, c .before .cell-at .ensures, top-inside (s .pre .0 .1) (s .pre .1) (c .before .before .before .read-slot .result) (c .before .before .before .read-slot .ensures), count-short (s .pre .0 .1) (s .pre .1) (c .before .before .before .read-slot .result) (c .before .before .before .read-slot .ensures) (c .before .cell-at .result) (c .before .cell-at .ensures), s .pre .0 .1 .settled .stands .full)
+    omega (arith, c .before .cell-at .ensures, top-inside (s .pre .0 .1) (s .pre .1) (c .before .before .before .read-entry .result) (c .before .before .before .read-entry .ensures), count-short (s .pre .0 .1) (s .pre .1) (c .before .before .before .read-entry .result) (c .before .before .before .read-entry .ensures) (c .before .cell-at .result) (c .before .cell-at .ensures), s .pre .0 .1 .settled .stands .full)
 
 cast-next : tie.Need-cast-next
 cast-next c = search needs
@@ -66,25 +66,25 @@ cast-next c = search needs
 sub-next : tie.Need-sub-next
 sub-next c =
     let s = c .before .before .before .before .before .before .before .before .before in
-    omega (arith, count-within (s .pre .0 .1) (s .pre .1) (c .before .before .before .read-slot .result) (c .before .before .before .read-slot .ensures) (c .before .cell-at .result) (c .before .cell-at .ensures))
+    omega (arith, count-within (s .pre .0 .1) (s .pre .1) (c .before .before .before .read-entry .result) (c .before .before .before .read-entry .ensures) (c .before .cell-at .result) (c .before .cell-at .ensures))
 
 shared-slice-read-next : tie.Need-shared-slice-read-next
 shared-slice-read-next c =
     let s = c .before .before .before .before .before .before .before .before .before .before in
-    omega (arith, c .before .before .cell-at .ensures, top-inside (s .pre .0 .1) (s .pre .1) (c .before .before .before .before .read-slot .result) (c .before .before .before .before .read-slot .ensures), count-short (s .pre .0 .1) (s .pre .1) (c .before .before .before .before .read-slot .result) (c .before .before .before .before .read-slot .ensures) (c .before .before .cell-at .result) (c .before .before .cell-at .ensures), c .before .before .before .if1 .left)
+    omega (arith, c .before .before .cell-at .ensures, top-inside (s .pre .0 .1) (s .pre .1) (c .before .before .before .before .read-entry .result) (c .before .before .before .before .read-entry .ensures), count-short (s .pre .0 .1) (s .pre .1) (c .before .before .before .before .read-entry .result) (c .before .before .before .before .read-entry .ensures) (c .before .before .cell-at .result) (c .before .before .cell-at .ensures), c .before .before .before .if1 .left)
 
 sub-t32 : tie.Need-sub-t32
 sub-t32 c = search needs
 
-write-slot-requires : tie.Need-write-slot-requires
-write-slot-requires c κs =
+write-entry-requires : tie.Need-write-entry-requires
+write-entry-requires c κs =
     let s = c .before .before .before .before .before .before .before .before .before .before .before in
-    (slot-top (s .pre .0 .1) (s .pre .1), (top-a (s .pre .0 .1) (s .pre .1) (c .before .before .before .before .before .read-slot .result) (c .before .before .before .before .before .read-slot .ensures) .low, top-b (s .pre .0 .1) (s .pre .1) (c .before .before .before .before .before .read-slot .result) (c .before .before .before .before .before .read-slot .ensures) .low))
+    (slot-top (s .pre .0 .1) (s .pre .1), (top-a (s .pre .0 .1) (s .pre .1) (c .before .before .before .before .before .read-entry .result) (c .before .before .before .before .before .read-entry .ensures) .low, top-b (s .pre .0 .1) (s .pre .1) (c .before .before .before .before .before .read-entry .result) (c .before .before .before .before .before .read-entry .ensures) .low))
 
 meet-requires : tie.Need-meet-requires
 meet-requires c κs =
     let s = c .before .before .before .before .before .before .before .before .before .before .before .before .before .before .before .before in
-    (s .pre .0 .0, taken-here (s .pre .0 .1) (s .pre .1) (c .before .before .before .before .before .before .before .before .before .before .read-slot .result) (c .before .before .before .before .before .before .before .before .before .before .read-slot .ensures) (c .before .before .before .before .before .before .before .before .cell-at .result) (c .before .before .before .before .before .before .before .before .cell-at .ensures) (c .before .before .before .before .before .before .before .before .before .if1 .left) (c .before .before .before .before .write-slot .ensures))
+    (s .pre .0 .0, taken-here (s .pre .0 .1) (s .pre .1) (c .before .before .before .before .before .before .before .before .before .before .read-entry .result) (c .before .before .before .before .before .before .before .before .before .before .read-entry .ensures) (c .before .before .before .before .before .before .before .before .cell-at .result) (c .before .before .before .before .before .before .before .before .cell-at .ensures) (c .before .before .before .before .before .before .before .before .before .if1 .left) (c .before .before .before .before .write-entry .ensures))
 
 same-length-3 : tie.Need-same-length-3
 same-length-3 c = search needs
@@ -100,8 +100,8 @@ returns-2 c =
         falls = c .before .before .meet .ensures .falls;
         situation = λ t h.
             c .before .before .meet .ensures .situation t
-            (taken-here h (s .pre .1) (c .before .before .before .before .before .before .before .before .before .before .before .before .before .read-slot .result) (c .before .before .before .before .before .before .before .before .before .before .before .before .before .read-slot .ensures) (c .before .before .before .before .before .before .before .before .before .before .before .cell-at .result) (c .before .before .before .before .before .before .before .before .before .before .before .cell-at .ensures) (c .before .before .before .before .before .before .before .before .before .before .before .before .if1 .left)
-            (c .before .before .before .before .before .before .before .write-slot .ensures));
+            (taken-here h (s .pre .1) (c .before .before .before .before .before .before .before .before .before .before .before .before .before .read-entry .result) (c .before .before .before .before .before .before .before .before .before .before .before .before .before .read-entry .ensures) (c .before .before .before .before .before .before .before .before .before .before .before .cell-at .result) (c .before .before .before .before .before .before .before .before .before .before .before .cell-at .ensures) (c .before .before .before .before .before .before .before .before .before .before .before .before .if1 .left)
+            (c .before .before .before .before .before .before .before .write-entry .ensures));
       },
     )
 
@@ -110,7 +110,7 @@ turn-spec =
     tie.close
     (tie.spec
     sub-index
-    read-slot-requires
+    read-entry-requires
     emit-requires
     same-length
     same-length-2
@@ -124,7 +124,7 @@ turn-spec =
     sub-next
     shared-slice-read-next
     sub-t32
-    write-slot-requires
+    write-entry-requires
     meet-requires
     same-length-3
     same-length-4

@@ -14,7 +14,6 @@ use Rattle.model.specs.Services.{followed}
 use Rattle.cells.specs.Stands.{Of}
 use Rattle.model.specs.Range.{InRange}
 use Rattle.swaps.specs.Held.{heldAt, Placed}
-use Rattle.bits.proofs.Width.{width-small}
 use Rattle.images.specs.Chains.{entryOf}
 use Rattle.images.proofs.RoundTrip.{chain-in-range}
 use Rattle.swaps.specs.Entry.{AppliedAs}
@@ -25,25 +24,17 @@ use Rattle.swaps.proofs.follow.follow.Statement.{statement}
 use Rattle.swaps.proofs.follow.follow.Tie as tie
 
 abbrev Inv-loop : tie.InvT-loop
-Inv-loop cells size chain count bytes₀ width left₀ right₀ i₀ bytes left right i =
+Inv-loop cells size chain count bytes₀ left₀ right₀ i₀ bytes left right i =
     Placed bytes left right × (length bytes ≡ length bytes₀) × (i ≤ count)
     × ((T : Presentation) → Of cells size T → (es : List Entry) → readChain size chain ≡ answered es → (v : Positive)
     → followed T (length bytes₀) 0 (heldAt bytes₀ left₀ right₀) es v ≡ followed T (length bytes₀) i (heldAt bytes left right) (drop i es) v)
 
 abbrev μ-loop : tie.MeasureT-loop
-μ-loop cells size chain count bytes₀ width left₀ right₀ i₀ bytes left right i = count - i
-
-letter-width-requires : tie.Need-letter-width-requires Inv-loop μ-loop
-letter-width-requires c κs =
-    let o = c .before .before .before .pre .sized .1 in
-    (omega (arith, o .sized, o .stands .some), omega (arith, o .sized, o .stands .few))
-
-cast-width : tie.Need-cast-width Inv-loop μ-loop
-cast-width c = search needs
+μ-loop cells size chain count bytes₀ left₀ right₀ i₀ bytes left right i = count - i
 
 loop-holds : tie.Need-loop-holds Inv-loop μ-loop
 loop-holds c =
-    let s = c .before .before .before .before in
+    let s = c .before .before .before in
     (s .pre .placed, refl, omega arith, λ T o es e v. refl)
 
 cast-entry-at : tie.Need-cast-entry-at Inv-loop μ-loop
@@ -51,14 +42,13 @@ cast-entry-at c = omega arith
 
 entry-at-requires : tie.Need-entry-at-requires Inv-loop μ-loop
 entry-at-requires c κs =
-    let s = c .before .before .before .before .before .before in
+    let s = c .before .before .before .before .before in
     let o = s .pre .sized .1 in
-    let w = c .before .before .letter-width in
-    record { some = omega (arith, o .sized, o .stands .some); few = omega (arith, o .sized, o .stands .few); narrow = subst (λ n. n ≤ 4) (sym (w .ensures)) (width-small (s .args .size)); width-is = w .ensures; entries = s .pre .entries .entries; read = s .pre .entries .read; inside = omega (arith, s .pre .entries .count-is, c .loop-test .taken) }
+    record { some = omega (arith, o .sized, o .stands .some); few = omega (arith, o .sized, o .stands .few); entries = s .pre .entries .entries; read = s .pre .entries .read; inside = omega (arith, s .pre .entries .count-is, c .loop-test .taken) }
 
 apply-requires : tie.Need-apply-requires Inv-loop μ-loop
 apply-requires c κs =
-    let s = c .before .before .before .before .before .before .before .before in
+    let s = c .before .before .before .before .before .before .before in
     let l = c .before .before .before .loop in
     let o = s .pre .sized .1 in
     let f = s .pre .entries in
@@ -74,7 +64,7 @@ same-length c = search needs
 
 returns : tie.Need-returns Inv-loop μ-loop
 returns c =
-    let s = c .before .before .before .before .before .before .before .before .before .before .before .before .before in
+    let s = c .before .before .before .before .before .before .before .before .before .before .before .before in
     let l = c .before .before .before .before .before .before .before .before .loop in
     let z = c .before .before .before .before .apply in
     let f = s .pre .entries in
@@ -89,7 +79,7 @@ same-length-2 c = search needs
 
 returns-2 : tie.Need-returns-2 Inv-loop μ-loop
 returns-2 c =
-    let s = c .before .before .before .before .before .before .before .before .before .before .before .before .before in
+    let s = c .before .before .before .before .before .before .before .before .before .before .before .before in
     let l = c .before .before .before .before .before .before .before .before .loop in
     let z = c .before .before .before .before .apply in
     let f = s .pre .entries in
@@ -104,14 +94,14 @@ enum-known-applied : tie.Need-enum-known-applied Inv-loop μ-loop
 enum-known-applied c = search needs
 
 add-i : tie.Need-add-i Inv-loop μ-loop
-add-i c = omega (arith, c .before .before .before .before .before .before .before .before .before .before .before .before .before .before .fits .count)
+add-i c = omega (arith, c .before .before .before .before .before .before .before .before .before .before .before .before .before .fits .count)
 
 loop-less : tie.Need-loop-less Inv-loop μ-loop
 loop-less c = omega arith
 
 loop-again : tie.Need-loop-again Inv-loop μ-loop
 loop-again c =
-    let s = c .before .before .before .before .before .before .before .before .before .before .before .before .before .before in
+    let s = c .before .before .before .before .before .before .before .before .before .before .before .before .before in
     let l = c .before .before .before .before .before .before .before .before .before .loop in
     let z = c .before .before .before .before .before .apply in
     let f = s .pre .entries in
@@ -132,7 +122,7 @@ same-length-3 c = search needs
 
 returns-3 : tie.Need-returns-3 Inv-loop μ-loop
 returns-3 c =
-    let s = c .before .before .before .before .before .before in
+    let s = c .before .before .before .before .before in
     let l = c .before .loop in
     let f = s .pre .entries in
     (l .inv .1, λ T o es e. (l .inv .0, λ v. l .inv .3 T o es e v ∙ follow-end T _ _ es v (l .i) (omega (arith, ap length (the-entries f es e), f .count-is, c .loop-test .left))))
@@ -143,8 +133,6 @@ follow-spec =
     (tie.spec
     Inv-loop
     μ-loop
-    letter-width-requires
-    cast-width
     loop-holds
     cast-entry-at
     entry-at-requires

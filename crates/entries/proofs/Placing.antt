@@ -10,14 +10,14 @@ use lib.Pow.{pow-mono}
 use Rattle.model.specs.Range.{EntryInRange}
 use Rattle.model.specs.Bits.{bitsOf, digits, number, letterWidth}
 use Rattle.model.specs.Equivalence.{Entry}
-use Rattle.model.specs.Images.{entryBits, letterBits}
+use Rattle.model.specs.Images.{entryBits, letterBits, entryWidth, entryPosition}
 use Rattle.bits.specs.Fields.{Inside, Written}
 use Rattle.bits.proofs.Digits.{length-digits, number-of-digits}
 use Rattle.bits.proofs.Bytes.{length-bits}
 use Rattle.bits.proofs.Fields.{field-fits}
 use Rattle.bits.proofs.Width.{width-small, letter-fits}
-use Rattle.chains.specs.declared.slots.Slot.{Slot}
-use Rattle.chains.specs.Slots.{slotWidth, slotAt, SlotInside, Placed, Same}
+use Rattle.entries.specs.declared.entry.ChainEntry.{ChainEntry}
+use Rattle.entries.specs.Entry.{EntryInside, Placed, Same}
 
 -- POSITIONS
 
@@ -27,8 +27,8 @@ product-small index width h w = mul-le-mul {n₁ = index} {m₁ = 12 + 2 * width
 pub position-small : (n index width : ℕ) → index < 65536 → width ≡ letterWidth n → index * (12 + 2 * width) ≤ 2000000
 position-small n index width h e = omega (arith, product-small index width h (omega (arith, width-small n)))
 
-pub slot-small : (n index : ℕ) → index < 65536 → slotAt n index + slotWidth n ≤ 2000000
-slot-small n index h = omega (arith, product-small index (letterWidth n) h (width-small n), width-small n)
+pub entry-small : (n index : ℕ) → index < 65536 → entryPosition n index + entryWidth n ≤ 2000000
+entry-small n index h = omega (arith, product-small index (letterWidth n) h (width-small n), width-small n)
 
 -- FIELDS WRITTEN
 
@@ -80,7 +80,7 @@ placed-more {before} {mid} {after} {at} {next} {bits} {more} p q e room =
           (drop-drop (length more) (at + length bits) (bitsOf before) ∙ ap (λ i. drop i (bitsOf before)) sum)));
     }
 
-pub length-entry : (n : ℕ) (e : Entry) → length (entryBits n e) ≡ slotWidth n
+pub length-entry : (n : ℕ) (e : Entry) → length (entryBits n e) ≡ entryWidth n
 length-entry n e =
     length-append (digits 12 (e .offset)) (letterBits n (e .a) ++ letterBits n (e .b))
     ∙ omega (
@@ -90,29 +90,29 @@ length-entry n e =
       length-digits (letterWidth n) (e .b - 1),
     )
 
--- where the fields of a slot lie
-module _ {n index : ℕ} {answer : List ℕ} (h : SlotInside n index answer) where
-  pub first-inside : (at : ℕ) → at ≡ slotAt n index → Inside answer at 12
-  first-inside at e = record { narrow = omega arith; inside = omega (arith, h .inside); small = omega (arith, slot-small n index (h .low)) }
+-- where the fields of an entry lie
+module _ {n index : ℕ} {answer : List ℕ} (h : EntryInside n index answer) where
+  pub first-inside : (at : ℕ) → at ≡ entryPosition n index → Inside answer at 12
+  first-inside at e = record { narrow = omega arith; inside = omega (arith, h .inside); small = omega (arith, entry-small n index (h .low)) }
 
-  pub second-inside : (at width : ℕ) → at ≡ slotAt n index → width ≡ letterWidth n → Inside answer (at + 12) width
+  pub second-inside : (at width : ℕ) → at ≡ entryPosition n index → width ≡ letterWidth n → Inside answer (at + 12) width
   second-inside at width e f =
-      record { narrow = omega (arith, width-small n); inside = omega (arith, h .inside); small = omega (arith, slot-small n index (h .low)) }
+      record { narrow = omega (arith, width-small n); inside = omega (arith, h .inside); small = omega (arith, entry-small n index (h .low)) }
 
-  pub third-inside : (at width : ℕ) → at ≡ slotAt n index → width ≡ letterWidth n → Inside answer (at + 12 + width) width
+  pub third-inside : (at width : ℕ) → at ≡ entryPosition n index → width ≡ letterWidth n → Inside answer (at + 12 + width) width
   third-inside at width e f =
-      record { narrow = omega (arith, width-small n); inside = omega (arith, h .inside); small = omega (arith, slot-small n index (h .low)) }
+      record { narrow = omega (arith, width-small n); inside = omega (arith, h .inside); small = omega (arith, entry-small n index (h .low)) }
 
 -- the same place in an area of the same length
-pub slot-inside-as : {n index : ℕ} {answer after : List ℕ} → length after ≡ length answer → SlotInside n index answer → SlotInside n index after
-slot-inside-as e h = record { some = h .some; few = h .few; low = h .low; inside = omega (arith, h .inside) }
+pub inside-as : {n index : ℕ} {answer after : List ℕ} → length after ≡ length answer → EntryInside n index answer → EntryInside n index after
+inside-as e h = record { some = h .some; few = h .few; low = h .low; inside = omega (arith, h .inside) }
 
--- a slot from its three fields
-module _ {n index : ℕ} {before : List ℕ} (h : SlotInside n index before) (e : Entry) (at width : ℕ) (ea : at ≡ slotAt n index) (ew : width ≡ letterWidth n)
+-- an entry from its three fields
+module _ {n index : ℕ} {before : List ℕ} (h : EntryInside n index before) (e : Entry) (at width : ℕ) (ea : at ≡ entryPosition n index) (ew : width ≡ letterWidth n)
     (one two three : List ℕ) where
-  pub slot-placed : Written before at 12 (e .offset) one → Written one (at + 12) width (e .a - 1) two → Written two (at + 12 + width) width (e .b - 1) three
-      → Placed before (slotAt n index) (entryBits n e) three
-  slot-placed p q r =
+  pub entry-placed : Written before at 12 (e .offset) one → Written one (at + 12) width (e .a - 1) two → Written two (at + 12 + width) width (e .b - 1) three
+      → Placed before (entryPosition n index) (entryBits n e) three
+  entry-placed p q r =
       let pa : Placed before at (digits 12 (e .offset)) one = written-placed p in
       let pb : Placed one (at + 12) (digits width (e .a - 1)) two = written-placed q in
       let pc : Placed two (at + 12 + width) (digits width (e .b - 1)) three = written-placed r in
@@ -136,14 +136,14 @@ field-at : (bits : List ℕ) (at : ℕ) (p f r : List ℕ) (k w : ℕ) → drop 
 field-at bits at p f r k w e lp lf =
     ap (take w) (sym (drop-drop k at bits) ∙ (ap (drop k) e ∙ drop-at p (f ++ r) k lp)) ∙ take-at f r w lf
 
-module _ {n index : ℕ} {answer : List ℕ} (h : SlotInside n index answer) (at width : ℕ) (ea : at ≡ slotAt n index) (ew : width ≡ letterWidth n) where
+module _ {n index : ℕ} {answer : List ℕ} (h : EntryInside n index answer) (at width : ℕ) (ea : at ≡ entryPosition n index) (ew : width ≡ letterWidth n) where
   -- a letter's field is small
   pub letter-small : (from value : ℕ) → Inside answer from width → value ≡ number 0 (take width (drop from (bitsOf answer))) → value < 16
   letter-small from value i e =
       let m : 2 ^ width ≤ 2 ^ 4 = pow-mono {j = 4} (omega (arith, width-small n)) in
       omega (arith, field-fits answer from width i width (omega arith))
 
-  module _ (e : Entry) (rest : List ℕ) (fit : EntryInRange n e) (there : drop (slotAt n index) (bitsOf answer) ≡ entryBits n e ++ rest) where
+  module _ (e : Entry) (rest : List ℕ) (fit : EntryInRange n e) (there : drop (entryPosition n index) (bitsOf answer) ≡ entryBits n e ++ rest) where
     bits-there : drop at (bitsOf answer) ≡ digits 12 (e .offset) ++ (digits width (e .a - 1) ++ (digits width (e .b - 1) ++ rest))
     bits-there =
         ap (λ i. drop i (bitsOf answer)) ea
@@ -151,9 +151,9 @@ module _ {n index : ℕ} {answer : List ℕ} (h : SlotInside n index answer) (at
         ∙ (regroup (digits 12 (e .offset)) (digits (letterWidth n) (e .a - 1)) (digits (letterWidth n) (e .b - 1)) rest
         ∙ ap (λ w. digits 12 (e .offset) ++ (digits w (e .a - 1) ++ (digits w (e .b - 1) ++ rest))) (sym ew)))
 
-    pub slot-read : (s : Slot) (x y : ℕ) → s .count ≡ number 0 (take 12 (drop at (bitsOf answer))) → x ≡ number 0 (take width (drop (at + 12) (bitsOf answer)))
+    pub entry-read : (s : ChainEntry) (x y : ℕ) → s .offset ≡ number 0 (take 12 (drop at (bitsOf answer))) → x ≡ number 0 (take width (drop (at + 12) (bitsOf answer)))
         → y ≡ number 0 (take width (drop (at + 12 + width) (bitsOf answer))) → s .a ≡ x + 1 → s .b ≡ y + 1 → Same e s
-    slot-read s x y ec ex ey xa yb =
+    entry-read s x y ec ex ey xa yb =
         let la : length (digits 12 (e .offset)) ≡ 12 = length-digits 12 (e .offset) in
         let lb : length (digits width (e .a - 1)) ≡ width = length-digits width (e .a - 1) in
         let lc : length (digits width (e .b - 1)) ≡ width = length-digits width (e .b - 1) in
@@ -161,7 +161,7 @@ module _ {n index : ℕ} {answer : List ℕ} (h : SlotInside n index answer) (at
         length-append (digits 12 (e .offset)) (digits width (e .a - 1)) ∙ ap₂ (λ i j. i + j) la lb in
         let fa : e .a - 1 < 2 ^ width = rw ew (letter-fits n (e .a) (h .few) (fit .a-names .low) (fit .a-names .high)) in
         let fb : e .b - 1 < 2 ^ width = rw ew (letter-fits n (e .b) (h .few) (fit .b-names .low) (fit .b-names .high)) in
-        let c : s .count ≡ e .offset =
+        let c : s .offset ≡ e .offset =
         ec
         ∙ (ap (number 0) (ap (take 12) bits-there ∙ take-at (digits 12 (e .offset)) (digits width (e .a - 1) ++ (digits width (e .b - 1) ++ rest)) 12 la)
         ∙ number-of-digits 12 (e .offset) (omega (arith, fit .offset-small))) in
@@ -179,7 +179,7 @@ module _ {n index : ℕ} {answer : List ℕ} (h : SlotInside n index answer) (at
         (bits-there ∙ sym (append-assoc (digits 12 (e .offset)) (digits width (e .a - 1)) (digits width (e .b - 1) ++ rest))) lab lc)
         ∙ number-of-digits width (e .b - 1) fb)) in
         record {
-          count = c;
+          offset = c;
           a = omega (arith, xa, a, fit .a-names .low);
           b = omega (arith, yb, b, fit .b-names .low);
         }

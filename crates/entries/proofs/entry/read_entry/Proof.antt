@@ -1,14 +1,14 @@
--- `chains::slots::read_slot` meets its contract: its three fields are those of the entry that stands there.
+-- `entries::entry::read_entry` meets its contract: its three fields are those of the entry that stands there.
 use mathlib.Core.Path.{refl}
 use Prim.Native.Nat.{_+_}
 use native.Mathlib.Omega.{arith}
-use Rattle.chains.proofs.Placing.{slot-small, first-inside, second-inside, third-inside, letter-small, slot-read}
+use Rattle.entries.proofs.Placing.{entry-small, first-inside, second-inside, third-inside, letter-small, entry-read}
 use borrow.Author.Needs.{needs}
-use Rattle.chains.proofs.slots.read_slot.Statement.{statement}
-use Rattle.chains.proofs.slots.read_slot.Tie as tie
+use Rattle.entries.proofs.entry.read_entry.Statement.{statement}
+use Rattle.entries.proofs.entry.read_entry.Tie as tie
 
-slot-at-requires : tie.Need-slot-at-requires
-slot-at-requires c κs = search needs
+position-requires : tie.Need-position-requires
+position-requires c κs = search needs
 
 letter-width-requires : tie.Need-letter-width-requires
 letter-width-requires c κs = search needs
@@ -18,71 +18,71 @@ cast-width c = search needs
 
 read-field-requires : tie.Need-read-field-requires
 read-field-requires c κs =
-    first-inside (c .before .before .before .pre) (c .before .slot-at .result) (c .before .slot-at .ensures)
+    first-inside (c .before .before .before .pre) (c .before .position .result) (c .before .position .ensures)
 
 add-read-field : tie.Need-add-read-field
 add-read-field c =
-    omega (arith, slot-small (c .before .before .before .before .args .size) (c .before .before .before .before .args .index) (c .before .before .before .before .pre .low), c .before .before .slot-at .ensures)
+    omega (arith, entry-small (c .before .before .before .before .args .size) (c .before .before .before .before .args .index) (c .before .before .before .before .pre .low), c .before .before .position .ensures)
 
 read-field-requires-2 : tie.Need-read-field-requires-2
 read-field-requires-2 c κs =
-    second-inside (c .before .before .before .before .pre) (c .before .before .slot-at .result) (c .before .letter-width .result) (c .before .before .slot-at .ensures) (c .before .letter-width .ensures)
+    second-inside (c .before .before .before .before .pre) (c .before .before .position .result) (c .before .letter-width .result) (c .before .before .position .ensures) (c .before .letter-width .ensures)
 
 add-read-field-2 : tie.Need-add-read-field-2
 add-read-field-2 c =
-    omega (arith, slot-small (c .before .before .before .before .before .args .size) (c .before .before .before .before .before .args .index) (c .before .before .before .before .before .pre .low), c .before .before .before .slot-at .ensures)
+    omega (arith, entry-small (c .before .before .before .before .before .args .size) (c .before .before .before .before .before .args .index) (c .before .before .before .before .before .pre .low), c .before .before .before .position .ensures)
 
 add-read-field-3 : tie.Need-add-read-field-3
 add-read-field-3 c =
-    omega (arith, slot-small (c .before .before .before .before .before .args .size) (c .before .before .before .before .before .args .index) (c .before .before .before .before .before .pre .low), c .before .before .before .slot-at .ensures, c .before .before .letter-width .ensures)
+    omega (arith, entry-small (c .before .before .before .before .before .args .size) (c .before .before .before .before .before .args .index) (c .before .before .before .before .before .pre .low), c .before .before .before .position .ensures, c .before .before .letter-width .ensures)
 
 read-field-requires-3 : tie.Need-read-field-requires-3
 read-field-requires-3 c κs =
-    third-inside (c .before .before .before .before .before .pre) (c .before .before .before .slot-at .result) (c .before .before .letter-width .result) (c .before .before .before .slot-at .ensures) (c .before .before .letter-width .ensures)
+    third-inside (c .before .before .before .before .before .pre) (c .before .before .before .position .result) (c .before .before .letter-width .result) (c .before .before .before .position .ensures) (c .before .before .letter-width .ensures)
 
 add-t12 : tie.Need-add-t12
 add-t12 c =
     let s = c .before .before .before .before .before .before in
-    let at = c .before .before .before .before .slot-at in
+    let at = c .before .before .before .before .position in
     let width = c .before .before .before .letter-width in
     omega (arith, letter-small (s .pre) (at .result) (width .result) (at .ensures) (width .ensures) (at .result + 12) (c .before .read-field2 .result) (second-inside (s .pre) (at .result) (width .result) (at .ensures) (width .ensures)) (c .before .read-field2 .ensures))
 
 cast-t9 : tie.Need-cast-t9
 cast-t9 c =
     let s = c .before .before .before .before .before .before in
-    let at = c .before .before .before .before .slot-at in
+    let at = c .before .before .before .before .position in
     let width = c .before .before .before .letter-width in
     omega (arith, letter-small (s .pre) (at .result) (width .result) (at .ensures) (width .ensures) (at .result + 12) (c .before .read-field2 .result) (second-inside (s .pre) (at .result) (width .result) (at .ensures) (width .ensures)) (c .before .read-field2 .ensures))
 
 add-t13 : tie.Need-add-t13
 add-t13 c =
     let s = c .before .before .before .before .before .before in
-    let at = c .before .before .before .before .slot-at in
+    let at = c .before .before .before .before .position in
     let width = c .before .before .before .letter-width in
     omega (arith, letter-small (s .pre) (at .result) (width .result) (at .ensures) (width .ensures) (at .result + 12 + width .result) (c .read-field3 .result) (third-inside (s .pre) (at .result) (width .result) (at .ensures) (width .ensures)) (c .read-field3 .ensures))
 
 cast-t14 : tie.Need-cast-t14
 cast-t14 c =
     let s = c .before .before .before .before .before .before in
-    let at = c .before .before .before .before .slot-at in
+    let at = c .before .before .before .before .position in
     let width = c .before .before .before .letter-width in
     omega (arith, letter-small (s .pre) (at .result) (width .result) (at .ensures) (width .ensures) (at .result + 12 + width .result) (c .read-field3 .result) (third-inside (s .pre) (at .result) (width .result) (at .ensures) (width .ensures)) (c .read-field3 .ensures))
 
 returns : tie.Need-returns
 returns c =
     let s = c .before .before .before .before .before .before in
-    let at = c .before .before .before .before .slot-at in
+    let at = c .before .before .before .before .position in
     let width = c .before .before .before .letter-width in
     λ e rest fit there.
-    slot-read (s .pre) (at .result) (width .result) (at .ensures) (width .ensures) e rest fit there
-    (record { count = c .before .before .read-field .result; a = c .before .read-field2 .result + 1; b = c .read-field3 .result + 1 })
+    entry-read (s .pre) (at .result) (width .result) (at .ensures) (width .ensures) e rest fit there
+    (record { offset = c .before .before .read-field .result; a = c .before .read-field2 .result + 1; b = c .read-field3 .result + 1 })
     (c .before .read-field2 .result) (c .read-field3 .result) (c .before .before .read-field .ensures) (c .before .read-field2 .ensures) (c .read-field3 .ensures) refl refl
 
-pub read-slot-spec : {M : Type 1} → statement M
-read-slot-spec =
+pub read-entry-spec : {M : Type 1} → statement M
+read-entry-spec =
     tie.close
     (tie.spec
-    slot-at-requires
+    position-requires
     letter-width-requires
     cast-width
     read-field-requires

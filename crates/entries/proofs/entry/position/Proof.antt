@@ -1,11 +1,11 @@
--- `chains::slots::slot_at` meets its contract.
+-- `entries::entry::position` meets its contract.
 use mathlib.Core.Path.{ap}
 use Prim.Native.Nat.{_+_, _*_}
 use native.Mathlib.Omega.{arith}
-use Rattle.chains.proofs.Placing.{position-small}
+use Rattle.entries.proofs.Placing.{position-small}
 use borrow.Author.Needs.{needs}
-use Rattle.chains.proofs.slots.slot_at.Statement.{statement}
-use Rattle.chains.proofs.slots.slot_at.Tie as tie
+use Rattle.entries.proofs.entry.position.Statement.{statement}
+use Rattle.entries.proofs.entry.position.Tie as tie
 
 letter-width-requires : tie.Need-letter-width-requires
 letter-width-requires c κs = search needs
@@ -31,8 +31,8 @@ returns : tie.Need-returns
 returns c =
     ap (λ w. 16 + c .before .args .index * (12 + 2 * w)) (c .letter-width .ensures)
 
-pub slot-at-spec : {M : Type 1} → statement M
-slot-at-spec =
+pub position-spec : {M : Type 1} → statement M
+position-spec =
     tie.close
     (tie.spec
     letter-width-requires
