@@ -1,12 +1,12 @@
 // Runs the cases of the bench sheet that are not among the thirteen proved of the definitions, one line for each.
 ghost use mathlib.Core.Path.{_≡_};
 ghost use lib.ListN.{length};
+use clearing::clear::clear;
 use libc::STDOUT_FILENO;
 use model::answers::Cleared;
 use model::answers::Refusal;
 use model::answers::Reversed;
-use services::clear::clear;
-use services::reverse::reverse;
+use reversal::reverse::reverse;
 
 // Whether a refusal is 11 or 12.
 fn is_stop(refusal: Refusal) -> bool {

@@ -1,5 +1,3 @@
-pub mod Inverting
-pub mod Moving
 pub mod Residuals
 pub mod CellWords
 pub mod Sides

@@ -1,14 +1,12 @@
 -- The cube rule at one triple: its two sides, their agreement, and each way in which it ends.
 use mathlib.Core.Path.{_≡_, refl, sym, ap, ap₂, _∙_}
-use mathlib.Core.List.{List, [], _∷_, _++_, append-nil}
+use mathlib.Core.List.{List, [], _∷_, _++_}
 use mathlib.Core.Bool.{cond}
-use Prim.Native.Nat.{ℕ, suc, _-_, _≤_}
+use Prim.Native.Nat.{ℕ, suc, _-_}
 use native.Mathlib.Omega.{arith}
 use borrow.Author.Tests.{eq-eqb, ne-eqb}
-use borrow.Rule.Slice.PartMut.{putMid, take-put, post-is, same-len-mid}
 use lib.Dec.{eqb}
 use lib.ListN.{length, take, drop}
-use lib.Seq.{drop-at, drop-length, length-take-le}
 use Rattle.model.specs.Word.{Positive, positive, negative, inverse}
 use Rattle.model.specs.Presentation.{Presentation, undefined, complement, complete}
 use Rattle.model.specs.Reversing.{Ending, finished, open-pair, stopped, budget, room, reversing}
@@ -22,27 +20,13 @@ use Rattle.engine.specs.Gap.{letters, wordAt, Searched}
 use Rattle.cells.specs.Stands.{Serves}
 use Rattle.engine.specs.Run.{Reverses}
 use Rattle.engine.proofs.Loads.{loaded, load-searched, load-serves}
-use Rattle.checks.specs.Words.{Inverted, Moved}
+use Rattle.engine.specs.Words.{Inverted, Moved}
 use Rattle.checks.specs.Residues.{Works}
 use Rattle.checks.specs.Cube.{verdictOf, missingSide, cubeAnswer, Sides}
 use Rattle.checks.specs.declared.residues.Residue.{Residue as ResidueAnswer}
 use Rattle.checks.specs.declared.residues.Residue.the-variants.{Missing, Halted}
 use Rattle.checks.specs.declared.cube.CubeVerdict.the-variants.{Holds, Fails, Halts}
 use Rattle.checks.proofs.Sides.{was-missing, was-halted}
-
--- a part from `kept` on that was lent and is back
-module _ (kept : ℕ) (xs ys : List ℕ) (inside : kept ≤ length xs) where
-  pub part-front : take kept (putMid kept (length xs - kept) xs ys) ≡ take kept xs
-  part-front = take-put kept (length xs - kept) xs ys inside
-
-  pub part-back : putMid kept (length xs - kept) xs ys ≡ take kept xs ++ ys
-  part-back = ap (λ l. take kept xs ++ l) (ap (λ l. ys ++ l) (post-is kept (length xs) xs inside ∙ drop-length xs) ∙ append-nil ys)
-
-  pub part-end : drop kept (putMid kept (length xs - kept) xs ys) ≡ ys
-  part-end = ap (drop kept) part-back ∙ drop-at (take kept xs) ys kept (length-take-le kept xs inside)
-
-  pub part-length : length ys ≡ length (take (length xs - kept) (drop kept xs)) → length (putMid kept (length xs - kept) xs ys) ≡ length xs
-  part-length n = same-len-mid kept (length xs - kept) xs ys n
 
 -- whether a reversing ended empty, as it is told
 verdict-answer : (e : Ending) → verdictOf (endingAnswer e) ≡ cubeAnswer (empties e)

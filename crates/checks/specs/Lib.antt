@@ -1,4 +1,3 @@
-pub mod Words
 pub mod Residues
 pub mod Cube
 pub mod Table

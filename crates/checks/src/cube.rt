@@ -7,11 +7,11 @@ ghost use Rattle.cells.specs.Stands.{Ready};
 ghost use Rattle.checks.specs.Cube.{verdictOf, missingSide, Ends, AgreeMeans, RightSide, CubeMeans};
 use crate::residues::Residue;
 use crate::residues::side;
-use crate::words::invert;
-use crate::words::move_to_end;
 use cells::layout::cell_at;
 use engine::gap::Gap;
 use engine::run::reversing;
+use engine::words::invert;
+use engine::words::move_to_end;
 use model::answers::Ending;
 use model::answers::Stop;
 

@@ -2,4 +2,3 @@
 pub mod cube;
 pub mod residues;
 pub mod table;
-pub mod words;

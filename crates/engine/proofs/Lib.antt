@@ -9,3 +9,5 @@ pub mod Runs
 pub mod Counting
 pub mod Progress
 pub mod Loads
+pub mod Inverting
+pub mod Moving

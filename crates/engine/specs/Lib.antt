@@ -1,3 +1,4 @@
 pub mod Gap
 pub mod Turn
 pub mod Run
+pub mod Words

@@ -3,3 +3,4 @@ pub mod gap;
 pub mod letter;
 pub mod run;
 pub mod step;
+pub mod words;

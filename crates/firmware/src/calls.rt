@@ -7,10 +7,10 @@ ghost use Rattle.model.specs.Plain.{readPlainTable};
 ghost use Rattle.model.specs.Services.{reverse, clear, compare, chain, check, packTable, unpackTable, packProgram, unpackProgram, listable, programUnder, plainProgramUnder};
 ghost use Rattle.model.specs.Areas.{outputAfter, workspaceAfter, fractionBytes, ChainArea, ReadsBack};
 ghost use Rattle.model.specs.Stated.{sizes};
-ghost use Rattle.services.specs.Clear.{ClearMeaning};
-ghost use Rattle.services.specs.Compare.{Meaning};
-ghost use Rattle.services.specs.Chain.{ListedChecks};
-ghost use Rattle.services.specs.Check.{CheckMeaning};
+ghost use Rattle.clearing.specs.Clear.{ClearMeaning};
+ghost use Rattle.comparing.specs.Compare.{Meaning};
+ghost use Rattle.chaining.specs.Chain.{ListedChecks};
+ghost use Rattle.checking.specs.Check.{CheckMeaning};
 ghost use Rattle.firmware.specs.Told.{told, sizesTold, passedTold, verdictTold, passageTold, bytesTold};
 ghost use Rattle.firmware.specs.Values.{Tells};
 use crate::numbers::Numbers;
@@ -19,15 +19,15 @@ use crate::numbers::of_cleared;
 use crate::numbers::of_compared;
 use crate::numbers::of_packed;
 use crate::numbers::of_reversed;
+use chaining::chain::chain;
+use checking::check::check;
+use clearing::clear::clear;
+use comparing::compare::compare;
 use packing::pack_program;
 use packing::pack_table;
 use packing::unpack_program;
 use packing::unpack_table;
-use services::chain::chain;
-use services::check::check;
-use services::clear::clear;
-use services::compare::compare;
-use services::reverse::reverse;
+use reversal::reverse::reverse;
 
 // Sets all four values and gives the result.
 pub(crate) fn tell(numbers: Numbers, values: &mut [u64; 4]) -> u8

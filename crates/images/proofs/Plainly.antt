@@ -5,7 +5,7 @@ use Prim.Native.Nat.{ℕ, suc, _+_, _-_, _≤_, _<_}
 use native.Mathlib.Omega.{arith}
 use native.Mathlib.Numerals.{add-one}
 use lib.ListN.{length, take, drop, set, getD, length-append, length-set, take-append-drop}
-use lib.Seq.{paste, paste-suc, take-all, take-suc, set-split, set-at, drop-cons, length-take-le}
+use lib.Seq.{paste, paste-suc, take-all, take-suc, set-split}
 use Rattle.model.specs.Word.{Positive}
 use Rattle.model.specs.Presentation.{Complement, undefined, complement}
 use Rattle.model.specs.Enumeration.{concatMap}
@@ -117,11 +117,3 @@ module _ (f : Complement → List ℕ) (size : ℕ) (cells : List ℕ) (rows : L
 
   pub table-all : (a : ℕ) → size < a → concatMap (concatMap f) (take (a - 1) rows) ≡ concatMap (concatMap f) rows
   table-all a h = ap (concatMap (concatMap f)) (take-all (a - 1) rows (omega (arith, listed .many)))
-
--- one byte more of a copy
-pub copied-more : (s d : List ℕ) (i : ℕ) → i < length s → i < length d → set (take i s ++ drop i d) i (getD s i 0) ≡ take (i + 1) s ++ drop (i + 1) d
-copied-more s d i hs hd =
-    ap (λ l. set (take i s ++ l) i (getD s i 0)) (drop-cons d i 0 hd)
-    ∙ (set-at (take i s) (getD d i 0) (drop (suc i) d) (getD s i 0) i (length-take-le i s (omega arith))
-    ∙ (sym (append-assoc (take i s) (getD s i 0 ∷ []) (drop (suc i) d))
-    ∙ (ap (λ l. l ++ drop (suc i) d) (sym (take-suc s i 0 hs)) ∙ ap (λ k. take k s ++ drop k d) (sym (add-one i)))))

@@ -3,8 +3,7 @@
 ghost use mathlib.Core.Path.{_≡_};
 ghost use mathlib.Core.Bool.{true};
 ghost use Prim.Native.Nat.{_+_, _*_, _^_, _≤_, _<_};
-ghost use mathlib.Core.List.{_++_};
-ghost use lib.ListN.{length, take, drop};
+ghost use lib.ListN.{length};
 ghost use Rattle.model.specs.Word.{letter};
 ghost use Rattle.model.specs.Bits.{letterWidth};
 ghost use Rattle.model.specs.Images.{signedBits};
@@ -42,19 +41,6 @@ pub fn write_program(plain: &[u8], size: u8, area: &mut [u8])
     let mut i: usize = 0;
     while i < plain.len() {
         write_signed(area, 12 + i * (1 + width), size, width, plain[i]);
-        i += 1;
-    }
-}
-
-// Copies the first bytes of one area into another.
-pub fn copy_bytes(from: &[u8], count: usize, area: &mut [u8])
-    requires { ⌜ (count ≤ length (now from)) × (count ≤ length (now area)) ⌝ }
-    ensures length { λ r. ⌜ length (now (area .exit)) ≡ length (now (area .entry)) ⌝ }
-    ensures bytes { λ r. ⌜ now (area .exit) ≡ take count (now (from .entry)) ++ drop count (now (area .entry)) ⌝ }
-{
-    let mut i: usize = 0;
-    while i < count {
-        area[i] = from[i];
         i += 1;
     }
 }

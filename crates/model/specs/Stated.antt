@@ -48,6 +48,11 @@ refusal (WorkspaceShort p) = refused 12 (placeNumbers p)
 refusal AnswerShort = refused 13 []
 refusal UnequalEnds = refused 14 []
 
+-- 11 and 12 of the programs
+abbrev pub stopRefusal : StopAnswer → Refusal
+stopRefusal Budget = AllowanceUsed Programs
+stopRefusal Room = WorkspaceShort Programs
+
 -- Reverse: "their lengths and the steps in the result"
 pub record Sizes : Type 0 where
   pub numerator : ℕ

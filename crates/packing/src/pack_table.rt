@@ -1,9 +1,9 @@
 // Pack a table: its image in the answer area.
 
+use areas::bytes::copy_bytes;
 use images::packing;
 use images::plain;
 use images::tables::TableRead;
-use images::writing;
 use model::answers::Packed;
 use model::answers::Refusal;
 ghost use mathlib.Core.Path.{_≡_};
@@ -31,7 +31,7 @@ pub fn pack(plain: &[u8], area: &mut [u8]) -> Packed
             if area.len() < bytes {
                 return Packed::Refused(Refusal::AnswerShort);
             }
-            writing::copy_bytes(&out, bytes, area);
+            copy_bytes(&out, bytes, area);
             Packed::Written { bytes }
         }
     }

@@ -1,9 +1,9 @@
 // Unpack a table: its plain form in the answer area.
 
+use areas::bytes::copy_bytes;
 use images::plain;
 use images::tables;
 use images::tables::TableRead;
-use images::writing;
 use model::answers::Packed;
 use model::answers::Refusal;
 ghost use mathlib.Core.Path.{_≡_};
@@ -30,7 +30,7 @@ pub fn unpack(table: &[u8], area: &mut [u8]) -> Packed
             if area.len() < bytes {
                 return Packed::Refused(Refusal::AnswerShort);
             }
-            writing::copy_bytes(&out, bytes, area);
+            copy_bytes(&out, bytes, area);
             Packed::Written { bytes }
         }
     }

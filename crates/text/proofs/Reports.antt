@@ -17,7 +17,7 @@ use Rattle.model.proofs.Impossible.{impossible}
 use Rattle.model.specs.Range.{All, LetterInRange}
 use Rattle.engine.proofs.Letters.{letter-forward, letter-back}
 use Rattle.images.proofs.Refusals.{told, refusal-mapped}
-use Rattle.services.proofs.Outcomes.{still-refused, goes-on}
+use Rattle.loading.proofs.Outcomes.{still-refused, goes-on}
 use Rattle.text.specs.Text.{letterText, wordText, bytesText, answerText, outcomeText, reading, report}
 
 -- the outcome whose sizes a refusal states

@@ -9,7 +9,7 @@ use images::programs::unpack_letters;
 use images::tables::TableRead;
 use images::tables::table_size;
 use model::answers::Reversed;
-use services::reverse::reverse;
+use reversal::reverse::reverse;
 
 // Of an accepted program: reverses it, then unpacks it into the workspace, which is free again, to write its letters.
 pub fn render_accepted(

@@ -1,5 +1,5 @@
 -- `checks::cube::right_side` meets its contract.
-use Rattle.checks.proofs.Triples.{part-front, part-end, part-length}
+use Rattle.areas.proofs.Parts.{part-front, part-end, part-length}
 use borrow.Author.Needs.{needs}
 use Rattle.checks.proofs.cube.right_side.Statement.{statement}
 use Rattle.checks.proofs.cube.right_side.Tie as tie

@@ -3,8 +3,8 @@ use mathlib.Core.Path.{ap, subst, _∙_}
 use lib.ListN.{length}
 use Rattle.model.specs.Services.{listable}
 use Rattle.model.specs.Areas.{ChainArea}
-use Rattle.services.specs.Compare.{Meaning}
-use Rattle.services.specs.Chain.{ListedChecks}
+use Rattle.comparing.specs.Compare.{Meaning}
+use Rattle.chaining.specs.Chain.{ListedChecks}
 use Rattle.firmware.specs.Told.{told, verdictTold}
 use Rattle.firmware.specs.Values.{Tells}
 use borrow.Author.Needs.{needs}

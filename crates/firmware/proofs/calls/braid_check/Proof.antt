@@ -1,7 +1,7 @@
 -- `firmware::calls::braid_check` meets its contract.
 use mathlib.Core.Path.{ap, subst, _∙_}
 use lib.ListN.{length}
-use Rattle.services.specs.Check.{CheckMeaning}
+use Rattle.checking.specs.Check.{CheckMeaning}
 use Rattle.firmware.specs.Told.{told, passageTold}
 use Rattle.firmware.specs.Values.{Tells}
 use borrow.Author.Needs.{needs}

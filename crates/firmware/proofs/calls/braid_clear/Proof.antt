@@ -1,6 +1,6 @@
 -- `firmware::calls::braid_clear` meets its contract.
 use mathlib.Core.Path.{ap, subst, _∙_}
-use Rattle.services.specs.Clear.{ClearMeaning}
+use Rattle.clearing.specs.Clear.{ClearMeaning}
 use Rattle.firmware.specs.Told.{told, passedTold}
 use Rattle.firmware.specs.Values.{Tells}
 use borrow.Author.Needs.{needs}

@@ -2,7 +2,7 @@
 use mathlib.Core.Path.{ap, subst, _∙_}
 use lib.ListN.{length}
 use Rattle.model.specs.Outcome.{answered}
-use Rattle.services.specs.Compare.{Meaning}
+use Rattle.comparing.specs.Compare.{Meaning}
 use Rattle.firmware.specs.Told.{told, verdictTold}
 use Rattle.firmware.specs.Values.{Tells}
 use borrow.Author.Needs.{needs}

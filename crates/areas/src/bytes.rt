@@ -1,0 +1,28 @@
+ghost use mathlib.Core.Path.{_≡_};
+ghost use mathlib.Core.List.{_++_};
+ghost use Prim.Native.Nat.{_≤_};
+ghost use lib.ListN.{length, take, drop, replicate};
+
+// Leaves an area all zero.
+pub fn wipe(area: &mut [u8])
+    ensures { λ r. ⌜ now (area .exit) ≡ replicate (length (now (area .entry))) 0 ⌝ }
+{
+    let mut i: usize = 0;
+    while i < area.len() {
+        area[i] = 0;
+        i += 1;
+    }
+}
+
+// Copies the first bytes of one area into another.
+pub fn copy_bytes(from: &[u8], count: usize, area: &mut [u8])
+    requires { ⌜ (count ≤ length (now from)) × (count ≤ length (now area)) ⌝ }
+    ensures length { λ r. ⌜ length (now (area .exit)) ≡ length (now (area .entry)) ⌝ }
+    ensures bytes { λ r. ⌜ now (area .exit) ≡ take count (now (from .entry)) ++ drop count (now (area .entry)) ⌝ }
+{
+    let mut i: usize = 0;
+    while i < count {
+        area[i] = from[i];
+        i += 1;
+    }
+}

@@ -1,0 +1,2 @@
+// The bytes of lent areas: wiped, and copied from one to another.
+pub mod bytes;

@@ -1,0 +1,237 @@
+-- Listing a chain after a comparison, and the outcome of chain after its reading.
+use mathlib.Core.Path.{_≡_, refl, sym, ap, subst, _∙_}
+use mathlib.Core.List.{List, [], _++_}
+use mathlib.Core.Bool.{Bool, true, false}
+use Prim.Native.Nat.{ℕ, _+_, _≤_, _<_}
+use native.Mathlib.Omega.{arith}
+use native.Mathlib.Decide.{decLt}
+use borrow.Author.Tests.{lt-ltb, le-ltb}
+use lib.Dec.{ltb}
+use lib.ListN.{length, length-append}
+use Rattle.model.specs.Word.{Word, Positive, positive, negative}
+use Rattle.model.specs.Presentation.{Presentation, complete}
+use Rattle.model.specs.Reversing.{finished, room, reversing}
+use Rattle.model.specs.Outcome.{Outcome, answered, refused, _>>=_, unless}
+use Rattle.model.specs.Images.{readProgram, chainImage}
+use Rattle.model.specs.Services.{Verdict, same-after, different-after, readForward, comparison, chainBytes, listable, chain}
+use Rattle.model.specs.Areas.{Compares, Listed, ChainArea}
+use Rattle.model.specs.Stated.{refusal}
+use Rattle.model.specs.declared.answers.Refusal.{Refusal}
+use Rattle.model.specs.declared.answers.Refusal.the-variants.{AnswerShort}
+use Rattle.model.specs.declared.answers.Compared.the-variants.{Same as SameAnswer, Refused as RefusedAnswer}
+use Rattle.model.proofs.Impossible.{impossible}
+use Rattle.model.proofs.Reversal.{reversing-long}
+use Rattle.model.proofs.Endings.{reversing-finishes}
+use Rattle.model.proofs.Leftmost.{counted-within}
+use Rattle.model.proofs.Equiv.{Homogeneous}
+use Rattle.theory.proofs.Clearing.{clear-homogeneous}
+use Rattle.theory.proofs.Passages.{lead-joins}
+use Rattle.theory.proofs.Comparison.{answered-clear}
+use Rattle.theory.specs.Verdicts.{DemandThree}
+use Rattle.theory.proofs.Verdicts.{demand-three-told}
+use Rattle.images.proofs.Several.{answer-of}
+use Rattle.model.specs.Range.{ProgramInRange, Lettered}
+use Rattle.images.specs.Programs.{ForwardOf}
+use Rattle.images.proofs.RoundTrip.{chain-reads-back, program-in-range}
+use Rattle.cells.specs.Stands.{Of}
+use Rattle.engine.proofs.Lettering.{length-positive, length-negative}
+use Rattle.chains.specs.Listing.{Chained}
+use Rattle.chains.specs.Listing.{Compared as Listed-from}
+use Rattle.chains.proofs.Courses.{even-of}
+use Rattle.chains.proofs.Layouts.{room-for-fewer}
+use Rattle.loading.specs.Loading.{Images, readPair}
+use Rattle.comparing.specs.Compare.{toldAs, Ended, Judged, Meaning}
+use Rattle.loading.specs.Pairs.{LoadedPair}
+use Rattle.chaining.specs.Chain.{Area, ListedAs, JoinsChecked, ListedChecks}
+use Rattle.comparing.specs.declared.compare.Judgement.{Judgement}
+use Rattle.comparing.specs.declared.compare.Judgement.the-variants.{Same, Different, Refused}
+use Rattle.images.proofs.Refusals.{told}
+use Rattle.loading.proofs.Outcomes.{AsFound, still-refused}
+use Rattle.loading.proofs.Reading.{pair-refused, pair-runs}
+use Rattle.checking.proofs.CheckService.{check-runs}
+
+-- A VERDICT THAT LISTS NOTHING
+
+abbrev pub NotSame : Judgement → Type 0
+NotSame (Same k r) = ⊥
+NotSame (Different k) = Unit {0}
+NotSame (Refused r) = Unit {0}
+
+refused-area : (T : Presentation) (u v : Positive) (area : List ℕ) (r : Refusal) → Area T u v area area (refusal r)
+refused-area T u v area r = subst (Area T u v area area) (sym (told r .is)) refl
+
+module _ (T : Presentation) (u v : Positive) (steps width : ℕ) (before : List ℕ) where
+  pub lists-nothing : (j : Judgement) → NotSame j → Judged T u v steps width j → ListedAs T u v steps width before before (toldAs j)
+  lists-nothing (Same k r) unlike p = absurd unlike
+  lists-nothing (Different k) unlike p =
+      record { verdict = ap (λ o. o >>= listable (T .size) (length before)) (p .verdict); area = refl }
+  lists-nothing (Refused r) unlike p =
+      record {
+        verdict = sym (still-refused (comparison T u v steps width) r (sym (p .verdict)) (listable (T .size) (length before)));
+        area = refused-area T u v before r;
+      }
+
+  module _ (size k r : ℕ) (sized : T .size ≡ size) (p : Judged T u v steps width (Same k r)) where
+    listing-of : (comparison T u v steps width >>= listable (T .size) (length before)) ≡ unless (ltb (length before) (chainBytes size k)) 13 (same-after k)
+    listing-of =
+        ap (λ o. o >>= listable (T .size) (length before)) (sym (p .verdict))
+        ∙ ap (λ n. unless (ltb (length before) (chainBytes n k)) 13 (same-after k)) sized
+
+    pub area-too-short : length before < chainBytes size k → ListedAs T u v steps width before before (RefusedAnswer AnswerShort)
+    area-too-short h =
+        record {
+          verdict = sym (listing-of ∙ ap (λ t. unless t 13 (same-after k)) (lt-ltb (length before) (chainBytes size k) h));
+          area = refl;
+        }
+
+    pub lists-chain : chainBytes size k ≤ length before → (after : List ℕ) → Listed T u v k before after → ListedAs T u v steps width before after (SameAnswer k)
+    lists-chain h after l =
+        record {
+          verdict = sym (listing-of ∙ ap (λ t. unless t 13 (same-after k)) (le-ltb (length before) (chainBytes size k) h));
+          area = l;
+        }
+
+-- THE LISTING
+
+-- a reversing that finished began with a word that fits
+pub finished-fits : (T : Presentation) (steps width : ℕ) (w : Word) (n d : Positive) (k r : ℕ) → reversing T steps width w ≡ finished n d k r → length w ≤ width
+finished-fits T steps width w n d k r e = go (decLt width (length w))
+  where
+    go : Dec (width < length w) → length w ≤ width
+    go (yes h) = let f = reversing-long T steps width w h in impossible (cc (f, e))
+    go (no h) = omega arith
+
+pub pair-fits : (T : Presentation) (u v : Positive) (steps width k r : ℕ) → Ended T u v steps width k r → length u + length v ≤ width
+pair-fits T u v steps width k r e =
+    let h = finished-fits T steps width (negative u ++ positive v) [] [] k r (e .empty) in
+    omega (arith, length-append (negative u) (positive v), length-negative u, length-positive v)
+
+pub listed-of : (T : Presentation) (u v : Positive) (k : ℕ) (before after : List ℕ) → T .size ≤ 16 → Chained T u v k before after → Listed T u v k before after
+listed-of T u v k before after few c =
+    record {
+      entries = c .entries;
+      leads = c .leads;
+      few = c .few;
+      written = c .written;
+      readable = chain-reads-back (T .size) few (c .entries) (record { short = c .short; entries = c .fit });
+    }
+
+-- what the listing asks, from the comparison and the programs that were loaded again
+module _ (cells : List ℕ) (size : ℕ) (T : Presentation) (o : Of cells size T) (u v : Positive) (first second : List ℕ) (m n : ℕ) (one : ForwardOf first size m)
+    (two : ForwardOf second size n) (eu : one .word ≡ u) (ev : two .word ≡ v) (steps width k r : ℕ) (e : Ended T u v steps width k r) (bytes : List ℕ) (right : ℕ)
+    (same-width : length bytes ≡ width) (l : LoadedPair cells T u v bytes m right) (room : ℕ) (enough : chainBytes size k ≤ room) where
+  few : size ≤ 16
+  few = omega (arith, o .sized, o .stands .few)
+
+  named : (w : Positive) (image : List ℕ) → readProgram size image ≡ answered (positive w) → ProgramInRange size (positive w)
+  named w image q = program-in-range size few image (positive w) q
+
+  first-range : ProgramInRange size (positive u)
+  first-range = named u first (one .read-signed ∙ ap (λ x. answered (positive x)) eu)
+
+  second-range : ProgramInRange size (positive v)
+  second-range = named v second (two .read-signed ∙ ap (λ x. answered (positive x)) ev)
+
+  lettered : (w : Positive) → ProgramInRange size (positive w) → Lettered (T .size) (positive w)
+  lettered w p = subst (λ i. Lettered i (positive w)) (sym (o .sized)) (p .letters)
+
+  pub listed-from : Listed-from cells size bytes m right r room T u v k
+  listed-from =
+      record {
+        stands = o .stands;
+        size-is = sym (o .sized);
+        even = even-of T (clear-homogeneous T steps width (e .clear));
+        short = omega (arith, first-range .short, length-positive u);
+        first-named = lettered u first-range;
+        second-named = lettered v second-range;
+        ordered = l .searched .ordered;
+        inside = l .searched .inside;
+        first-length = ap length (sym eu) ∙ one .count-is;
+        word = l .word;
+        budget = steps;
+        same = ap (λ i. reversing T steps i (negative u ++ positive v)) same-width ∙ e .empty;
+        enough = omega (arith, room-for-fewer size (counted-within (reversing-finishes T steps width (negative u ++ positive v) [] [] k r (e .empty))));
+      }
+
+-- THE SERVICE
+
+module _ (table first second : List ℕ) (steps width area : ℕ) where
+  abbrev lists : Images → Outcome Verdict
+  lists p = comparison (p .table) (p .first) (p .second) steps width >>= listable (p .table .size) area
+
+  pub chain-refused : (r : Refusal) → readPair table first second ≡ refusal r → AsFound (chain table first second steps width area) r
+  unfolding chain
+  chain-refused = pair-refused table first second lists
+
+  pub chain-runs : (T : Presentation) (u v : Positive) → Compares table first second T u v
+      → chain table first second steps width area ≡ (comparison T u v steps width >>= listable (T .size) area)
+  unfolding chain
+  chain-runs = pair-runs table first second lists
+
+  -- what is told of a verdict gives the verdict back
+  shown : (n : ℕ) (x : Verdict) (y : Verdict) → listable n area x ≡ answered y → x ≡ y
+  shown n (same-after k) y e = by-room (ltb area (chainBytes n k)) e
+    where
+      by-room : (t : Bool) → unless t 13 (same-after k) ≡ answered y → same-after k ≡ y
+      by-room true q = impossible (cc)
+      by-room false q = cc
+  shown n (different-after k) y e = cc
+
+  pub chain-means : (o : Outcome Verdict) → o ≡ chain table first second steps width area → Meaning table first second steps width (λ T v. listable (T .size) area v) o
+  chain-means o e T u v c =
+      subst (DemandThree T u v steps width (listable (T .size) area)) (sym (e ∙ chain-runs T u v c))
+      (demand-three-told T u v steps width (listable (T .size) area) (shown (T .size)))
+
+  -- only a comparison that said "same" is told so
+  same-told : (T : Presentation) (u v : Positive) → Compares table first second T u v → (k : ℕ) → answered (same-after k) ≡ chain table first second steps width area
+      → comparison T u v steps width ≡ answered (same-after k)
+  same-told T u v c k e =
+      let x = answer-of (comparison T u v steps width) (listable (T .size) area) (same-after k) (sym (e ∙ chain-runs T u v c)) in
+      x .1 ∙ ap answered (shown (T .size) (x .0) (same-after k) (x .2))
+
+-- the answer area of the service
+module _ (table first second before after : List ℕ) where
+  pub area-refused : (r : Refusal) → ChainArea table first second before before (refusal r)
+  area-refused r = subst (ChainArea table first second before before) (sym (told r .is)) refl
+
+  pub area-listed : (T : Presentation) (u v : Positive) → Compares table first second T u v → (o : Outcome Verdict) → Area T u v before after o
+      → ChainArea table first second before after o
+  area-listed T u v c (answered (same-after k)) l = (T, u, v, c, l)
+  area-listed T u v c (answered (different-after k)) l = l
+  area-listed T u v c (refused n ps) l = l
+
+-- and what check says of it
+module _ (table first second : List ℕ) (steps width : ℕ) (before after : List ℕ) where
+  -- the table cleared, so the relations keep lengths
+  even-after : (T : Presentation) (u v : Positive) → Compares table first second T u v → (k : ℕ)
+      → answered (same-after k) ≡ chain table first second steps width (length before) → Homogeneous (λ a. 1) (complete T)
+  even-after T u v c k e =
+      clear-homogeneous T steps width
+      (answered-clear T u v steps width (same-told table first second steps width (length before) T u v c k e))
+
+  joins-checked : (T : Presentation) (u v : Positive) → Compares table first second T u v → (k : ℕ)
+      → answered (same-after k) ≡ chain table first second steps width (length before) → Listed T u v k before after
+      → JoinsChecked table first second before after
+  joins-checked T u v c k e l =
+      record {
+        image = chainImage (T .size) (l .entries);
+        written = l .written;
+        joined = λ T′ u′ v′ c′ room h.
+            check-runs table first second (chainImage (T .size) (l .entries)) room T u v c (T .size) refl (l .entries) (l .readable)
+            ∙ lead-joins T (even-after T u v c k e) room u (l .entries) v (l .leads) (omega (arith, h, ap length (same-first T′ u′ v′ c′)));
+      }
+    where
+      same-first : (T′ : Presentation) (u′ v′ : Positive) → Compares table first second T′ u′ v′ → u ≡ u′
+      same-first T′ u′ v′ c′ =
+          let one = c .table-read in
+          let two = c′ .table-read in
+          let sizes : T .size ≡ T′ .size = cc in
+          let read : readForward (T .size) first ≡ answered u′ = rw sizes (c′ .first-read) in
+          let first-one = c .first-read in
+          cc
+
+  pub listed-checks : (o : Outcome Verdict) → o ≡ chain table first second steps width (length before) → ChainArea table first second before after o
+      → ListedChecks table first second before after o
+  listed-checks (answered (same-after k)) e (T, u, v, c, l) = joins-checked T u v c k e l
+  listed-checks (answered (different-after k)) e a = tt
+  listed-checks (refused n ps) e a = tt

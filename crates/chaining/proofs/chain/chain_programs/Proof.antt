@@ -1,0 +1,147 @@
+-- `chaining::chain::chain_programs` meets its contract.
+use mathlib.Core.Path.{_≡_, refl, sym, ap, subst, _∙_}
+use mathlib.Core.List.{[], _∷_}
+use mathlib.Core.Logic.{⊎-elim}
+use Prim.Native.Nat.{_-_}
+use native.Mathlib.Omega.{arith}
+use denote.Enum.Declared.{tagOf}
+use types.Run.{OneOf}
+use lib.ListN.{length, replicate, length-replicate}
+use Rattle.model.specs.Areas.{workspaceAfter}
+use Rattle.model.specs.Stated.{compared}
+use Rattle.comparing.specs.Compare.{judgementAs, Judged}
+use Rattle.chaining.specs.Chain.{ListedAs}
+use Rattle.comparing.specs.declared.compare.Judgement.{Judgement}
+use Rattle.comparing.specs.declared.compare.Judgement.the-variants.{Same, Different, Refused}
+use Rattle.comparing.proofs.compare.Judgement.{the-type}
+use Rattle.comparing.proofs.Comparing.{told-states}
+use Rattle.chaining.proofs.ChainService.{NotSame, lists-nothing, area-too-short, lists-chain, pair-fits, listed-from, listed-of}
+use borrow.Author.Needs.{needs}
+use Rattle.chaining.proofs.chain.chain_programs.Statement.{statement}
+use Rattle.chaining.proofs.chain.chain_programs.Tie as tie
+
+compare-programs-requires : tie.Need-compare-programs-requires
+compare-programs-requires c κs = search needs
+
+enum-known-verdict : tie.Need-enum-known-verdict
+enum-known-verdict c = search needs
+
+told-requires : tie.Need-told-requires
+told-requires c κs = search needs
+
+same-length : tie.Need-same-length
+same-length c = search needs
+
+-- the other variants than `Same`
+not-same : (j : Judgement) → OneOf (1 ∷ 2 ∷ []) (tagOf the-type j) → NotSame j
+not-same (Same k r) h = ⊎-elim (λ e. omega arith) (λ e. omega arith) h
+not-same (Different k) h = tt
+not-same (Refused r) h = tt
+
+returns : tie.Need-returns
+returns c =
+    let s = c .before .before .before .before .before .before .before .before .before .before .before in
+    let z = c .before .before .before .before .compare-programs in
+    let p = s .pre .pair in
+    let no = not-same (z .result) (c .before .match .keys2) in
+    let e = c .told .ensures in
+    record {
+      wiped = z .ensures .workspace ∙ sym (ap (λ r. workspaceAfter (compared r) (s .args .workspace .now)) e ∙ ap (λ x. workspaceAfter x (s .args .workspace .now)) (told-states (z .result)));
+      lists = λ T o u v eu ev. subst (ListedAs T u v (s .args .budget) (length (s .args .workspace .now)) (s .args .answer .now) (s .args .answer .now)) (sym e)
+          (lists-nothing T u v (s .args .budget) (length (s .args .workspace .now)) (s .args .answer .now) (z .result) no (z .ensures .judged T o u v eu ev));
+    }
+
+chain-bytes-requires : tie.Need-chain-bytes-requires
+chain-bytes-requires c κs = search needs
+
+same-length-2 : tie.Need-same-length-2
+same-length-2 c = search needs
+
+returns-2 : tie.Need-returns-2
+returns-2 c =
+    let s = c .before .before .before .before .before .before .before .before .before .before .before .before .before .before in
+    let z = c .before .before .before .before .before .before .before .compare-programs in
+    let p = s .pre .pair in
+    let k = c .before .before .before .verdict .given .0 .0 in
+    let r = c .before .before .before .verdict .given .0 .1 .0 in
+    record {
+      wiped = z .ensures .workspace ∙ ap (λ j. workspaceAfter (judgementAs j) (s .args .workspace .now)) (c .before .before .before .verdict .given .1);
+      lists = λ T o u v eu ev. area-too-short T u v (s .args .budget) (length (s .args .workspace .now)) (s .args .answer .now) (s .args .size) k r (o .sized) (subst (Judged T u v (s .args .budget) (length (s .args .workspace .now))) (c .before .before .before .verdict .given .1) (z .ensures .judged T o u v eu ev)) (omega (arith, c .if1 .taken, c .before .chain-bytes .ensures));
+    }
+
+sub-right : tie.Need-sub-right
+sub-right c =
+    let s = c .before .before .before .before .before .before .before .before .before .before .before .before .before .before in
+    let z = c .before .before .before .before .before .before .before .compare-programs in
+    let p = s .pre .pair in
+    let k = c .before .before .before .verdict .given .0 .0 in
+    let r = c .before .before .before .verdict .given .0 .1 .0 in
+    omega (arith, pair-fits (s .pre .table) (p .one .word) (p .two .word) (s .args .budget) (length (s .args .workspace .now)) k r ((subst (Judged (s .pre .table) (p .one .word) (p .two .word) (s .args .budget) (length (s .args .workspace .now))) (c .before .before .before .verdict .given .1) (z .ensures .judged (s .pre .table) (s .pre .of) (p .one .word) (p .two .word) (p .one .read) (p .two .read))) .ended), p .one .count-is, p .two .count-is, (ap length (z .ensures .workspace ∙ ap (λ j. workspaceAfter (judgementAs j) (s .args .workspace .now)) (c .before .before .before .verdict .given .1)) ∙ length-replicate (length (s .args .workspace .now)) 0))
+
+load-pair-requires : tie.Need-load-pair-requires
+load-pair-requires c κs =
+    let s = c .before .before .before .before .before .before .before .before .before .before .before .before .before .before .before in
+    let z = c .before .before .before .before .before .before .before .before .compare-programs in
+    let p = s .pre .pair in
+    let k = c .before .before .before .before .verdict .given .0 .0 in
+    let r = c .before .before .before .before .verdict .given .0 .1 .0 in
+    (p, omega (arith, pair-fits (s .pre .table) (p .one .word) (p .two .word) (s .args .budget) (length (s .args .workspace .now)) k r ((subst (Judged (s .pre .table) (p .one .word) (p .two .word) (s .args .budget) (length (s .args .workspace .now))) (c .before .before .before .before .verdict .given .1) (z .ensures .judged (s .pre .table) (s .pre .of) (p .one .word) (p .two .word) (p .one .read) (p .two .read))) .ended), p .one .count-is, p .two .count-is, (ap length (z .ensures .workspace ∙ ap (λ j. workspaceAfter (judgementAs j) (s .args .workspace .now)) (c .before .before .before .before .verdict .given .1)) ∙ length-replicate (length (s .args .workspace .now)) 0)))
+
+list-requires : tie.Need-list-requires
+list-requires c κs =
+    let s = c .before .before .before .before .before .before .before .before .before .before .before .before .before .before .before .before .before .before .before .before in
+    let z = c .before .before .before .before .before .before .before .before .before .before .before .before .before .compare-programs in
+    let p = s .pre .pair in
+    let l = c .before .before .before .before .load-pair in
+    let k = c .before .before .before .before .before .before .before .before .before .verdict .given .0 .0 in
+    let r = c .before .before .before .before .before .before .before .before .before .verdict .given .0 .1 .0 in
+    ((s .pre .table), (p .one .word), (p .two .word), k, listed-from (s .args .cells .now) (s .args .size) (s .pre .table) (s .pre .of) (p .one .word) (p .two .word) (s .args .first .now) (s .args .second .now) (s .args .m) (s .args .n) (p .one) (p .two) refl refl (s .args .budget) (length (s .args .workspace .now)) k r ((subst (Judged (s .pre .table) (p .one .word) (p .two .word) (s .args .budget) (length (s .args .workspace .now))) (c .before .before .before .before .before .before .before .before .before .verdict .given .1) (z .ensures .judged (s .pre .table) (s .pre .of) (p .one .word) (p .two .word) (p .one .read) (p .two .read))) .ended) (l .last .1 .1 .1 .1 .1 .0) (length (z .last .1 .1 .1 .1 .1 .1 .1 .0) - s .args .n) (l .ensures .same-length ∙ (ap length (z .ensures .workspace ∙ ap (λ j. workspaceAfter (judgementAs j) (s .args .workspace .now)) (c .before .before .before .before .before .before .before .before .before .verdict .given .1)) ∙ length-replicate (length (s .args .workspace .now)) 0)) (l .ensures .loads (s .args .cells .now) (s .pre .table) (s .pre .of) (p .one .word) (p .two .word) (p .one .read) (p .two .read)) (length (s .args .answer .now)) (omega (arith, c .before .before .before .before .before .before .if1 .left, c .before .before .before .before .before .before .before .chain-bytes .ensures)))
+
+wipe-requires : tie.Need-wipe-requires
+wipe-requires c κs = search needs
+
+same-length-3 : tie.Need-same-length-3
+same-length-3 c = search needs
+
+same-length-4 : tie.Need-same-length-4
+same-length-4 c = search needs
+
+returns-3 : tie.Need-returns-3
+returns-3 c =
+    let s = c .before .before .before .before .before .before .before .before .before .before .before .before .before .before .before .before .before .before .before .before .before .before .before .before .before .before .before .before .before in
+    let z = c .before .before .before .before .before .before .before .before .before .before .before .before .before .before .before .before .before .before .before .before .before .before .compare-programs in
+    let p = s .pre .pair in
+    let l = c .before .before .before .before .before .before .before .before .before .before .before .before .before .load-pair in
+    let h = c .before .before .before .before .before .before .before .before .list in
+    let w = c .before .before .wipe in
+    let k = c .before .before .before .before .before .before .before .before .before .before .before .before .before .before .before .before .before .before .verdict .given .0 .0 in
+    let r = c .before .before .before .before .before .before .before .before .before .before .before .before .before .before .before .before .before .before .verdict .given .0 .1 .0 in
+    record {
+      wiped = w .ensures ∙ ap (λ i. replicate i 0) (h .ensures .0 ∙ (l .ensures .same-length ∙ (ap length (z .ensures .workspace ∙ ap (λ j. workspaceAfter (judgementAs j) (s .args .workspace .now)) (c .before .before .before .before .before .before .before .before .before .before .before .before .before .before .before .before .before .before .verdict .given .1)) ∙ length-replicate (length (s .args .workspace .now)) 0)));
+      lists = λ T o u v eu ev.
+          let fu : p .one .word ≡ u = cc (p .one .read, eu) in
+          let fv : p .two .word ≡ v = cc (p .two .read, ev) in
+          lists-chain T u v (s .args .budget) (length (s .args .workspace .now)) (s .args .answer .now) (s .args .size) k r (o .sized) (subst (Judged T u v (s .args .budget) (length (s .args .workspace .now))) (c .before .before .before .before .before .before .before .before .before .before .before .before .before .before .before .before .before .before .verdict .given .1) (z .ensures .judged T o u v eu ev))
+          (omega (arith, c .before .before .before .before .before .before .before .before .before .before .before .before .before .before .before .if1 .left, c .before .before .before .before .before .before .before .before .before .before .before .before .before .before .before .before .chain-bytes .ensures)) (h .last .1 .1 .1 .1 .1 .0)
+          (listed-of T u v k (s .args .answer .now) (h .last .1 .1 .1 .1 .1 .0) (o .stands .few) (h .ensures .1 .1 T u v k (listed-from (s .args .cells .now) (s .args .size) T o u v (s .args .first .now) (s .args .second .now) (s .args .m) (s .args .n) (p .one) (p .two) fu fv (s .args .budget) (length (s .args .workspace .now)) k r ((subst (Judged T u v (s .args .budget) (length (s .args .workspace .now))) (c .before .before .before .before .before .before .before .before .before .before .before .before .before .before .before .before .before .before .verdict .given .1) (z .ensures .judged T o u v eu ev)) .ended) (l .last .1 .1 .1 .1 .1 .0) (length (z .last .1 .1 .1 .1 .1 .1 .1 .0) - s .args .n) (l .ensures .same-length ∙ (ap length (z .ensures .workspace ∙ ap (λ j. workspaceAfter (judgementAs j) (s .args .workspace .now)) (c .before .before .before .before .before .before .before .before .before .before .before .before .before .before .before .before .before .before .verdict .given .1)) ∙ length-replicate (length (s .args .workspace .now)) 0)) (l .ensures .loads (s .args .cells .now) T o u v eu ev) (length (s .args .answer .now)) (omega (arith, c .before .before .before .before .before .before .before .before .before .before .before .before .before .before .before .if1 .left, c .before .before .before .before .before .before .before .before .before .before .before .before .before .before .before .before .chain-bytes .ensures)))));
+    }
+
+pub chain-programs-spec : {M : Type 1} → statement M
+chain-programs-spec =
+    tie.close
+    (tie.spec
+    compare-programs-requires
+    enum-known-verdict
+    told-requires
+    same-length
+    returns
+    chain-bytes-requires
+    same-length-2
+    returns-2
+    sub-right
+    load-pair-requires
+    list-requires
+    wipe-requires
+    same-length-3
+    same-length-4
+    returns-3)

@@ -1,0 +1,90 @@
+// Chain: as compare; where the verdict is `same`, a chain from the first program to the second is listed in the answer area.
+ghost use mathlib.Core.Path.{_≡_};
+ghost use lib.ListN.{length};
+ghost use Rattle.model.specs.Services.{chain, listable};
+ghost use Rattle.model.specs.Areas.{workspaceAfter, ChainArea};
+ghost use Rattle.model.specs.Stated.{compared};
+ghost use Rattle.loading.specs.Loading.{Forward};
+ghost use Rattle.comparing.specs.Compare.{Meaning};
+ghost use Rattle.chaining.specs.Chain.{Lists, ListedChecks};
+use areas::bytes::wipe;
+use chains::listing::list;
+use comparing::compare::Judgement;
+use comparing::compare::compare_programs;
+use comparing::compare::told;
+use engine::gap::Gap;
+use entries::entry::chain_bytes;
+use loading::loading::PairRead;
+use loading::loading::read_pair;
+use loading::pairs::load_pair;
+use model::answers::Compared;
+use model::answers::Refusal;
+
+// Two accepted forward programs under a table that was loaded. The workspace is wiped, unless the length check refused.
+pub fn chain_programs(
+    cells: &[u8],
+    size: u8,
+    first: &[u8],
+    m: u16,
+    second: &[u8],
+    n: u16,
+    budget: u16,
+    workspace: &mut [u8],
+    answer: &mut [u8],
+) -> Compared
+    requires { ⌜ Forward (now cells) size (now first) m (now second) n ⌝ }
+    ensures { λ r. ⌜ Lists (now (cells .entry)) size (now (first .entry)) (now (second .entry)) budget (now (workspace .entry)) (now (workspace .exit)) (now (answer .entry)) (now (answer .exit)) r ⌝ }
+{
+    let verdict = compare_programs(cells, size, first, m, second, n, budget, workspace);
+    let Judgement::Same { steps, relations } = verdict else {
+        return told(verdict);
+    };
+    if answer.len() < chain_bytes(size, steps) {
+        return Compared::Refused(Refusal::AnswerShort);
+    }
+    let left = m as usize;
+    let right = workspace.len() - n as usize;
+    load_pair(size, first, m, second, n, workspace);
+    list(
+        cells,
+        size,
+        workspace,
+        Gap { left, right },
+        relations,
+        answer,
+    );
+    wipe(workspace);
+    Compared::Same { steps }
+}
+
+pub fn chain(
+    table: &[u8],
+    first: &[u8],
+    second: &[u8],
+    allowance: u16,
+    workspace: &mut [u8],
+    answer: &mut [u8],
+) -> Compared
+    ensures stated { λ r. ⌜ compared r ≡ chain (now (table .entry)) (now (first .entry)) (now (second .entry)) allowance (length (now (workspace .entry))) (length (now (answer .entry))) ⌝ }
+    ensures workspace { λ r. ⌜ now (workspace .exit) ≡ workspaceAfter (chain (now (table .entry)) (now (first .entry)) (now (second .entry)) allowance (length (now (workspace .entry))) (length (now (answer .entry)))) (now (workspace .entry)) ⌝ }
+    ensures area { λ r. ⌜ ChainArea (now (table .entry)) (now (first .entry)) (now (second .entry)) (now (answer .entry)) (now (answer .exit)) (compared r) ⌝ }
+    ensures checks { λ r. ⌜ ListedChecks (now (table .entry)) (now (first .entry)) (now (second .entry)) (now (answer .entry)) (now (answer .exit)) (compared r) ⌝ }
+    ensures meaning { λ r. ⌜ Meaning (now (table .entry)) (now (first .entry)) (now (second .entry)) allowance (length (now (workspace .entry))) (λ T v. listable (T .size) (length (now (answer .entry))) v) (compared r) ⌝ }
+{
+    let mut cells = [0u8; 4096];
+    let read = read_pair(table, first, second, &mut cells);
+    match read {
+        PairRead::Refused(refusal) => Compared::Refused(refusal),
+        PairRead::Pair { size, m, n } => chain_programs(
+            &cells,
+            size,
+            first,
+            m,
+            second,
+            n,
+            allowance,
+            workspace,
+            answer,
+        ),
+    }
+}

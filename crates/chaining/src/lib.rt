@@ -1,0 +1,2 @@
+// The service chain.
+pub mod chain;

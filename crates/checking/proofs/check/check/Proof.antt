@@ -1,0 +1,101 @@
+-- `checking::check::check` meets its contract.
+use mathlib.Core.Path.{sym, ap, subst, _∙_}
+use lib.ListN.{length}
+use Rattle.model.specs.Areas.{workspaceAfter}
+use Rattle.images.specs.Chains.{ChainDone}
+use Rattle.loading.specs.Loading.{PairDone}
+use Rattle.checking.proofs.CheckService.{check-refused, check-no-chain, check-runs, check-says}
+use Rattle.cells.proofs.Rules.{blank-zeros}
+use borrow.Author.Needs.{needs}
+use Rattle.checking.proofs.check.check.Statement.{statement}
+use Rattle.checking.proofs.check.check.Tie as tie
+
+slice-aggregate-read-pair : tie.Need-slice-aggregate-read-pair
+slice-aggregate-read-pair c = search needs
+
+read-pair-requires : tie.Need-read-pair-requires
+read-pair-requires c κs = blank-zeros
+
+enum-known-read : tie.Need-enum-known-read
+enum-known-read c = search needs
+
+enum-known-read-2 : tie.Need-enum-known-read-2
+enum-known-read-2 c = search needs
+
+read-chain-requires : tie.Need-read-chain-requires
+read-chain-requires c κs =
+    let a = c .before .before .before .before .before .before .before .before .before .before .before .args in
+    let v = c .before .before .before .before .read-pair in
+    let t = subst (PairDone (a .table .now) (a .first .now) (a .second .now) (v .last .1 .1 .1 .0)) (c .before .read2 .given .1) (v .ensures) in
+    (t .forward .pair .some, t .forward .pair .few)
+
+enum-known-list : tie.Need-enum-known-list
+enum-known-list c = search needs
+
+enum-known-list-2 : tie.Need-enum-known-list-2
+enum-known-list-2 c = search needs
+
+slice-aggregate-check-programs : tie.Need-slice-aggregate-check-programs
+slice-aggregate-check-programs c = search needs
+
+check-programs-requires : tie.Need-check-programs-requires
+check-programs-requires c κs =
+    let a = c .before .before .before .before .before .before .before .before .before .before .before .before .before .before .before .before .before .args in
+    let v = c .before .before .before .before .before .before .before .before .before .before .read-pair in
+    let t = subst (PairDone (a .table .now) (a .first .now) (a .second .now) (v .last .1 .1 .1 .0)) (c .before .before .before .before .before .before .before .read2 .given .1) (v .ensures) in
+    let size = c .before .before .before .before .before .before .before .read2 .given .0 .0 in
+    let list = subst (ChainDone (a .entries .now) size) (c .before .before .before .list2 .given .1) (c .before .before .before .before .before .read-chain .ensures) in
+    record { forward = t .forward; chain = list }
+
+returns : tie.Need-returns
+returns c =
+    let a = c .before .before .before .before .before .before .before .before .before .before .before .args in
+    let v = c .before .before .before .before .read-pair in
+    let e = subst (PairDone (a .table .now) (a .first .now) (a .second .now) (v .last .1 .1 .1 .0)) (c .before .read .given .1) (v .ensures) in
+    let o = check-refused (a .table .now) (a .first .now) (a .second .now) (a .entries .now) (length (a .workspace .now)) (c .before .read .given .0 .0) e in
+    (o .stated, (o .workspace (a .workspace .now), check-says (a .table .now) (a .first .now) (a .second .now) (a .entries .now) (length (a .workspace .now)) _ (o .stated)))
+
+returns-2 : tie.Need-returns-2
+returns-2 c =
+    let a = c .before .before .before .before .before .before .before .before .before .before .before .before .before .before .before .args in
+    let v = c .before .before .before .before .before .before .before .before .read-pair in
+    let t = subst (PairDone (a .table .now) (a .first .now) (a .second .now) (v .last .1 .1 .1 .0)) (c .before .before .before .before .before .read2 .given .1) (v .ensures) in
+    let f = t .forward in
+    let size = c .before .before .before .before .before .read2 .given .0 .0 in
+    let e = subst (ChainDone (a .entries .now) size) (c .before .list .given .1) (c .before .before .before .read-chain .ensures) in
+    let o = check-no-chain (a .table .now) (a .first .now) (a .second .now) (a .entries .now) (length (a .workspace .now)) (f .table) (f .pair .one .word) (f .pair .two .word) (t .reads) size (f .of .sized) (c .before .list .given .0 .0) e in
+    (o .stated, (o .workspace (a .workspace .now), check-says (a .table .now) (a .first .now) (a .second .now) (a .entries .now) (length (a .workspace .now)) _ (o .stated)))
+
+same-length : tie.Need-same-length
+same-length c = search needs
+
+returns-3 : tie.Need-returns-3
+returns-3 c =
+    let a = c .before .before .before .before .before .before .before .before .before .before .before .before .before .before .before .before .before .before .before .before .args in
+    let v = c .before .before .before .before .before .before .before .before .before .before .before .before .before .read-pair in
+    let t = subst (PairDone (a .table .now) (a .first .now) (a .second .now) (v .last .1 .1 .1 .0)) (c .before .before .before .before .before .before .before .before .before .before .read2 .given .1) (v .ensures) in
+    let f = t .forward in
+    let size = c .before .before .before .before .before .before .before .before .before .before .read2 .given .0 .0 in
+    let list = subst (ChainDone (a .entries .now) size) (c .before .before .before .before .before .before .list2 .given .1) (c .before .before .before .before .before .before .before .before .read-chain .ensures) in
+    let z = c .before .before .check-programs in
+    let o = check-runs (a .table .now) (a .first .now) (a .second .now) (a .entries .now) (length (a .workspace .now)) (f .table) (f .pair .one .word) (f .pair .two .word) (t .reads) size (f .of .sized) (list .entries) (list .read) in
+    let e = z .ensures .passes (f .table) (f .of) (f .pair .one .word) (f .pair .two .word) (f .pair .one .read) (f .pair .two .read) (list .entries) (list .read) ∙ sym o in
+    (e, (z .ensures .wiped ∙ ap (λ x. workspaceAfter x (a .workspace .now)) e, check-says (a .table .now) (a .first .now) (a .second .now) (a .entries .now) (length (a .workspace .now)) _ e))
+
+pub check-spec : {M : Type 1} → statement M
+check-spec =
+    tie.close
+    (tie.spec
+    slice-aggregate-read-pair
+    read-pair-requires
+    enum-known-read
+    enum-known-read-2
+    read-chain-requires
+    enum-known-list
+    enum-known-list-2
+    slice-aggregate-check-programs
+    check-programs-requires
+    returns
+    returns-2
+    same-length
+    returns-3)

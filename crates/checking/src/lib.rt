@@ -1,0 +1,2 @@
+// The service that checks a chain.
+pub mod check;

@@ -1,0 +1,61 @@
+-- `clearing::clear::clear_cells` meets its contract.
+use mathlib.Core.Path.{refl, sym, ap, subst, _∙_}
+use lib.ListN.{length, replicate}
+use Rattle.model.specs.Areas.{workspaceAfter}
+use Rattle.model.specs.Stated.{clearedAs}
+use Rattle.checks.specs.Table.{LengthsMean}
+use Rattle.clearing.proofs.ClearService.{lengths-refuse, triples-clear, triples-wipe}
+use borrow.Author.Needs.{needs}
+use Rattle.clearing.proofs.clear.clear_cells.Statement.{statement}
+use Rattle.clearing.proofs.clear.clear_cells.Tie as tie
+
+check-lengths-requires : tie.Need-check-lengths-requires
+check-lengths-requires c κs = search needs
+
+enum-known-lengths : tie.Need-enum-known-lengths
+enum-known-lengths c = search needs
+
+enum-told : tie.Need-enum-told
+enum-told c = search needs
+
+check-triples-requires : tie.Need-check-triples-requires
+check-triples-requires c κs = search needs
+
+wipe-requires : tie.Need-wipe-requires
+wipe-requires c κs = search needs
+
+triples-answer-requires : tie.Need-triples-answer-requires
+triples-answer-requires c κs = search needs
+
+returns : tie.Need-returns
+returns c =
+    let s = c .before .before .before .before .before .before in
+    let m = subst (LengthsMean (s .args .cells .now) (s .args .size)) (c .before .lengths .given .1) (c .before .before .before .check-lengths .ensures) in
+    (lengths-refuse (s .args .cells .now) (s .args .size) (s .args .budget) (length (s .args .workspace .now)) (c .before .lengths .given .0 .0) m, refl)
+
+same-length : tie.Need-same-length
+same-length c = search needs
+
+returns-2 : tie.Need-returns-2
+returns-2 c =
+    let s = c .before .before .before .before .before .before .before .before .before .before .before .before .before .before in
+    let t = c .before .before .before .before .before .before .before .check-triples in
+    let m = subst (LengthsMean (s .args .cells .now) (s .args .size)) (c .before .before .before .before .before .before .before .before .before .enum-told .given .1) (c .before .before .before .before .before .before .before .before .before .before .before .check-lengths .ensures) in
+    let e = c .triples-answer .ensures in (
+      λ T o. ap clearedAs e ∙ triples-clear (s .args .cells .now) (s .args .size) (s .args .budget) (length (s .args .workspace .now)) (t .result) m (t .ensures .1) T o,
+      c .before .before .before .wipe .ensures ∙ (ap (λ i. replicate i 0) (t .ensures .0) ∙ sym (ap (λ r. workspaceAfter (clearedAs r) (s .args .workspace .now)) e ∙ triples-wipe (t .result) (s .args .workspace .now))),
+    )
+
+pub clear-cells-spec : {M : Type 1} → statement M
+clear-cells-spec =
+    tie.close
+    (tie.spec
+    check-lengths-requires
+    enum-known-lengths
+    enum-told
+    check-triples-requires
+    wipe-requires
+    triples-answer-requires
+    returns
+    same-length
+    returns-2)

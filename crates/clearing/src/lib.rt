@@ -1,0 +1,2 @@
+// The service clear.
+pub mod clear;

@@ -1,0 +1,159 @@
+-- What a comparison makes of each ending, and the outcome of compare after its reading.
+use mathlib.Core.Path.{_≡_, refl, sym, ap, ap₂, subst, _∙_}
+use mathlib.Core.List.{List, [], _∷_, _++_}
+use mathlib.Core.Bool.{Bool, true, false, not, cond}
+use Prim.Native.Nat.{ℕ, suc}
+use native.Mathlib.Omega.{arith}
+use borrow.Author.Tests.{eq-eqb, ne-eqb}
+use lib.Dec.{eqb}
+use lib.ListN.{length, replicate}
+use Rattle.model.specs.Word.{Positive, positive, negative}
+use Rattle.model.specs.Presentation.{Presentation}
+use Rattle.model.specs.Reversing.{Ending, finished, open-pair, stopped, budget, room, reversing}
+use Rattle.model.specs.Outcome.{Outcome, answered, unless}
+use Rattle.model.specs.Checks.{cleared}
+use Rattle.model.specs.Services.{Verdict, different-after, verdictOf, comparison, compare}
+use Rattle.model.specs.Areas.{Compares, workspaceAfter}
+use Rattle.model.specs.Stated.{refusal, compared, endingAnswer}
+use Rattle.model.specs.declared.answers.Ending.{Ending as EndingAnswer}
+use Rattle.model.specs.declared.answers.Refusal.{Refusal}
+use Rattle.model.specs.declared.answers.Refusal.the-variants.{UnequalEnds}
+use Rattle.model.specs.declared.answers.Ending.the-variants.{Finished, Undefined, Stopped}
+use Rattle.model.specs.declared.answers.Stop.the-variants.{Budget, Room}
+use Rattle.model.proofs.Impossible.{impossible}
+use Rattle.theory.specs.Verdicts.{DemandThree}
+use Rattle.theory.proofs.Verdicts.{demand-three}
+use Rattle.engine.specs.Run.{Reverses}
+use Rattle.loading.specs.Loading.{Images, readPair}
+use Rattle.comparing.specs.Compare.{judgement, judgementAs, toldAs, EndedIf, Judged, Meaning}
+use Rattle.comparing.specs.declared.compare.Judgement.{Judgement}
+use Rattle.comparing.specs.declared.compare.Judgement.the-variants.{Same, Different, Refused}
+use Rattle.loading.proofs.Outcomes.{AsFound, still-refused, goes-on}
+use Rattle.loading.proofs.Reading.{pair-refused, pair-runs}
+
+-- JUDGING AN ENDING
+
+-- the tests of `judge`
+pub judged-unequal : (n d k r : ℕ) → (n ≡ d → ⊥) → cond (eqb n d) (cond (eqb n 0) (Same k r) (Different k)) (Refused UnequalEnds) ≡ Refused UnequalEnds
+judged-unequal n d k r h = ap (λ t. cond t (cond (eqb n 0) (Same k r) (Different k)) (Refused UnequalEnds)) (ne-eqb n d h)
+
+module _ (n d k r : ℕ) (h : n ≡ d) where
+  even : cond (eqb n d) (cond (eqb n 0) (Same k r) (Different k)) (Refused UnequalEnds) ≡ cond (eqb n 0) (Same k r) (Different k)
+  even = ap (λ t. cond t (cond (eqb n 0) (Same k r) (Different k)) (Refused UnequalEnds)) (eq-eqb n d h)
+
+  pub judged-same : n ≡ 0 → cond (eqb n d) (cond (eqb n 0) (Same k r) (Different k)) (Refused UnequalEnds) ≡ Same k r
+  judged-same z = even ∙ ap (λ t. cond t (Same k r) (Different k)) (eq-eqb n 0 z)
+
+  pub judged-different : (n ≡ 0 → ⊥) → cond (eqb n d) (cond (eqb n 0) (Same k r) (Different k)) (Refused UnequalEnds) ≡ Different k
+  judged-different z = even ∙ ap (λ t. cond t (Same k r) (Different k)) (ne-eqb n 0 z)
+
+not-empty : (n : List ℕ) (x : ℕ) → length (x ∷ n) ≡ 0 → ⊥
+not-empty n x e = omega arith
+
+judgement-states : (e : Ending) → judgementAs (judgement (endingAnswer e)) ≡ verdictOf e
+judgement-states (finished [] [] k r) = refl
+judgement-states (finished [] (x ∷ d) k r) =
+    let f = ne-eqb 0 (suc (length d)) (λ e. omega arith) in
+    ap (λ t. judgementAs (cond t (Same k r) (Refused UnequalEnds))) f ∙ sym (ap (λ t. unless (not t) 14 (different-after k)) f)
+judgement-states (finished (x ∷ n) d k r) =
+    ap (λ s. judgementAs (cond (eqb (suc (length n)) (length d)) (cond s (Same k r) (Different k)) (Refused UnequalEnds))) (ne-eqb (suc (length n)) 0 (λ e. omega arith))
+    ∙ by-test (eqb (suc (length n)) (length d))
+  where
+    by-test : (t : Bool) → judgementAs (cond t (Different k) (Refused UnequalEnds)) ≡ unless (not t) 14 (different-after k)
+    by-test true = refl
+    by-test false = refl
+judgement-states (open-pair a b k) = refl
+judgement-states (stopped budget) = refl
+judgement-states (stopped room) = refl
+
+-- a verdict `same` is that of an empty word
+judged-empty : (e : Ending) (k r : ℕ) → judgement (endingAnswer e) ≡ Same k r → e ≡ finished [] [] k r
+judged-empty (finished [] [] i j) k r h =
+    let a : i ≡ k = cc in
+    let b : j ≡ r = cc in
+    ap₂ (finished [] []) a b
+judged-empty (finished [] (x ∷ d) i j) k r h =
+    let f = judged-unequal 0 (suc (length d)) i j (λ e. omega arith) in impossible (cc (f, h))
+judged-empty (finished (x ∷ n) d i j) k r h =
+    impossible (no-same (eqb (suc (length n)) (length d)) (ap (λ s. cond (eqb (suc (length n)) (length d)) (cond s (Same i j) (Different i)) (Refused UnequalEnds)) (sym (ne-eqb (suc (length n)) 0 (λ e. omega arith))) ∙ h))
+  where
+    no-same : (t : Bool) → cond t (Different i) (Refused UnequalEnds) ≡ Same k r → _≡_ {A = ℕ} 0 1
+    no-same true q = cc
+    no-same false q = cc
+judged-empty (open-pair a b i) k r h = impossible (cc)
+judged-empty (stopped budget) k r h = impossible (cc)
+judged-empty (stopped room) k r h = impossible (cc)
+
+module _ (T : Presentation) (u v : Positive) (steps width : ℕ) where
+  -- a table that does not clear
+  pub comparison-refused : (r : Refusal) → refusal r ≡ cleared T steps width → Judged T u v steps width (Refused r)
+  unfolding comparison
+  comparison-refused r e = record { verdict = sym (still-refused (cleared T steps width) r (sym e) _); ended = tt }
+
+  module _ (clear : answered tt ≡ cleared T steps width) where
+    after-clear : comparison T u v steps width
+        ≡ cond (eqb (length u) (length v)) (verdictOf (reversing T steps width (negative u ++ positive v))) (answered (different-after 0))
+    unfolding comparison
+    after-clear = goes-on (cleared T steps width) tt (sym clear) _
+
+    pub unequal-programs : (length u ≡ length v → ⊥) → Judged T u v steps width (Different 0)
+    unequal-programs h =
+        record {
+          verdict =
+              sym (after-clear ∙ ap (λ t. cond t (verdictOf (reversing T steps width (negative u ++ positive v))) (answered (different-after 0))) (ne-eqb (length u) (length v) h));
+          ended = tt;
+        }
+
+    pub equal-programs : length u ≡ length v → (area : List ℕ) → length area ≡ width → (e : EndingAnswer) → Reverses T (negative u ++ positive v) steps area e
+        → Judged T u v steps width (judgement e)
+    equal-programs h area n e p =
+        let end = reversing T steps width (negative u ++ positive v) in
+        let a : e ≡ endingAnswer end = p .answer ∙ ap (λ i. endingAnswer (reversing T steps i (negative u ++ positive v))) n in
+        record {
+          verdict =
+              ap (λ x. judgementAs (judgement x)) a
+              ∙ (judgement-states end
+              ∙ sym (after-clear ∙ ap (λ t. cond t (verdictOf end) (answered (different-after 0))) (eq-eqb (length u) (length v) h)));
+          ended = if-same (judgement e) (sym (ap judgement a));
+        }
+      where
+        if-same : (j : Judgement) → judgement (endingAnswer (reversing T steps width (negative u ++ positive v))) ≡ j → EndedIf T u v steps width j
+        if-same (Same k r) q =
+            record { clear = sym clear; same-length = h; empty = judged-empty (reversing T steps width (negative u ++ positive v)) k r q }
+        if-same (Different k) q = tt
+        if-same (Refused r) q = tt
+
+-- after any verdict of a reversing the workspace is all zero
+pub judged-wipe : (e : EndingAnswer) (area : List ℕ) → workspaceAfter (judgementAs (judgement e)) area ≡ replicate (length area) 0
+judged-wipe (Finished n d k r) area = by-tests (eqb n d) (eqb n 0)
+  where
+    by-tests : (s t : Bool) → workspaceAfter (judgementAs (cond s (cond t (Same k r) (Different k)) (Refused UnequalEnds))) area ≡ replicate (length area) 0
+    by-tests true true = refl
+    by-tests true false = refl
+    by-tests false t = refl
+judged-wipe (Undefined p k) area = refl
+judged-wipe (Stopped Budget) area = refl
+judged-wipe (Stopped Room) area = refl
+
+-- THE SERVICE
+
+module _ (table first second : List ℕ) (steps width : ℕ) where
+  abbrev judges : Images → Outcome Verdict
+  judges p = comparison (p .table) (p .first) (p .second) steps width
+
+  pub compare-refused : (r : Refusal) → readPair table first second ≡ refusal r → AsFound (compare table first second steps width) r
+  unfolding compare
+  compare-refused = pair-refused table first second judges
+
+  pub compare-runs : (T : Presentation) (u v : Positive) → Compares table first second T u v → compare table first second steps width ≡ comparison T u v steps width
+  unfolding compare
+  compare-runs = pair-runs table first second judges
+
+  -- demand 3, of the outcome
+  pub compare-means : (o : Outcome Verdict) → o ≡ compare table first second steps width → Meaning table first second steps width (λ T v. answered v) o
+  compare-means o e T u v c = subst (DemandThree T u v steps width answered) (sym (e ∙ compare-runs T u v c)) (demand-three T u v steps width)
+
+pub told-states : (j : Judgement) → compared (toldAs j) ≡ judgementAs j
+told-states (Same k r) = refl
+told-states (Different k) = refl
+told-states (Refused r) = refl

@@ -1,0 +1,120 @@
+// Compare: two programs of forward letters under a table that clears within the call.
+ghost use mathlib.Core.Path.{_≡_};
+ghost use lib.ListN.{length};
+ghost use Rattle.model.specs.Outcome.{answered};
+ghost use Rattle.model.specs.Services.{compare};
+ghost use Rattle.model.specs.Areas.{workspaceAfter};
+ghost use Rattle.model.specs.Stated.{compared};
+ghost use Rattle.loading.specs.Loading.{Pair, Forward};
+ghost use Rattle.comparing.specs.Compare.{judgement, toldAs, Judges, Meaning};
+use areas::bytes::wipe;
+use clearing::clear::clear_cells;
+use loading::loading::PairRead;
+use loading::loading::read_pair;
+use loading::pairs::run_pair;
+use model::answers::Cleared;
+use model::answers::Compared;
+use model::answers::Ending;
+use model::answers::Refusal;
+use model::stops::stop_refusal;
+
+// A verdict; `relations` counts the steps on two different letters.
+pub enum Judgement {
+    Same { steps: u16, relations: u16 },
+    Different { steps: u16 },
+    Refused(Refusal),
+}
+
+// What a comparison makes of an ending.
+pub fn judge(ending: Ending) -> Judgement
+    ensures { λ r. ⌜ r ≡ judgement ending ⌝ }
+{
+    match ending {
+        Ending::Finished {
+            numerator,
+            denominator,
+            steps,
+            relations,
+        } => {
+            if numerator != denominator {
+                return Judgement::Refused(Refusal::UnequalEnds);
+            }
+            if numerator == 0 {
+                return Judgement::Same { steps, relations };
+            }
+            Judgement::Different { steps }
+        }
+        Ending::Undefined { pair: _, steps } => Judgement::Different { steps },
+        Ending::Stopped(stop) => Judgement::Refused(stop_refusal(stop)),
+    }
+}
+
+// Two accepted forward programs under a table that was loaded. The workspace is wiped, unless the length check refused.
+pub fn compare_programs(
+    cells: &[u8],
+    size: u8,
+    first: &[u8],
+    m: u16,
+    second: &[u8],
+    n: u16,
+    budget: u16,
+    workspace: &mut [u8],
+) -> Judgement
+    requires { ⌜ Forward (now cells) size (now first) m (now second) n ⌝ }
+    ensures { λ r. ⌜ Judges (now (cells .entry)) size (now (first .entry)) (now (second .entry)) budget (now (workspace .entry)) (now (workspace .exit)) r ⌝ }
+{
+    let clear = clear_cells(cells, size, budget, workspace);
+    match clear {
+        Cleared::Refused(refusal) => Judgement::Refused(refusal),
+        Cleared::Passed => {
+            if m != n {
+                return Judgement::Different { steps: 0 };
+            }
+            let ending = run_pair(cells, size, first, m, second, n, budget, workspace);
+            wipe(workspace);
+            judge(ending)
+        }
+    }
+}
+
+// The answer that a judgement is.
+pub fn told(judgement: Judgement) -> Compared
+    ensures { λ r. ⌜ r ≡ toldAs judgement ⌝ }
+{
+    match judgement {
+        Judgement::Same {
+            steps,
+            relations: _,
+        } => Compared::Same { steps },
+        Judgement::Different { steps } => Compared::Different { steps },
+        Judgement::Refused(refusal) => Compared::Refused(refusal),
+    }
+}
+
+pub fn compare(
+    table: &[u8],
+    first: &[u8],
+    second: &[u8],
+    allowance: u16,
+    workspace: &mut [u8],
+) -> Compared
+    ensures stated { λ r. ⌜ compared r ≡ compare (now (table .entry)) (now (first .entry)) (now (second .entry)) allowance (length (now (workspace .entry))) ⌝ }
+    ensures workspace { λ r. ⌜ now (workspace .exit) ≡ workspaceAfter (compare (now (table .entry)) (now (first .entry)) (now (second .entry)) allowance (length (now (workspace .entry)))) (now (workspace .entry)) ⌝ }
+    ensures meaning { λ r. ⌜ Meaning (now (table .entry)) (now (first .entry)) (now (second .entry)) allowance (length (now (workspace .entry))) (λ T v. answered v) (compared r) ⌝ }
+{
+    let mut cells = [0u8; 4096];
+    let read = read_pair(table, first, second, &mut cells);
+    match read {
+        PairRead::Refused(refusal) => Compared::Refused(refusal),
+        PairRead::Pair { size, m, n } => told(compare_programs(
+            &cells,
+            size,
+            first,
+            m,
+            second,
+            n,
+            allowance,
+            workspace,
+        )),
+    }
+}

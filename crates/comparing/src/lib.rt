@@ -1,0 +1,2 @@
+// The service compare.
+pub mod compare;

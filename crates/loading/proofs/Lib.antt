@@ -1,0 +1,5 @@
+pub mod Early
+pub mod Outcomes
+pub mod Programs
+pub mod Reading
+pub mod LoadedPairs

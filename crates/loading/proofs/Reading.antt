@@ -1,0 +1,76 @@
+-- Reading a table and two forward programs, as compare, chain and check begin.
+use mathlib.Core.Path.{_≡_, refl, sym, ap, _∙_}
+use mathlib.Core.List.{List}
+use Prim.Native.Nat.{ℕ, _≤_}
+use native.Mathlib.Omega.{arith}
+use Rattle.model.specs.Word.{Positive}
+use Rattle.model.specs.Presentation.{Presentation}
+use Rattle.model.specs.Outcome.{Outcome, answered, refused, _>>=_}
+use Rattle.model.specs.Images.{readTable}
+use Rattle.model.specs.Services.{readForward}
+use Rattle.model.specs.Areas.{Compares}
+use Rattle.model.specs.Stated.{refusal}
+use Rattle.model.specs.declared.answers.Refusal.{Refusal}
+use Rattle.images.specs.Programs.{ForwardOf}
+use Rattle.images.specs.Tables.{TableOf}
+use Rattle.loading.specs.Loading.{Images, readPair, PairLoaded}
+use Rattle.loading.proofs.Early.{images-early}
+use Rattle.loading.proofs.Outcomes.{AsFound, still-refused, goes-on, reading-refused}
+
+-- a reading of two parts, and then the rest
+regrouped : {A B C : Type 0} (o : Outcome A) (f : A → Outcome B) (rest : B → Outcome C) (g : A → Outcome C) → ((x : A) → (f x >>= rest) ≡ g x)
+    → ((o >>= f) >>= rest) ≡ (o >>= g)
+regrouped (answered x) f rest g e = e x
+regrouped (refused n ps) f rest g e = refl
+
+pub loaded-size : {table cells : List ℕ} {size : ℕ} → TableOf table cells size → (1 ≤ size) × (size ≤ 16)
+loaded-size t = (omega (arith, t .of .sized, t .of .stands .some), omega (arith, t .of .sized, t .of .stands .few))
+
+module _ (table first second : List ℕ) where
+  pub no-table : (r : Refusal) → readTable table ≡ refusal r → readPair table first second ≡ refusal r
+  unfolding readPair
+  no-table r e = still-refused (readTable table) r e _
+
+  -- programs under the table that was loaded
+  module _ {cells : List ℕ} {size : ℕ} (t : TableOf table cells size) where
+    sized : (image : List ℕ) → readForward (t .table .size) image ≡ readForward size image
+    sized image = ap (λ i. readForward i image) (t .of .sized)
+
+    pub no-first : (r : Refusal) → readForward size first ≡ refusal r → readPair table first second ≡ refusal r
+    unfolding readPair
+    no-first r e = goes-on (readTable table) (t .table) (t .read) _ ∙ still-refused (readForward (t .table .size) first) r (sized first ∙ e) _
+
+    module _ {m : ℕ} (one : ForwardOf first size m) where
+      pub no-second : (r : Refusal) → readForward size second ≡ refusal r → readPair table first second ≡ refusal r
+      unfolding readPair
+      no-second r e =
+          goes-on (readTable table) (t .table) (t .read) _
+          ∙ (goes-on (readForward (t .table .size) first) (one .word) (sized first ∙ one .read) _
+          ∙ still-refused (readForward (t .table .size) second) r (sized second ∙ e) _)
+
+      pub pair-loaded : {n : ℕ} → ForwardOf second size n → PairLoaded table first second cells size m n
+      pair-loaded two =
+          record {
+            forward = record { table = t .table; of = t .of; pair = record { some = loaded-size t .0; few = loaded-size t .1; one = one; two = two } };
+            reads = record { table-read = t .read; first-read = sized first ∙ one .read; second-read = sized second ∙ two .read };
+          }
+
+  -- a service that reads the three images, and then has only the rest to do
+  module _ {A : Type 0} (rest : Images → Outcome A) where
+    abbrev service : Outcome A
+    service = readTable table >>= λ T. readForward (T .size) first >>= λ u. readForward (T .size) second >>= λ v. rest (record { table = T; first = u; second = v })
+
+    reads-pair : service ≡ (readPair table first second >>= rest)
+    unfolding readPair
+    reads-pair =
+        sym (regrouped (readTable table) _ rest _
+        (λ T. regrouped (readForward (T .size) first) _ rest _
+        (λ u. regrouped (readForward (T .size) second) _ rest _ (λ v. refl))))
+
+    pub pair-refused : (r : Refusal) → readPair table first second ≡ refusal r → AsFound service r
+    pair-refused r e = reading-refused service (readPair table first second) rest reads-pair r e 7 (images-early table first second) (omega arith)
+
+    pub pair-runs : (T : Presentation) (u v : Positive) → Compares table first second T u v → service ≡ rest (record { table = T; first = u; second = v })
+    pair-runs T u v c =
+        goes-on (readTable table) T (c .table-read) _
+        ∙ (goes-on (readForward (T .size) first) u (c .first-read) _ ∙ goes-on (readForward (T .size) second) v (c .second-read) _)

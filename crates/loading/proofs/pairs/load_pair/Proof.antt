@@ -1,0 +1,50 @@
+-- `loading::pairs::load_pair` meets its contract.
+use mathlib.Core.Path.{_≡_, _∙_}
+use native.Mathlib.Omega.{arith}
+use Rattle.model.specs.Word.{positive}
+use Rattle.engine.proofs.Lettering.{length-positive}
+use Rattle.loading.proofs.LoadedPairs.{loads-pair}
+use borrow.Author.Needs.{needs}
+use Rattle.loading.proofs.pairs.load_pair.Statement.{statement}
+use Rattle.loading.proofs.pairs.load_pair.Tie as tie
+
+sub-right : tie.Need-sub-right
+sub-right c = search needs
+
+unpack-letters-requires : tie.Need-unpack-letters-requires
+unpack-letters-requires c κs = let s = c .before .before .before .before in (record { some = s .pre .0 .some; few = s .pre .0 .few; program = record { word = positive (s .pre .0 .one .word); read = s .pre .0 .one .read-signed; count-is = length-positive (s .pre .0 .one .word) ∙ s .pre .0 .one .count-is } }, omega (arith, s .pre .1))
+
+invert-requires : tie.Need-invert-requires
+invert-requires c κs = search needs
+
+unpack-letters-requires-2 : tie.Need-unpack-letters-requires-2
+unpack-letters-requires-2 c κs = let s = c .before .before .before .before .before .before .before .before .before .before .before .before in (record { some = s .pre .0 .some; few = s .pre .0 .few; program = record { word = positive (s .pre .0 .two .word); read = s .pre .0 .two .read-signed; count-is = length-positive (s .pre .0 .two .word) ∙ s .pre .0 .two .count-is } }, omega (arith, s .pre .1, c .before .before .before .invert .ensures .same-length, c .before .before .before .before .before .before .before .unpack-letters .ensures .0))
+
+same-length : tie.Need-same-length
+same-length c = search needs
+
+returns : tie.Need-returns
+returns c =
+    let s = c .before .before .before .before .before .before .before .before .before .before .before .before .before .before .before in
+    let a = c .before .before .before .before .before .before .before .before .before .before .unpack-letters in
+    let i = c .before .before .before .before .before .before .invert in
+    let b = c .before .before .unpack-letters2 in
+    record {
+      same-length = b .ensures .0 ∙ (i .ensures .same-length ∙ a .ensures .0);
+      loads = λ cells T o u v eu ev.
+          let fu : s .pre .0 .one .word ≡ u = cc (s .pre .0 .one .read, eu) in
+          let fv : s .pre .0 .two .word ≡ v = cc (s .pre .0 .two .read, ev) in
+          loads-pair cells (s .args .size) T o u v (s .args .first .now) (s .args .second .now) (s .args .m) (s .args .n) (s .pre .0 .few) (s .pre .0 .one) (s .pre .0 .two) fu fv
+          (s .args .workspace .now) (a .last .1 .1 .1 .0) (i .last .0) (b .last .1 .1 .1 .0) (s .pre .1) (a .ensures .1) (i .ensures) (b .ensures .1);
+    }
+
+pub load-pair-spec : {M : Type 1} → statement M
+load-pair-spec =
+    tie.close
+    (tie.spec
+    sub-right
+    unpack-letters-requires
+    invert-requires
+    unpack-letters-requires-2
+    same-length
+    returns)

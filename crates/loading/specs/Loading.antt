@@ -1,0 +1,64 @@
+-- What is loaded before a reversing: the cells of a table, and a program or two.
+use mathlib.Core.List.{List}
+use mathlib.Core.Path.{_≡_}
+use Prim.Native.Nat.{ℕ, _≤_}
+use Rattle.model.specs.Word.{Word, Positive}
+use Rattle.model.specs.Presentation.{Presentation}
+use Rattle.model.specs.Outcome.{Outcome, answered, _>>=_}
+use Rattle.model.specs.Images.{readTable, readProgram}
+use Rattle.model.specs.Services.{readForward}
+use Rattle.model.specs.Areas.{Compares}
+use Rattle.model.specs.Stated.{refusal}
+use Rattle.model.specs.declared.answers.Ending.{Ending}
+use Rattle.images.specs.Programs.{Accepted, ForwardOf}
+use Rattle.cells.specs.Stands.{Of}
+use Rattle.engine.specs.Run.{Reverses}
+use Rattle.loading.specs.declared.loading.PairRead.{PairRead}
+use Rattle.loading.specs.declared.loading.PairRead.the-variants.{Pair as PairAnswer, Refused as RefusedAnswer}
+
+-- an accepted program under cells that stand for a table
+pub record ProgramRuns (cells : List ℕ) (size : ℕ) (program : List ℕ) (count : ℕ) : Type 0 where
+  pub table : Presentation
+  pub of : Of cells size table
+  pub accepted : Accepted program size count
+
+-- its reversing, under every table that the cells stand for
+abbrev pub ProgramReverses : List ℕ → ℕ → List ℕ → ℕ → List ℕ → Ending → Type 0
+ProgramReverses cells size program budget workspace r =
+    (T : Presentation) → Of cells size T → (w : Word) → readProgram size program ≡ answered w → Reverses T w budget workspace r
+
+-- two forward programs of so many letters
+pub record Pair (size : ℕ) (first : List ℕ) (first-count : ℕ) (second : List ℕ) (second-count : ℕ) : Type 0 where
+  pub some : 1 ≤ size
+  pub few : size ≤ 16
+  pub one : ForwardOf first size first-count
+  pub two : ForwardOf second size second-count
+
+-- under cells that stand for a table
+pub record Forward (cells : List ℕ) (size : ℕ) (first : List ℕ) (first-count : ℕ) (second : List ℕ) (second-count : ℕ) : Type 0 where
+  pub table : Presentation
+  pub of : Of cells size table
+  pub pair : Pair size first first-count second second-count
+
+-- what the three images of compare, chain and check hold
+pub record Images : Type 0 where
+  pub table : Presentation
+  pub first : Positive
+  pub second : Positive
+
+-- "A first program passes 4 to 7 before the second"
+unfoldable pub readPair : List ℕ → List ℕ → List ℕ → Outcome Images
+readPair table first second =
+    readTable table >>= λ T.
+    readForward (T .size) first >>= λ u.
+    readForward (T .size) second >>= λ v.
+    answered (record { table = T; first = u; second = v })
+
+-- the table that the cells stand for, and the programs, are those that the images hold
+pub record PairLoaded (table first second cells : List ℕ) (size first-count second-count : ℕ) : Type 0 where
+  pub forward : Forward cells size first first-count second second-count
+  pub reads : Compares table first second (forward .table) (forward .pair .one .word) (forward .pair .two .word)
+
+abbrev pub PairDone : List ℕ → List ℕ → List ℕ → List ℕ → PairRead → Type 0
+PairDone table first second cells (PairAnswer size m n) = PairLoaded table first second cells size m n
+PairDone table first second cells (RefusedAnswer r) = readPair table first second ≡ refusal r

@@ -1,0 +1,67 @@
+ghost use mathlib.Core.Path.{_≡_};
+ghost use lib.ListN.{length};
+ghost use Rattle.cells.specs.Stands.{Blank};
+ghost use Rattle.loading.specs.Loading.{PairDone, ProgramRuns, ProgramReverses};
+use engine::gap::Gap;
+use engine::run::reversing;
+use images::programs::ProgramRead;
+use images::programs::read_forward;
+use images::programs::unpack_letters;
+use images::tables::TableRead;
+use images::tables::read_table;
+use model::answers::Ending;
+use model::answers::Refusal;
+use model::answers::Stop;
+
+// A table of so many letters, and two forward programs of m and n letters.
+pub enum PairRead {
+    Pair { size: u8, m: u16, n: u16 },
+    Refused(Refusal),
+}
+
+// Reads a table image into cells, then the images of two forward programs.
+pub fn read_pair(table: &[u8], first: &[u8], second: &[u8], cells: &mut [u8]) -> PairRead
+    requires { ⌜ Blank (now cells) ⌝ }
+    ensures { λ r. ⌜ PairDone (now (table .entry)) (now (first .entry)) (now (second .entry)) (now (cells .exit)) r ⌝ }
+{
+    let read = read_table(table, cells);
+    match read {
+        TableRead::Refused(refusal) => PairRead::Refused(refusal),
+        TableRead::Table { size } => {
+            let one = read_forward(first, size);
+            match one {
+                ProgramRead::Refused(refusal) => PairRead::Refused(refusal),
+                ProgramRead::Program { count: m } => {
+                    let two = read_forward(second, size);
+                    match two {
+                        ProgramRead::Refused(refusal) => PairRead::Refused(refusal),
+                        ProgramRead::Program { count: n } => PairRead::Pair { size, m, n },
+                    }
+                }
+            }
+        }
+    }
+}
+
+// Reverses an accepted program, loaded at the workspace's end.
+pub fn run_program(
+    cells: &[u8],
+    size: u8,
+    program: &[u8],
+    count: u16,
+    budget: u16,
+    workspace: &mut [u8],
+) -> Ending
+    requires { ⌜ ProgramRuns (now cells) size (now program) count ⌝ }
+    ensures length { λ r. ⌜ length (now (workspace .exit)) ≡ length (now (workspace .entry)) ⌝ }
+    ensures runs { λ r. ⌜ ProgramReverses (now (cells .entry)) size (now (program .entry)) budget (now (workspace .exit)) r ⌝ }
+{
+    let end = workspace.len();
+    let letters = count as usize;
+    if end < letters {
+        return Ending::Stopped(Stop::Room);
+    }
+    let right = end - letters;
+    unpack_letters(program, size, count, workspace, right);
+    reversing(cells, workspace, Gap { left: 0, right }, budget)
+}

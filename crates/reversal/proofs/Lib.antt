@@ -1,0 +1,3 @@
+pub mod Fractions
+pub mod Answers
+pub mod ReverseService

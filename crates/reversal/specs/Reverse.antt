@@ -1,0 +1,39 @@
+-- What reverse makes of an ending.
+use mathlib.Core.List.{List}
+use mathlib.Core.Path.{_≡_}
+use Prim.Native.Nat.{ℕ, _+_, _≤_}
+use lib.ListN.{length, replicate}
+use Rattle.model.specs.Word.{Word}
+use Rattle.model.specs.Presentation.{Presentation}
+use Rattle.model.specs.Reversing.{reversing}
+use Rattle.model.specs.Outcome.{answered, mapped}
+use Rattle.model.specs.Images.{readProgram}
+use Rattle.model.specs.Services.{fractionOf}
+use Rattle.model.specs.Areas.{fractionBytes, outputAfter}
+use Rattle.model.specs.Stated.{sizes, reversed}
+use Rattle.model.specs.declared.answers.Ending.{Ending}
+use Rattle.model.specs.declared.answers.Ending.the-variants.{Finished, Undefined, Stopped}
+use Rattle.model.specs.declared.answers.Reversed.{Reversed}
+use Rattle.engine.specs.Run.{Reverses}
+use Rattle.cells.specs.Stands.{Of}
+
+-- a finished word lies within the workspace
+abbrev pub Finishable : List ℕ → Ending → Type 0
+Finishable workspace (Finished n d k r) = n + d ≤ length workspace
+Finishable workspace (Undefined p k) = Unit {0}
+Finishable workspace (Stopped s) = Unit {0}
+
+-- the result and the answer area that an outcome states
+pub record Answers (T : Presentation) (word : Word) (budget width : ℕ) (before after : List ℕ) (r : Reversed) : Type 0 where
+  pub result : reversed r ≡ mapped sizes (fractionOf (length before) (reversing T budget width word))
+  pub area : after ≡ outputAfter fractionBytes (fractionOf (length before) (reversing T budget width word)) before
+
+abbrev pub AnswerOf : Ending → List ℕ → List ℕ → List ℕ → Reversed → Type 0
+AnswerOf ending workspace before after r =
+    (T : Presentation) (word : Word) (budget : ℕ) → Reverses T word budget workspace ending → Answers T word budget (length workspace) before after r
+
+-- an accepted program: its answer, and a workspace all zero
+pub record ProgramAnswered (cells : List ℕ) (size : ℕ) (program : List ℕ) (budget : ℕ) (workspace workspace′ before after : List ℕ) (r : Reversed) : Type 0 where
+  pub wiped : workspace′ ≡ replicate (length workspace) 0
+  pub answers : (T : Presentation) → Of cells size T → (w : Word) → readProgram size program ≡ answered w
+      → Answers T w budget (length workspace) before after r

@@ -1,0 +1,3 @@
+// The service reverse.
+pub mod fraction;
+pub mod reverse;

@@ -1,0 +1,99 @@
+// Reverse: N, then D, in the answer area.
+ghost use mathlib.Core.Path.{_≡_};
+ghost use lib.ListN.{length};
+ghost use Rattle.model.specs.Outcome.{mapped};
+ghost use Rattle.model.specs.Services.{reverse};
+ghost use Rattle.model.specs.Areas.{fractionBytes, outputAfter, workspaceAfter};
+ghost use Rattle.model.specs.Stated.{sizes, reversed};
+ghost use Rattle.loading.specs.Loading.{ProgramRuns};
+ghost use Rattle.reversal.specs.Reverse.{Finishable, AnswerOf, ProgramAnswered};
+use crate::fraction::write_fraction;
+use areas::bytes::wipe;
+use images::programs::ProgramRead;
+use images::programs::read_program;
+use images::tables::TableRead;
+use images::tables::read_table;
+use loading::loading::run_program;
+use model::answers::Ending;
+use model::answers::Refusal;
+use model::answers::Reversed;
+use model::stops::stop_refusal;
+
+// What reverse makes of an ending, with the answer where it finished and fits.
+pub fn answer_ending(ending: Ending, workspace: &[u8], answer: &mut [u8]) -> Reversed
+    requires { ⌜ Finishable (now workspace) ending ⌝ }
+    ensures { λ r. ⌜ AnswerOf ending (now (workspace .entry)) (now (answer .entry)) (now (answer .exit)) r ⌝ }
+{
+    match ending {
+        Ending::Finished {
+            numerator,
+            denominator,
+            steps,
+            relations: _,
+        } => {
+            if answer.len() < numerator + denominator {
+                return Reversed::Refused(Refusal::AnswerShort);
+            }
+            write_fraction(workspace, numerator, denominator, answer);
+            Reversed::Answer {
+                numerator,
+                denominator,
+                steps,
+            }
+        }
+        Ending::Undefined { pair, steps: _ } => Reversed::Refused(Refusal::OpenPair(pair)),
+        Ending::Stopped(stop) => Reversed::Refused(stop_refusal(stop)),
+    }
+}
+
+// An accepted program under a table that was loaded; the workspace is wiped.
+pub fn reverse_program(
+    cells: &[u8],
+    size: u8,
+    program: &[u8],
+    count: u16,
+    budget: u16,
+    workspace: &mut [u8],
+    answer: &mut [u8],
+) -> Reversed
+    requires { ⌜ ProgramRuns (now cells) size (now program) count ⌝ }
+    ensures { λ r. ⌜ ProgramAnswered (now (cells .entry)) size (now (program .entry)) budget (now (workspace .entry)) (now (workspace .exit)) (now (answer .entry)) (now (answer .exit)) r ⌝ }
+{
+    let ending = run_program(cells, size, program, count, budget, workspace);
+    let result = answer_ending(ending, workspace, answer);
+    wipe(workspace);
+    result
+}
+
+pub fn reverse(
+    table: &[u8],
+    program: &[u8],
+    allowance: u16,
+    workspace: &mut [u8],
+    answer: &mut [u8],
+) -> Reversed
+    ensures stated { λ r. ⌜ reversed r ≡ mapped sizes (reverse (now (table .entry)) (now (program .entry)) allowance (length (now (workspace .entry))) (length (now (answer .entry)))) ⌝ }
+    ensures answer { λ r. ⌜ now (answer .exit) ≡ outputAfter fractionBytes (reverse (now (table .entry)) (now (program .entry)) allowance (length (now (workspace .entry))) (length (now (answer .entry)))) (now (answer .entry)) ⌝ }
+    ensures workspace { λ r. ⌜ now (workspace .exit) ≡ workspaceAfter (reverse (now (table .entry)) (now (program .entry)) allowance (length (now (workspace .entry))) (length (now (answer .entry)))) (now (workspace .entry)) ⌝ }
+{
+    let mut cells = [0u8; 4096];
+    let read = read_table(table, &mut cells);
+    match read {
+        TableRead::Refused(refusal) => Reversed::Refused(refusal),
+        TableRead::Table { size } => {
+            let accepted = read_program(program, size);
+            match accepted {
+                ProgramRead::Refused(refusal) => Reversed::Refused(refusal),
+                ProgramRead::Program { count } => reverse_program(
+                    &cells,
+                    size,
+                    program,
+                    count,
+                    allowance,
+                    workspace,
+                    answer,
+                ),
+            }
+        }
+    }
+}

@@ -1,7 +1,0 @@
-pub mod Areas
-pub mod Loading
-pub mod Reverse
-pub mod Clear
-pub mod Compare
-pub mod Chain
-pub mod Check
