@@ -4,3 +4,4 @@ pub mod Runs
 pub mod Width
 pub mod Fields
 pub mod Packing
+pub mod Appending

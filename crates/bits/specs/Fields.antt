@@ -4,6 +4,7 @@ use mathlib.Core.Path.{_≡_}
 use Prim.Native.Nat.{ℕ, _+_, _*_, _^_, _≤_, _<_}
 use lib.ListN.{length, take, drop}
 use Rattle.model.specs.Bits.{bitsOf, digits}
+use Rattle.model.specs.Areas.{written}
 
 -- the field lies inside the bytes, and the position after it is a `usize`
 pub record Inside (bytes : List ℕ) (at width : ℕ) : Type 0 where
@@ -15,3 +16,8 @@ pub record Inside (bytes : List ℕ) (at width : ℕ) : Type 0 where
 pub record Written (before : List ℕ) (at width value : ℕ) (after : List ℕ) : Type 0 where
   pub same-length : length after ≡ length before
   pub bits : bitsOf after ≡ take at (bitsOf before) ++ (digits width value ++ drop (at + width) (bitsOf before))
+
+-- bits were put at a position, and every other bit is as it was
+pub record Appended (before : List ℕ) (at : ℕ) (new : List ℕ) (after : List ℕ) : Type 0 where
+  pub same-length : length after ≡ length before
+  pub bits : bitsOf after ≡ written (bitsOf before) at new

@@ -39,15 +39,15 @@ use Rattle.chains.specs.Listing.{Chained}
 use Rattle.chains.specs.Listing.{Compared as Listed-from}
 use Rattle.chains.proofs.Courses.{even-of}
 use Rattle.chains.proofs.Layouts.{room-for-fewer}
-use Rattle.loading.specs.Loading.{Images, readPair}
+use Rattle.loading.specs.Loading.{Images, readPrograms}
 use Rattle.comparing.specs.Compare.{toldAs, Ended, Judged, Meaning}
-use Rattle.loading.specs.Pairs.{LoadedPair}
+use Rattle.loading.specs.Comparison.{LoadedPrograms}
 use Rattle.chaining.specs.Chain.{Area, ListedAs, JoinsChecked, ListedChecks}
 use Rattle.comparing.specs.declared.compare.Judgement.{Judgement}
 use Rattle.comparing.specs.declared.compare.Judgement.the-variants.{Same, Different, Refused}
 use Rattle.images.proofs.Refusals.{told}
 use Rattle.loading.proofs.Outcomes.{AsFound, still-refused}
-use Rattle.loading.proofs.Reading.{pair-refused, pair-runs}
+use Rattle.loading.proofs.Reading.{programs-refused, programs-run}
 use Rattle.checking.proofs.CheckService.{check-runs}
 
 -- A VERDICT THAT LISTS NOTHING
@@ -101,8 +101,8 @@ finished-fits T steps width w n d k r e = go (decLt width (length w))
     go (yes h) = let f = reversing-long T steps width w h in impossible (cc (f, e))
     go (no h) = omega arith
 
-pub pair-fits : (T : Presentation) (u v : Positive) (steps width k r : ℕ) → Ended T u v steps width k r → length u + length v ≤ width
-pair-fits T u v steps width k r e =
+pub programs-fit : (T : Presentation) (u v : Positive) (steps width k r : ℕ) → Ended T u v steps width k r → length u + length v ≤ width
+programs-fit T u v steps width k r e =
     let h = finished-fits T steps width (negative u ++ positive v) [] [] k r (e .empty) in
     omega (arith, length-append (negative u) (positive v), length-negative u, length-positive v)
 
@@ -119,7 +119,7 @@ listed-of T u v k before after few c =
 -- what the listing asks, from the comparison and the programs that were loaded again
 module _ (cells : List ℕ) (size : ℕ) (T : Presentation) (o : Of cells size T) (u v : Positive) (first second : List ℕ) (m n : ℕ) (one : ForwardOf first size m)
     (two : ForwardOf second size n) (eu : one .word ≡ u) (ev : two .word ≡ v) (steps width k r : ℕ) (e : Ended T u v steps width k r) (bytes : List ℕ) (right : ℕ)
-    (same-width : length bytes ≡ width) (l : LoadedPair cells T u v bytes m right) (room : ℕ) (enough : chainBytes size k ≤ room) where
+    (same-width : length bytes ≡ width) (l : LoadedPrograms cells T u v bytes m right) (room : ℕ) (enough : chainBytes size k ≤ room) where
   few : size ≤ 16
   few = omega (arith, o .sized, o .stands .few)
 
@@ -159,14 +159,14 @@ module _ (table first second : List ℕ) (steps width area : ℕ) where
   abbrev lists : Images → Outcome Verdict
   lists p = comparison (p .table) (p .first) (p .second) steps width >>= listable (p .table .size) area
 
-  pub chain-refused : (r : Refusal) → readPair table first second ≡ refusal r → AsFound (chain table first second steps width area) r
+  pub chain-refused : (r : Refusal) → readPrograms table first second ≡ refusal r → AsFound (chain table first second steps width area) r
   unfolding chain
-  chain-refused = pair-refused table first second lists
+  chain-refused = programs-refused table first second lists
 
   pub chain-runs : (T : Presentation) (u v : Positive) → Compares table first second T u v
       → chain table first second steps width area ≡ (comparison T u v steps width >>= listable (T .size) area)
   unfolding chain
-  chain-runs = pair-runs table first second lists
+  chain-runs = programs-run table first second lists
 
   -- what is told of a verdict gives the verdict back
   shown : (n : ℕ) (x : Verdict) (y : Verdict) → listable n area x ≡ answered y → x ≡ y

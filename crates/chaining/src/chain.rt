@@ -14,9 +14,9 @@ use comparing::compare::compare_programs;
 use comparing::compare::told;
 use engine::gap::Gap;
 use entries::entry::chain_bytes;
-use loading::loading::PairRead;
-use loading::loading::read_pair;
-use loading::pairs::load_pair;
+use loading::comparison::load_programs;
+use loading::loading::ProgramsRead;
+use loading::loading::read_programs;
 use model::answers::Compared;
 use model::answers::Refusal;
 
@@ -44,7 +44,7 @@ pub fn chain_programs(
     }
     let left = m as usize;
     let right = workspace.len() - n as usize;
-    load_pair(size, first, m, second, n, workspace);
+    load_programs(size, first, m, second, n, workspace);
     list(
         cells,
         size,
@@ -72,10 +72,10 @@ pub fn chain(
     ensures meaning { λ r. ⌜ Meaning (now (table .entry)) (now (first .entry)) (now (second .entry)) allowance (length (now (workspace .entry))) (λ T v. listable (T .size) (length (now (answer .entry))) v) (compared r) ⌝ }
 {
     let mut cells = [0u8; 4096];
-    let read = read_pair(table, first, second, &mut cells);
+    let read = read_programs(table, first, second, &mut cells);
     match read {
-        PairRead::Refused(refusal) => Compared::Refused(refusal),
-        PairRead::Pair { size, m, n } => chain_programs(
+        ProgramsRead::Refused(refusal) => Compared::Refused(refusal),
+        ProgramsRead::Programs { size, m, n } => chain_programs(
             &cells,
             size,
             first,

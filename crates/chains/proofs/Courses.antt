@@ -19,7 +19,7 @@ use Rattle.cells.specs.Layout.{cellAt}
 use Rattle.engine.proofs.Lettering.{lettered-append}
 use Rattle.engine.proofs.Progress.{count-equal, count-different}
 use Rattle.chains.specs.Faces.{Face, below, passedOf}
-use Rattle.chains.specs.Course.{Task, Even, Settled, Running, Course}
+use Rattle.chains.specs.Course.{Task, Even, Fixed, Running, Course}
 use Rattle.chains.proofs.Marks.{marked, markedDone, passed-marked, below-marked, length-marked, stacked-marked}
 use Rattle.chains.proofs.Ends.{Met, meets, some-rest, finishes}
 
@@ -140,7 +140,7 @@ module _ {t : Task} {size total : ℕ} where
 
   -- A FACE IS DONE
 
-  module _ {cells : List ℕ} (settled : Settled t cells size total) {f : Face} {fs : List Face} {rest done left : Positive} {entries : List Entry}
+  module _ {cells : List ℕ} (settled : Fixed t cells size total) {f : Face} {fs : List Face} {rest done left : Positive} {entries : List Entry}
       (c : Course t size total [] rest (f ∷ fs) done left entries) where
     names : InRange (t .table .size) (f .a) × InRange (t .table .size) (f .b)
     names =

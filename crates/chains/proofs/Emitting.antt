@@ -13,15 +13,16 @@ use Rattle.cells.specs.Layout.{cellAt}
 use Rattle.model.specs.Range.{InRange}
 use Rattle.engine.proofs.Lettering.{length-positive, length-negative}
 use Rattle.engine.proofs.Stepping.{cell-letters}
-use Rattle.chains.specs.declared.moves.Place.{Place}
+use Rattle.chains.specs.declared.moves.Progress.{Progress}
 use Rattle.chains.specs.Faces.{Face, below, passedOf}
 use Rattle.chains.specs.Layout.{Layout}
-use Rattle.entries.specs.Entry.{EntryInside, Placed}
+use Rattle.entries.specs.Entry.{EntryInside}
+use Rattle.bits.specs.Fields.{Appended}
 use Rattle.chains.specs.Course.{Task, Course, Situation, TopDone}
 use Rattle.chains.proofs.Ends.{relations-within}
 use Rattle.chains.proofs.Marks.{marked, markedDone, passed-marked, slots-marked, length-marked}
 use Rattle.chains.proofs.Courses.{a-named, b-named, to-cell, from-cell, passed-short, listed, all-done, emitted}
-use Rattle.entries.proofs.Placing.{placed-as}
+use Rattle.bits.proofs.Appending.{appended-as}
 use Rattle.chains.proofs.Layouts.{given-up}
 use Rattle.chains.proofs.Rests.{held-length, left-length, pushed-rest, pushed-left}
 use Rattle.chains.proofs.Restated.{course-of, layout-of, passed-of, stacked-of}
@@ -37,7 +38,7 @@ below-long (f ∷ fs) left =
       length-append (negative (f .other)) (below fs left),
     )
 
-module _ {t : Task} {cells : List ℕ} {size total : ℕ} {bytes answer : List ℕ} {at : Place} (s : Situation t cells size total [] bytes answer at) {a b : ℕ}
+module _ {t : Task} {cells : List ℕ} {size total : ℕ} {bytes answer : List ℕ} {at : Progress} (s : Situation t cells size total [] bytes answer at) {a b : ℕ}
     (top : TopDone (s .faces) a b) where
   abbrev f : Face
   f = top .face
@@ -128,7 +129,7 @@ module _ {t : Task} {cells : List ℕ} {size total : ℕ} {bytes answer : List �
     pub offset-is : offset ≡ length (passedOf (top .others) (s .done))
     offset-is = omega (arith, passed-is, to-count to et)
 
-    pub emitted-here : {after pushed : List ℕ} → Placed answer (entryPosition size (at .emitted)) (entryBits size (record { offset = offset; a = a; b = b })) after
+    pub emitted-here : {after pushed : List ℕ} → Appended answer (entryPosition size (at .emitted)) (entryBits size (record { offset = offset; a = a; b = b })) after
         → Pushed (inverse (letters (take (getD cells from 0) (drop (from + 1) cells)))) bytes (at .left + getD cells from 0) (getD cells from 0) pushed
         → Situation t cells size total [] pushed after
         (record {
@@ -173,7 +174,7 @@ module _ {t : Task} {cells : List ℕ} {size total : ℕ} {bytes answer : List �
                 layout =
                     subst (λ l. Layout size total (t .area) (s .entries ++ (listed (s .settled) course ∷ [])) l after) (sym (slots-marked (f .b) (top .others)))
                     (given-up size total (t .area) (s .entries) (layout-of s (top .top)) (listed (s .settled) course)
-                    (placed-as (ap (entryPosition size) (s .held .emitted))
+                    (appended-as (ap (entryPosition size) (s .held .emitted))
                     (ap₂ (λ o g. entryBits size (record { offset = o; a = g .a; b = g .b })) offset-is same-pair) p));
               };
         }

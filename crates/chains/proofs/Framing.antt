@@ -20,7 +20,8 @@ use Rattle.model.specs.Range.{AreBytes}
 use Rattle.bits.proofs.Packing.{pack-filling, bits-injective, packed-of}
 use Rattle.chains.specs.Layout.{Layout}
 use Rattle.chains.proofs.Parts.{part-within, part-whole, empty-of}
-use Rattle.entries.proofs.Placing.{placed-at, written-placed, entry-small}
+use Rattle.entries.proofs.Placing.{entry-small}
+use Rattle.bits.proofs.Appending.{appended-at, appended-field}
 use Rattle.chains.proofs.Layouts.{length-entries, image-end}
 
 -- AT THE START
@@ -91,7 +92,7 @@ module _ (n total : ℕ) (before mid after : List ℕ) (room : chainBytes n tota
         counted = omega arith;
         gap-length = gap-length;
         bits =
-            placed-at (written-placed q) (digits 16 total ++ gap) (take fill behind) (drop fill behind) b l f
+            appended-at (appended-field _ _ _ _ _ q) (digits 16 total ++ gap) (take fill behind) (drop fill behind) b l f
             ∙ (append-assoc (digits 16 total) gap (digits ((8 - end % 8) % 8) 0 ++ drop fill behind)
             ∙ ap₂ (λ i t. digits 16 total ++ (gap ++ (digits i 0 ++ t))) w last-bits);
       }

@@ -13,9 +13,10 @@ use Rattle.model.specs.Images.{entryBits, entryWidth, entryPosition}
 use Rattle.model.specs.Services.{chainBytes}
 use Rattle.bits.proofs.Digits.{length-digits}
 use Rattle.chains.specs.Layout.{tailBits, Layout}
-use Rattle.entries.specs.Entry.{Placed}
+use Rattle.bits.specs.Fields.{Appended}
 use Rattle.chains.proofs.Parts.{part-within, part-left}
-use Rattle.entries.proofs.Placing.{length-entry, placed-at}
+use Rattle.entries.proofs.Placing.{length-entry}
+use Rattle.bits.proofs.Appending.{appended-at}
 
 concat-append : (n : ℕ) (es : List Entry) (e : Entry) → concatMap (entryBits n) (es ++ (e ∷ [])) ≡ concatMap (entryBits n) es ++ entryBits n e
 concat-append n [] e = append-nil (entryBits n e)
@@ -118,7 +119,7 @@ module _ (n total : ℕ) (area : List ℕ) (entries : List Entry) where
       second-part : length (drop kept (h .gap)) ≡ entryWidth n
       second-part = length-drop kept (h .gap) ∙ part-left kept (entryWidth n) (length (h .gap)) gap-is
 
-      pub pushed : {after : List ℕ} → Placed answer (entryPosition n index) (entryBits n e) after → Layout n total area entries (e ∷ slots) after
+      pub pushed : {after : List ℕ} → Appended answer (entryPosition n index) (entryBits n e) after → Layout n total area entries (e ∷ slots) after
       unfolding kept
       pushed {after} p =
           let i : length entries + (h .free - 1) ≡ index = omega (arith, h .counted) in
@@ -135,7 +136,7 @@ module _ (n total : ℕ) (area : List ℕ) (entries : List Entry) where
             counted = omega (arith, h .counted);
             gap-length = first-part;
             bits =
-                placed-at p (head ++ take kept (h .gap)) (drop kept (h .gap)) (concatMap (entryBits n) slots ++ tailBits n total area) b l
+                appended-at p (head ++ take kept (h .gap)) (drop kept (h .gap)) (concatMap (entryBits n) slots ++ tailBits n total area) b l
                 (second-part ∙ sym (length-entry n e))
                 ∙ pushed-group count body (take kept (h .gap)) (entryBits n e) (concatMap (entryBits n) slots) tail;
           }
@@ -155,7 +156,7 @@ module _ (n total : ℕ) (area : List ℕ) (entries : List Entry) where
       pub top-read : drop (entryPosition n index) (bitsOf answer) ≡ entryBits n s ++ (concatMap (entryBits n) slots ++ tailBits n total area)
       top-read = ap (drop (entryPosition n index)) top-bits ∙ drop-at (head ++ h .gap) _ (entryPosition n index) before-top
 
-      pub changed : (e : Entry) {after : List ℕ} → Placed answer (entryPosition n index) (entryBits n e) after → Layout n total area entries (e ∷ slots) after
+      pub changed : (e : Entry) {after : List ℕ} → Appended answer (entryPosition n index) (entryBits n e) after → Layout n total area entries (e ∷ slots) after
       changed e p =
           record {
             same-length = p .same-length ∙ h .same-length;
@@ -164,7 +165,7 @@ module _ (n total : ℕ) (area : List ℕ) (entries : List Entry) where
             counted = h .counted;
             gap-length = h .gap-length;
             bits =
-                placed-at p (head ++ h .gap) (entryBits n s) (concatMap (entryBits n) slots ++ tailBits n total area) top-bits before-top
+                appended-at p (head ++ h .gap) (entryBits n s) (concatMap (entryBits n) slots ++ tailBits n total area) top-bits before-top
                 (length-entry n s ∙ sym (length-entry n e))
                 ∙ pushed-group count body (h .gap) (entryBits n e) (concatMap (entryBits n) slots) tail;
           }
@@ -184,7 +185,7 @@ module _ (n total : ℕ) (area : List ℕ) (entries : List Entry) where
     freed-rest : length (drop (entryWidth n) freed) ≡ h .free * entryWidth n
     freed-rest = length-drop (entryWidth n) freed ∙ part-left (entryWidth n) (h .free * entryWidth n) (length freed) freed-length
 
-    pub given-up : (e : Entry) {after : List ℕ} → Placed answer (entryPosition n (length entries)) (entryBits n e) after → Layout n total area (entries ++ (e ∷ [])) slots after
+    pub given-up : (e : Entry) {after : List ℕ} → Appended answer (entryPosition n (length entries)) (entryBits n e) after → Layout n total area (entries ++ (e ∷ [])) slots after
     unfolding freed
     given-up e p =
         let b : bitsOf answer ≡ head ++ (take (entryWidth n) freed ++ (drop (entryWidth n) freed ++ (concatMap (entryBits n) slots ++ tail))) =
@@ -200,7 +201,7 @@ module _ (n total : ℕ) (area : List ℕ) (entries : List Entry) where
           counted = omega (arith, h .counted, length-append entries (e ∷ []));
           gap-length = freed-rest;
           bits =
-              placed-at p head (take (entryWidth n) freed) (drop (entryWidth n) freed ++ (concatMap (entryBits n) slots ++ tail)) b
+              appended-at p head (take (entryWidth n) freed) (drop (entryWidth n) freed ++ (concatMap (entryBits n) slots ++ tail)) b
               head-length (freed-first ∙ sym (length-entry n e))
               ∙ (entry-group count body (entryBits n e) (drop (entryWidth n) freed) (concatMap (entryBits n) slots ++ tail)
               ∙ ap (λ l. count ++ (l ++ (drop (entryWidth n) freed ++ (concatMap (entryBits n) slots ++ tail)))) (sym (concat-append n entries e)));

@@ -15,21 +15,22 @@ use Rattle.cells.specs.Layout.{cellAt}
 use Rattle.model.specs.Range.{InRange, Lettered}
 use Rattle.cells.proofs.Rules.{cell-word, WordAt}
 use Rattle.engine.proofs.Lettering.{lettered-end}
-use Rattle.chains.specs.declared.moves.Place.{Place}
+use Rattle.chains.specs.declared.moves.Progress.{Progress}
 use Rattle.chains.specs.Faces.{Face, slotOf, passedOf, Stacked}
 use Rattle.chains.specs.Layout.{Layout}
-use Rattle.entries.specs.Entry.{EntryInside, Placed}
-use Rattle.chains.specs.Course.{Task, Settled, Course, Situation}
+use Rattle.entries.specs.Entry.{EntryInside}
+use Rattle.bits.specs.Fields.{Appended}
+use Rattle.chains.specs.Course.{Task, Fixed, Course, Situation}
 use Rattle.chains.proofs.Ends.{relations-within}
 use Rattle.chains.proofs.Marks.{marked, markedDone, passed-marked, slots-marked, length-marked}
 use Rattle.chains.proofs.Courses.{led-length, met, met-equal, made, met-different, never-empty}
-use Rattle.entries.proofs.Placing.{placed-as}
+use Rattle.bits.proofs.Appending.{appended-as}
 use Rattle.chains.proofs.Layouts.{slot-fits, pushed}
 use Rattle.chains.proofs.Rests.{First, first-letter}
 
 -- WHAT IS SETTLED
 
-module _ {t : Task} {cells : List ℕ} {size total : ℕ} (h : Settled t cells size total) where
+module _ {t : Task} {cells : List ℕ} {size total : ℕ} (h : Fixed t cells size total) where
   pub size-some : 1 ≤ size
   size-some = omega (arith, h .stands .some, h .size-is)
 
@@ -100,7 +101,7 @@ faces-first : {t : Task} {size total b : ℕ} {faces : List Face} {done left : P
 faces-first bytes end [] c i h = never-empty c
 faces-first bytes end (a ∷ rest) c i h = record { a = a; rest = rest; course = c; first = first-letter bytes end a rest i h }
 
-module _ {t : Task} {cells : List ℕ} {size total b : ℕ} {bytes answer : List ℕ} {at : Place} (s : Situation t cells size total (b ∷ []) bytes answer at) where
+module _ {t : Task} {cells : List ℕ} {size total b : ℕ} {bytes answer : List ℕ} {at : Progress} (s : Situation t cells size total (b ∷ []) bytes answer at) where
   facing : Facing t size total b (s .faces) (s .done) (s .left) (s .entries) bytes (at .left)
   facing = faces-first bytes (at .left) (s .rest) (s .course) (omega (arith, s .held .ordered, s .held .inside)) (s .held .rest-held)
 
@@ -175,7 +176,7 @@ module _ {t : Task} {cells : List ℕ} {size total b : ℕ} {bytes answer : List
         ∙ cell-of (s .settled) (facing .course .named .0) b-here (met (facing .course) .rule) .count
 
     pub met-different-here : (to : ℕ) → to ≡ cellAt meeting b → {after : List ℕ}
-        → Placed answer (entryPosition size (total - (at .stacked + 1))) (entryBits size (record { offset = getD cells to 0; a = meeting; b = b })) after
+        → Appended answer (entryPosition size (total - (at .stacked + 1))) (entryBits size (record { offset = getD cells to 0; a = meeting; b = b })) after
         → Situation t cells size total [] bytes after
         (record { left = at .left - 1; right = at .right; passed = at .passed + 1; emitted = at .emitted; stacked = at .stacked + 1 })
     met-different-here to e {after} p =
@@ -201,7 +202,7 @@ module _ {t : Task} {cells : List ℕ} {size total b : ℕ} {bytes answer : List
                 layout =
                     pushed size total (t .area) (s .entries) (s .held .layout) (omega (arith, slots-left, s .held .stacked, relations-within t total (met-different (facing .course) apart .running)))
                     (slotOf (made (facing .course))) (total - (at .stacked + 1)) (omega (arith, slots-left, s .held .stacked))
-                    (placed-as refl
+                    (appended-as refl
                     (ap₂ (λ o a. entryBits size (record { offset = o; a = a; b = b })) (letters-of to e) (sym meeting-is)) p);
               };
         }

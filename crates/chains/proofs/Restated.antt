@@ -4,12 +4,12 @@ use mathlib.Core.List.{List, map}
 use Prim.Native.Nat.{ℕ}
 use lib.ListN.{length}
 use Rattle.model.specs.Word.{Positive}
-use Rattle.chains.specs.declared.moves.Place.{Place}
+use Rattle.chains.specs.declared.moves.Progress.{Progress}
 use Rattle.chains.specs.Faces.{Face, slotOf, passedOf}
 use Rattle.chains.specs.Layout.{Layout}
 use Rattle.chains.specs.Course.{Task, Course, Situation}
 
-module _ {t : Task} {cells : List ℕ} {size total : ℕ} {taken : Positive} {bytes answer : List ℕ} {at : Place} (s : Situation t cells size total taken bytes answer at)
+module _ {t : Task} {cells : List ℕ} {size total : ℕ} {taken : Positive} {bytes answer : List ℕ} {at : Progress} (s : Situation t cells size total taken bytes answer at)
     {faces : List Face} (is : s .faces ≡ faces) where
   pub course-of : Course t size total taken (s .rest) faces (s .done) (s .left) (s .entries)
   course-of = subst (λ l. Course t size total taken (s .rest) l (s .done) (s .left) (s .entries)) is (s .course)

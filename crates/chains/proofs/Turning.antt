@@ -11,15 +11,16 @@ use Rattle.model.specs.Images.{entryBits, entryPosition}
 use Rattle.cells.specs.Layout.{cellAt}
 use Rattle.model.specs.Range.{InRange, EntryInRange}
 use Rattle.cells.proofs.Rules.{WordAt}
-use Rattle.chains.specs.declared.moves.Place.{Place}
+use Rattle.chains.specs.declared.moves.Progress.{Progress}
 use Rattle.entries.specs.declared.entry.ChainEntry.{ChainEntry}
 use Rattle.chains.specs.Faces.{Face, slotOf}
-use Rattle.entries.specs.Entry.{EntryInside, Placed, Same, ReadsEntry}
+use Rattle.entries.specs.Entry.{EntryInside, Same, ReadsEntry}
+use Rattle.bits.specs.Fields.{Appended}
 use Rattle.chains.specs.Course.{Task, Course, Situation, TopDone}
 use Rattle.chains.proofs.Ends.{relations-within}
 use Rattle.chains.proofs.Courses.{a-named, b-named, to-cell, leaving, taken-of-face}
 use Rattle.chains.proofs.Parts.{empty-of}
-use Rattle.entries.proofs.Placing.{placed-as}
+use Rattle.bits.proofs.Appending.{appended-as}
 use Rattle.chains.proofs.Layouts.{top-read, changed}
 use Rattle.chains.proofs.Restated.{course-of, layout-of, passed-of, stacked-of}
 use Rattle.chains.proofs.Meeting.{wide, sized, cell-inside, slot-in}
@@ -54,7 +55,7 @@ place-is p to d x c e f = omega arith
 some-left : (m n : ℕ) → (m ≡ 0 → ⊥) → m ≡ n → 1 ≤ n
 some-left m n h e = omega arith
 
-module _ {t : Task} {cells : List ℕ} {size total : ℕ} {bytes answer : List ℕ} {at : Place} (s : Situation t cells size total [] bytes answer at)
+module _ {t : Task} {cells : List ℕ} {size total : ℕ} {bytes answer : List ℕ} {at : Progress} (s : Situation t cells size total [] bytes answer at)
     (some : 1 ≤ at .stacked) where
   top : Top (s .faces)
   top = top-of (s .faces) (omega (arith, s .held .stacked))
@@ -133,7 +134,7 @@ module _ {t : Task} {cells : List ℕ} {size total : ℕ} {bytes answer : List �
             (letter-at (f .done) (f .left) word (some-left (r .offset) (length (f .left)) more (same .offset)))
 
         pub taken-here : {after : List ℕ}
-            → Placed answer (entryPosition size (total - at .stacked)) (entryBits size (record { offset = r .offset - 1; a = r .a; b = r .b })) after
+            → Appended answer (entryPosition size (total - at .stacked)) (entryBits size (record { offset = r .offset - 1; a = r .a; b = r .b })) after
             → Situation t cells size total (getD cells (to + 1 + getD cells to 0 - r .offset) 0 ∷ []) bytes after at
         taken-here {after} p =
             let fewer : r .offset - 1 ≡ length (found .others) = omega (arith, same .offset, ap length (found .is)) in
@@ -157,7 +158,7 @@ module _ {t : Task} {cells : List ℕ} {size total : ℕ} {bytes answer : List �
                     stacked = stacked-of s (top .top);
                     layout =
                         changed size total (t .area) (s .entries) (layout-of s (top .top)) (total - at .stacked) here (slotOf (leaving (found .others) f))
-                        (placed-as refl
+                        (appended-as refl
                         (ap₂ (λ o g. entryBits size (record { offset = o; a = g .a; b = g .b })) fewer same-pair) p);
                   };
             }

@@ -16,9 +16,9 @@ use Rattle.engine.proofs.Letters.{letters-append, length-letters}
 use Rattle.engine.proofs.Lettering.{length-negative}
 use Rattle.engine.proofs.Runs.{run-begun}
 use Rattle.model.specs.Range.{AreBytes, Lettered}
-use Rattle.chains.specs.declared.moves.Place.{Place}
+use Rattle.chains.specs.declared.moves.Progress.{Progress}
 use Rattle.chains.specs.Layout.{Layout}
-use Rattle.chains.specs.Course.{Task, Settled, Course, Situation, Complete}
+use Rattle.chains.specs.Course.{Task, Fixed, Course, Situation, Complete}
 use Rattle.chains.specs.Listing.{Compared, Chained}
 use Rattle.chains.proofs.Parts.{empty-of}
 use Rattle.chains.proofs.Restated.{course-of, layout-of, passed-of}
@@ -26,7 +26,7 @@ use Rattle.chains.proofs.Courses.{over, taken-of-second, entries-fit}
 use Rattle.chains.proofs.Rests.{next-letter, none-next}
 use Rattle.chains.proofs.Framing.{framed}
 
-module _ {t : Task} {cells : List ℕ} {size total : ℕ} {bytes answer : List ℕ} {at : Place} (s : Situation t cells size total [] bytes answer at)
+module _ {t : Task} {cells : List ℕ} {size total : ℕ} {bytes answer : List ℕ} {at : Progress} (s : Situation t cells size total [] bytes answer at)
     (bottom : at .stacked ≤ 0) where
   none-stacked : s .faces ≡ []
   none-stacked = empty-of (s .faces) (omega (arith, s .held .stacked))
@@ -68,7 +68,7 @@ module _ {t : Task} {cells : List ℕ} {size total : ℕ} {bytes answer : List �
       record { entries = s .entries; leads = o .leads; number = o .number; layout = layout-of s none-stacked }
 
 -- the loop of a walk: every task that began goes on
-pub record Walk (cells : List ℕ) (size total : ℕ) (bytes₀ answer₀ : List ℕ) (at₀ : Place) (bytes answer : List ℕ) (at : Place) : Type 0 where
+pub record Walk (cells : List ℕ) (size total : ℕ) (bytes₀ answer₀ : List ℕ) (at₀ : Progress) (bytes answer : List ℕ) (at : Progress) : Type 0 where
   pub same-bytes : length bytes ≡ length bytes₀
   pub same-answer : length answer ≡ length answer₀
   pub goes : (t : Task) → Situation t cells size total [] bytes₀ answer₀ at₀ → Situation t cells size total [] bytes answer at
@@ -103,7 +103,7 @@ module _ {cells : List ℕ} {size : ℕ} {bytes : List ℕ} {left right relation
         h .inside,
       )
 
-  settled : Settled task cells size relations
+  settled : Fixed task cells size relations
   settled =
       record {
         stands = h .stands;

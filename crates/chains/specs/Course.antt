@@ -13,7 +13,7 @@ use Rattle.model.specs.Range.{Lettered}
 use Rattle.cells.specs.Stands.{Stands}
 use Rattle.chains.specs.Faces.{Face, slotOf, wordOf, passedOf, Stacked}
 use Rattle.chains.specs.Layout.{Layout}
-use Rattle.chains.specs.declared.moves.Place.{Place}
+use Rattle.chains.specs.declared.moves.Progress.{Progress}
 
 -- two words, the steps of their comparison, the workspace's length, and the answer area as it was
 pub record Task : Type 0 where
@@ -29,7 +29,7 @@ abbrev pub Even : Presentation → Type 0
 Even T = (a b : ℕ) (x y : Positive) → complete T a b ≡ complement x y → length x ≡ length y
 
 -- what does not change
-pub record Settled (t : Task) (cells : List ℕ) (size total : ℕ) : Type 0 where
+pub record Fixed (t : Task) (cells : List ℕ) (size total : ℕ) : Type 0 where
   pub stands : Stands cells (t .table)
   pub size-is : size ≡ t .table .size
   pub even : Even (t .table)
@@ -53,7 +53,7 @@ pub record Course (t : Task) (size total : ℕ) (taken rest : Positive) (faces :
   pub named : Lettered size (positive rest)
 
 -- the workspace and the answer area hold it
-pub record Held (t : Task) (size total : ℕ) (rest : Positive) (faces : List Face) (done left : Positive) (entries : List Entry) (bytes answer : List ℕ) (at : Place) : Type 0 where
+pub record Held (t : Task) (size total : ℕ) (rest : Positive) (faces : List Face) (done left : Positive) (entries : List Entry) (bytes answer : List ℕ) (at : Progress) : Type 0 where
   pub wide : length bytes ≡ t .width
   pub ordered : at .left ≤ at .right
   pub inside : at .right ≤ length bytes
@@ -64,8 +64,8 @@ pub record Held (t : Task) (size total : ℕ) (rest : Positive) (faces : List Fa
   pub stacked : at .stacked ≡ length faces
   pub layout : Layout size total (t .area) entries (map slotOf faces) answer
 
-pub record Situation (t : Task) (cells : List ℕ) (size total : ℕ) (taken : Positive) (bytes answer : List ℕ) (at : Place) : Type 0 where
-  pub settled : Settled t cells size total
+pub record Situation (t : Task) (cells : List ℕ) (size total : ℕ) (taken : Positive) (bytes answer : List ℕ) (at : Progress) : Type 0 where
+  pub settled : Fixed t cells size total
   pub rest : Positive
   pub faces : List Face
   pub done : Positive
@@ -84,24 +84,24 @@ pub record TopDone (faces : List Face) (a b : ℕ) : Type 0 where
   pub is-b : face .b ≡ b
 
 -- for some task
-abbrev pub Somewhere : List ℕ → ℕ → ℕ → Positive → List ℕ → List ℕ → Place → Type 0
+abbrev pub Somewhere : List ℕ → ℕ → ℕ → Positive → List ℕ → List ℕ → Progress → Type 0
 Somewhere cells size total taken bytes answer at = (t : Task) × Situation t cells size total taken bytes answer at
 
-abbrev pub Emittable : List ℕ → ℕ → List ℕ → List ℕ → Place → ℕ → ℕ → Type 0
+abbrev pub Emittable : List ℕ → ℕ → List ℕ → List ℕ → Progress → ℕ → ℕ → Type 0
 Emittable cells size bytes answer at a b =
     (total : ℕ) × (t : Task) × (s : Situation t cells size total [] bytes answer at) × TopDone (s .faces) a b
 
 -- what is left to do
-abbrev pub ahead : ℕ → Place → ℕ
+abbrev pub ahead : ℕ → Progress → ℕ
 ahead total at = 16 * (total - at .emitted) + at .left
 
 -- a move: less is left to do, and every task goes on
-pub record Moves (cells : List ℕ) (size total : ℕ) (taken : Positive) (bytes answer : List ℕ) (at : Place) (bytes′ answer′ : List ℕ) (at′ : Place) : Type 0 where
+pub record Moves (cells : List ℕ) (size total : ℕ) (taken : Positive) (bytes answer : List ℕ) (at : Progress) (bytes′ answer′ : List ℕ) (at′ : Progress) : Type 0 where
   pub falls : ahead total at′ < ahead total at
   pub situation : (t : Task) → Situation t cells size total taken bytes answer at → Situation t cells size total [] bytes′ answer′ at′
 
 -- one entry more: C(b,a) has at most 15 letters, and every task goes on
-pub record Emits (cells : List ℕ) (size : ℕ) (bytes answer : List ℕ) (at : Place) (a b : ℕ) (bytes′ answer′ : List ℕ) (at′ : Place) : Type 0 where
+pub record Emits (cells : List ℕ) (size : ℕ) (bytes answer : List ℕ) (at : Progress) (a b : ℕ) (bytes′ answer′ : List ℕ) (at′ : Progress) : Type 0 where
   pub one-more : at′ .emitted ≡ at .emitted + 1
   pub few-more : at′ .left ≤ at .left + 15
   pub situation : (total : ℕ) (t : Task) (s : Situation t cells size total [] bytes answer at) → TopDone (s .faces) a b
@@ -114,6 +114,6 @@ pub record Complete (t : Task) (size total : ℕ) (answer : List ℕ) : Type 0 w
   pub number : length entries ≡ total
   pub layout : Layout size total (t .area) entries [] answer
 
-abbrev pub WalkMeans : List ℕ → ℕ → ℕ → List ℕ → List ℕ → Place → List ℕ → Type 0
+abbrev pub WalkMeans : List ℕ → ℕ → ℕ → List ℕ → List ℕ → Progress → List ℕ → Type 0
 WalkMeans cells size total bytes answer at answer′ =
     (t : Task) → Situation t cells size total [] bytes answer at → Complete t size total answer′

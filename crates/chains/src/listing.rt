@@ -6,7 +6,7 @@ ghost use Rattle.model.specs.Services.{chainBytes};
 ghost use Rattle.chains.specs.Layout.{Layout};
 ghost use Rattle.chains.specs.Course.{Somewhere, WalkMeans};
 ghost use Rattle.chains.specs.Listing.{Listable, ListMeans};
-use crate::moves::Place;
+use crate::moves::Progress;
 use crate::moves::meet;
 use crate::moves::turn;
 use bits::write_field;
@@ -25,7 +25,14 @@ pub fn prepare(answer: &mut [u8], size: u8, total: u16)
 }
 
 // Takes the letters of the second word one by one, each through all the faces that it comes to.
-pub fn walk(cells: &[u8], size: u8, total: usize, bytes: &mut [u8], start: Place, answer: &mut [u8])
+pub fn walk(
+    cells: &[u8],
+    size: u8,
+    total: usize,
+    bytes: &mut [u8],
+    start: Progress,
+    answer: &mut [u8],
+)
     requires { ⌜ Somewhere (now cells) size total [] (now bytes) (now answer) start ⌝ }
     ensures length { λ r. ⌜ length (now (bytes .exit)) ≡ length (now (bytes .entry)) ⌝ }
     ensures walked { λ r. ⌜ WalkMeans (now (cells .entry)) size total (now (bytes .entry)) (now (answer .entry)) start (now (answer .exit)) ⌝ }
@@ -41,7 +48,7 @@ pub fn walk(cells: &[u8], size: u8, total: usize, bytes: &mut [u8], start: Place
             }
             let next = bytes[right];
             let after = right + 1;
-            let taken = Place {
+            let taken = Progress {
                 left: at.left,
                 right: after,
                 passed: at.passed,
@@ -62,7 +69,7 @@ pub fn list(cells: &[u8], size: u8, bytes: &mut [u8], start: Gap, relations: u16
     ensures listed { λ r. ⌜ ListMeans (now (cells .entry)) size (now (bytes .entry)) (start .left) (start .right) relations (now (answer .entry)) (now (answer .exit)) ⌝ }
 {
     prepare(answer, size, relations);
-    let place = Place {
+    let place = Progress {
         left: start.left,
         right: start.right,
         passed: 0,

@@ -11,7 +11,7 @@ use entries::entry::write_entry;
 
 // How far a listing has come. The bytes before `left` are the inverse of the first word's rest, those from `right` on the letters left of
 // the second; `passed` letters stand before the rest in the word that the `emitted` entries have led to, and `stacked` faces are not done.
-pub struct Place {
+pub struct Progress {
     pub left: usize,
     pub right: usize,
     pub passed: usize,
@@ -25,10 +25,10 @@ pub fn meet(
     size: u8,
     total: usize,
     bytes: &[u8],
-    at: Place,
+    at: Progress,
     b: u8,
     answer: &mut [u8],
-) -> Place
+) -> Progress
     requires { ⌜ Somewhere (now cells) size total (b ∷ []) (now bytes) (now answer) at ⌝ }
     ensures { λ r. ⌜ Moves (now (cells .entry)) size total (b ∷ []) (now (bytes .entry)) (now (answer .entry)) at (now (bytes .entry)) (now (answer .exit)) r ⌝ }
 {
@@ -36,7 +36,7 @@ pub fn meet(
     let a = bytes[left] - 128;
     let passed = at.passed + 1;
     if a == b {
-        return Place {
+        return Progress {
             left,
             right: at.right,
             passed,
@@ -48,7 +48,7 @@ pub fn meet(
     let offset = cells[to] as u16;
     let stacked = at.stacked + 1;
     write_entry(answer, size, total - stacked, ChainEntry { offset, a, b });
-    Place {
+    Progress {
         left,
         right: at.right,
         passed,
@@ -62,11 +62,11 @@ pub fn emit(
     cells: &[u8],
     size: u8,
     bytes: &mut [u8],
-    at: Place,
+    at: Progress,
     a: u8,
     b: u8,
     answer: &mut [u8],
-) -> Place
+) -> Progress
     requires { ⌜ Emittable (now cells) size (now bytes) (now answer) at a b ⌝ }
     ensures length { λ r. ⌜ length (now (bytes .exit)) ≡ length (now (bytes .entry)) ⌝ }
     ensures emits { λ r. ⌜ Emits (now (cells .entry)) size (now (bytes .entry)) (now (answer .entry)) at a b (now (bytes .exit)) (now (answer .exit)) r ⌝ }
@@ -89,7 +89,7 @@ pub fn emit(
     };
     write_entry(answer, size, index, entry);
     push_inverse(bytes, left, cells, from);
-    Place {
+    Progress {
         left,
         right: at.right,
         passed,
@@ -104,9 +104,9 @@ pub fn turn(
     size: u8,
     total: usize,
     bytes: &mut [u8],
-    at: Place,
+    at: Progress,
     answer: &mut [u8],
-) -> Place
+) -> Progress
     requires somewhere { ⌜ Somewhere (now cells) size total [] (now bytes) (now answer) at ⌝ }
     requires stacked { ⌜ 1 ≤ at .stacked ⌝ }
     ensures length { λ r. ⌜ length (now (bytes .exit)) ≡ length (now (bytes .entry)) ⌝ }

@@ -16,22 +16,22 @@ use Rattle.model.specs.Outcome.{Outcome, answered, refused, _>>=_}
 use Rattle.model.specs.Images.{readChain}
 use Rattle.model.specs.Plain.{plainProgram}
 use Rattle.model.specs.Services.{Passage, joins, readForward, followedBy, followed, passage, check}
-use Rattle.model.specs.Areas.{Compares, workspaceAfter}
+use Rattle.model.specs.Areas.{Compares, workspaceAfter, written}
 use Rattle.model.specs.Stated.{refusal}
 use Rattle.model.specs.declared.answers.Refusal.{Refusal}
 use Rattle.theory.specs.Passages.{Passes, arrives, broken, elsewhere, starts-long, grows-long}
 use Rattle.model.proofs.Impossible.{impossible}
 use Rattle.theory.proofs.Passages.{passage-exactly}
 use Rattle.images.proofs.Several.{answer-of}
-use Rattle.images.specs.Programs.{written, ForwardOf}
+use Rattle.images.specs.Programs.{ForwardOf}
 use Rattle.swaps.specs.Held.{heldAt, Placed, Carried}
 use Rattle.swaps.proofs.Applying.{held-length}
-use Rattle.loading.specs.Loading.{Images, readPair}
+use Rattle.loading.specs.Loading.{Images, readPrograms}
 use Rattle.checking.specs.Check.{CheckMeaning}
 use Rattle.loading.proofs.Early.{chain-early}
 use Rattle.loading.proofs.Outcomes.{AsFound, goes-on, reading-refused}
 use Rattle.loading.proofs.Programs.{written-end}
-use Rattle.loading.proofs.Reading.{pair-refused, pair-runs}
+use Rattle.loading.proofs.Reading.{programs-refused, programs-run}
 
 -- the bytes of a forward program are its numbers
 plain-positive : (u : Positive) → plainProgram (positive u) ≡ u
@@ -111,14 +111,14 @@ module _ (table first second entries : List ℕ) (width : ℕ) where
   abbrev follows : Images → Outcome Passage
   follows p = readChain (p .table .size) entries >>= λ es. passage (p .table) width (p .first) es (p .second)
 
-  pub check-refused : (r : Refusal) → readPair table first second ≡ refusal r → AsFound (check table first second entries width) r
+  pub check-refused : (r : Refusal) → readPrograms table first second ≡ refusal r → AsFound (check table first second entries width) r
   unfolding check
-  check-refused = pair-refused table first second follows
+  check-refused = programs-refused table first second follows
 
   module _ (T : Presentation) (u v : Positive) (c : Compares table first second T u v) (size : ℕ) (sized : T .size ≡ size) where
     reads-chain : check table first second entries width ≡ (readChain size entries >>= λ es. passage T width u es v)
     unfolding check
-    reads-chain = pair-runs table first second follows T u v c ∙ ap (λ i. readChain i entries >>= λ es. passage T width u es v) sized
+    reads-chain = programs-run table first second follows T u v c ∙ ap (λ i. readChain i entries >>= λ es. passage T width u es v) sized
 
     pub check-no-chain : (r : Refusal) → readChain size entries ≡ refusal r → AsFound (check table first second entries width) r
     check-no-chain r e = reading-refused _ (readChain size entries) _ reads-chain r e 6 (chain-early size entries) (omega arith)

@@ -10,8 +10,8 @@ use engine::gap::Gap;
 use images::chains::ChainRead;
 use images::chains::read_chain;
 use images::programs::unpack_letters;
-use loading::loading::PairRead;
-use loading::loading::read_pair;
+use loading::loading::ProgramsRead;
+use loading::loading::read_programs;
 use model::answers::Checked;
 use model::answers::Place;
 use model::answers::Refusal;
@@ -98,10 +98,10 @@ pub fn check(
     ensures meaning { λ r. ⌜ CheckMeaning (now (table .entry)) (now (first .entry)) (now (second .entry)) (now (entries .entry)) (length (now (workspace .entry))) (checked r) ⌝ }
 {
     let mut cells = [0u8; 4096];
-    let read = read_pair(table, first, second, &mut cells);
+    let read = read_programs(table, first, second, &mut cells);
     match read {
-        PairRead::Refused(refusal) => Checked::Refused(refusal),
-        PairRead::Pair { size, m, n } => {
+        ProgramsRead::Refused(refusal) => Checked::Refused(refusal),
+        ProgramsRead::Programs { size, m, n } => {
             let list = read_chain(entries, size);
             match list {
                 ChainRead::Refused(refusal) => Checked::Refused(refusal),

@@ -14,7 +14,7 @@ use Rattle.model.specs.declared.answers.Ending.{Ending as EndingAnswer}
 use Rattle.model.specs.declared.answers.Stop.the-variants.{Room}
 use Rattle.model.proofs.Reversal.{reversing-long}
 use Rattle.engine.specs.Gap.{letters}
-use Rattle.engine.specs.Run.{Holds, Named, Reverses}
+use Rattle.engine.specs.Run.{LeavesWord, LeavesLetters, Reverses}
 use Rattle.engine.proofs.Letters.{letter-forward, letter-back, letters-cons, letters-nil}
 use Rattle.engine.proofs.Lettering.{lettered-front, length-positive, length-negative}
 use Rattle.checks.specs.Residues.{fromEnding, Works}
@@ -27,7 +27,7 @@ letters-take (suc k) [] = refl
 letters-take (suc k) (x ∷ l) = ap (λ w. letter x ∷ w) (letters-take k l)
 
 -- the numerator stands at the start
-ending-works : (size : ℕ) (e : Ending) (bytes : List ℕ) → Holds e bytes → Named size e → Works size (ofEnding e) bytes (fromEnding (endingAnswer e))
+ending-works : (size : ℕ) (e : Ending) (bytes : List ℕ) → LeavesWord e bytes → LeavesLetters size e → Works size (ofEnding e) bytes (fromEnding (endingAnswer e))
 ending-works size (finished n d k r) bytes h l =
     record {
       answer = refl;

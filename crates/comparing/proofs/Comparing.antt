@@ -24,12 +24,12 @@ use Rattle.model.proofs.Impossible.{impossible}
 use Rattle.theory.specs.Verdicts.{DemandThree}
 use Rattle.theory.proofs.Verdicts.{demand-three}
 use Rattle.engine.specs.Run.{Reverses}
-use Rattle.loading.specs.Loading.{Images, readPair}
+use Rattle.loading.specs.Loading.{Images, readPrograms}
 use Rattle.comparing.specs.Compare.{judgement, judgementAs, toldAs, EndedIf, Judged, Meaning}
 use Rattle.comparing.specs.declared.compare.Judgement.{Judgement}
 use Rattle.comparing.specs.declared.compare.Judgement.the-variants.{Same, Different, Refused}
 use Rattle.loading.proofs.Outcomes.{AsFound, still-refused, goes-on}
-use Rattle.loading.proofs.Reading.{pair-refused, pair-runs}
+use Rattle.loading.proofs.Reading.{programs-refused, programs-run}
 
 -- JUDGING AN ENDING
 
@@ -141,13 +141,13 @@ module _ (table first second : List ℕ) (steps width : ℕ) where
   abbrev judges : Images → Outcome Verdict
   judges p = comparison (p .table) (p .first) (p .second) steps width
 
-  pub compare-refused : (r : Refusal) → readPair table first second ≡ refusal r → AsFound (compare table first second steps width) r
+  pub compare-refused : (r : Refusal) → readPrograms table first second ≡ refusal r → AsFound (compare table first second steps width) r
   unfolding compare
-  compare-refused = pair-refused table first second judges
+  compare-refused = programs-refused table first second judges
 
   pub compare-runs : (T : Presentation) (u v : Positive) → Compares table first second T u v → compare table first second steps width ≡ comparison T u v steps width
   unfolding compare
-  compare-runs = pair-runs table first second judges
+  compare-runs = programs-run table first second judges
 
   -- demand 3, of the outcome
   pub compare-means : (o : Outcome Verdict) → o ≡ compare table first second steps width → Meaning table first second steps width (λ T v. answered v) o

@@ -5,13 +5,13 @@ ghost use Rattle.model.specs.Outcome.{answered};
 ghost use Rattle.model.specs.Services.{compare};
 ghost use Rattle.model.specs.Areas.{workspaceAfter};
 ghost use Rattle.model.specs.Stated.{compared};
-ghost use Rattle.loading.specs.Loading.{Pair, Forward};
+ghost use Rattle.loading.specs.Loading.{TwoForward, Forward};
 ghost use Rattle.comparing.specs.Compare.{judgement, toldAs, Judges, Meaning};
 use areas::bytes::wipe;
 use clearing::clear::clear_cells;
-use loading::loading::PairRead;
-use loading::loading::read_pair;
-use loading::pairs::run_pair;
+use loading::comparison::run_programs;
+use loading::loading::ProgramsRead;
+use loading::loading::read_programs;
 use model::answers::Cleared;
 use model::answers::Compared;
 use model::answers::Ending;
@@ -70,7 +70,7 @@ pub fn compare_programs(
             if m != n {
                 return Judgement::Different { steps: 0 };
             }
-            let ending = run_pair(cells, size, first, m, second, n, budget, workspace);
+            let ending = run_programs(cells, size, first, m, second, n, budget, workspace);
             wipe(workspace);
             judge(ending)
         }
@@ -103,10 +103,10 @@ pub fn compare(
     ensures meaning { λ r. ⌜ Meaning (now (table .entry)) (now (first .entry)) (now (second .entry)) allowance (length (now (workspace .entry))) (λ T v. answered v) (compared r) ⌝ }
 {
     let mut cells = [0u8; 4096];
-    let read = read_pair(table, first, second, &mut cells);
+    let read = read_programs(table, first, second, &mut cells);
     match read {
-        PairRead::Refused(refusal) => Compared::Refused(refusal),
-        PairRead::Pair { size, m, n } => told(compare_programs(
+        ProgramsRead::Refused(refusal) => Compared::Refused(refusal),
+        ProgramsRead::Programs { size, m, n } => told(compare_programs(
             &cells,
             size,
             first,

@@ -10,7 +10,7 @@ use Rattle.model.specs.Word.{Letter, forward, back, Word, forwards, backs, lett
 use Rattle.model.specs.Reversing.{ended, site}
 use Rattle.model.proofs.Words.{site-fraction}
 use Rattle.engine.specs.Gap.{letters, AtEnd}
-use Rattle.engine.specs.Run.{Holds}
+use Rattle.engine.specs.Run.{LeavesWord}
 use Rattle.engine.proofs.Letters.{letter-forward, letter-back, letters-append, letters-cons, letters-nil, length-letters}
 use Rattle.engine.proofs.AtGap.{end-word}
 
@@ -60,7 +60,7 @@ module _ {word : Word} {bytes : List ℕ} {left right : ℕ} (h : AtEnd word byt
   pub end-fraction : word ≡ positive (forwards word) ++ negative (reverse (backs word))
   end-fraction = site-fraction word (ap site (end-word h) ∙ h .searched .none-before)
 
-  pub end-holds : (k r : ℕ) → Holds (ended word k r) bytes
+  pub end-holds : (k r : ℕ) → LeavesWord (ended word k r) bytes
   end-holds k r =
       let n : length (forwards word) + length (reverse (backs word)) ≡ left = omega (arith, length-reverse (backs word), both-signs word, end-length) in
       ap (λ i. letters (take i bytes)) n ∙ (sym (end-word h) ∙ end-fraction)

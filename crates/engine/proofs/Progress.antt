@@ -23,7 +23,7 @@ use Rattle.engine.specs.Gap.{letters, wordAt, Searched}
 use Rattle.model.specs.Range.{Lettered}
 use Rattle.cells.specs.Stands.{Serves}
 use Rattle.engine.specs.Turn.{TurnMeans}
-use Rattle.engine.specs.Run.{Holds, Named, Reverses}
+use Rattle.engine.specs.Run.{LeavesWord, LeavesLetters, Reverses}
 use Rattle.engine.proofs.Letters.{length-letters}
 use Rattle.engine.proofs.Runs.{run-none, run-open, run-spent, run-room, run-step, run-begun}
 use Rattle.engine.proofs.AtGap.{end-word}
@@ -80,10 +80,10 @@ module _ {cells : List ℕ} {word : Word} {allowed width : ℕ} {bytes : List �
 
     -- what an answer needs: the run from here
     answers : (T : Presentation) → Serves cells word T → (e : Ending) → run T width (allowed - steps) steps relations now ≡ e
-        → (r : EndingAnswer) → r ≡ endingAnswer e → Holds e after → Named (T .size) e → Reverses T word allowed after r
+        → (r : EndingAnswer) → r ≡ endingAnswer e → LeavesWord e after → LeavesLetters (T .size) e → Reverses T word allowed after r
     answers T t e h r f held names =
         let g : reversing T allowed (length after) word ≡ e = ap (λ i. reversing T allowed i word) after-width ∙ (p .same T t ∙ h) in
-        record { answer = f ∙ sym (ap endingAnswer g); holds = subst (λ d. Holds d after) (sym g) held; named = subst (Named (T .size)) (sym g) names }
+        record { answer = f ∙ sym (ap endingAnswer g); holds = subst (λ d. LeavesWord d after) (sym g) held; named = subst (LeavesLetters (T .size)) (sym g) names }
 
     pub finishes : (g : Gap) (k : ℕ) → k ≡ length (forwards (letters (take (g .left) after))) → TurnMeans cells now (allowed - steps) after (Final g)
         → (T : Presentation) → Serves cells word T → Reverses T word allowed after (Finished k (g .left - k) steps relations)

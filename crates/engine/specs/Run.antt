@@ -13,21 +13,21 @@ use Rattle.model.specs.Range.{Lettered}
 use Rattle.cells.specs.Stands.{Serves}
 
 -- what the workspace begins with where a reversing finished: the numerator, then the inverse of the denominator
-abbrev pub Holds : Ending → List ℕ → Type 0
-Holds (finished n d k r) bytes = letters (take (length n + length d) bytes) ≡ positive n ++ negative d
-Holds (open-pair a b k) bytes = Unit {0}
-Holds (stopped s) bytes = Unit {0}
+abbrev pub LeavesWord : Ending → List ℕ → Type 0
+LeavesWord (finished n d k r) bytes = letters (take (length n + length d) bytes) ≡ positive n ++ negative d
+LeavesWord (open-pair a b k) bytes = Unit {0}
+LeavesWord (stopped s) bytes = Unit {0}
 
 -- and its letters are those of the presentation
-abbrev pub Named : ℕ → Ending → Type 0
-Named size (finished n d k r) = Lettered size (positive n ++ negative d)
-Named size (open-pair a b k) = Unit {0}
-Named size (stopped s) = Unit {0}
+abbrev pub LeavesLetters : ℕ → Ending → Type 0
+LeavesLetters size (finished n d k r) = Lettered size (positive n ++ negative d)
+LeavesLetters size (open-pair a b k) = Unit {0}
+LeavesLetters size (stopped s) = Unit {0}
 
 pub record Reverses (T : Presentation) (word : Word) (budget : ℕ) (bytes : List ℕ) (r : EndingAnswer) : Type 0 where
   pub answer : r ≡ endingAnswer (reversing T budget (length bytes) word)
-  pub holds : Holds (reversing T budget (length bytes) word) bytes
-  pub named : Named (T .size) (reversing T budget (length bytes) word)
+  pub holds : LeavesWord (reversing T budget (length bytes) word) bytes
+  pub named : LeavesLetters (T .size) (reversing T budget (length bytes) word)
 
 -- under every presentation that the cells serve
 abbrev pub RunMeans : List ℕ → Word → ℕ → List ℕ → EndingAnswer → Type 0

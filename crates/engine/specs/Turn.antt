@@ -50,14 +50,14 @@ pub record Goes (T : Presentation) (word : Word) : Type 0 where
   pub word′ : Word
   pub taken : next T word ≡ step a b word′
 
--- what a turn says of the word, where `left` steps of the budget are left
+-- what a turn says of the word, where `remaining` steps of the budget are left
 abbrev pub TurnDone : Presentation → Word → ℕ → List ℕ → Turn → Type 0
-TurnDone T word left bytes (Final g) = (next T word ≡ no-site) × AtEnd word bytes (g .left) (g .right)
-TurnDone T word left bytes (Undefined p) = next T word ≡ blocked (p .a) (p .b)
-TurnDone T word left bytes (Stopped Budget) = (left ≡ 0) × Goes T word
-TurnDone T word left bytes (Stopped Room) = (1 ≤ left) × Outgrows T word (length bytes)
-TurnDone T word left bytes (Stepped g p) = (1 ≤ left) × Steps T word bytes (g .left) (g .right) (p .a) (p .b)
+TurnDone T word remaining bytes (Final g) = (next T word ≡ no-site) × AtEnd word bytes (g .left) (g .right)
+TurnDone T word remaining bytes (Undefined p) = next T word ≡ blocked (p .a) (p .b)
+TurnDone T word remaining bytes (Stopped Budget) = (remaining ≡ 0) × Goes T word
+TurnDone T word remaining bytes (Stopped Room) = (1 ≤ remaining) × Outgrows T word (length bytes)
+TurnDone T word remaining bytes (Stepped g p) = (1 ≤ remaining) × Steps T word bytes (g .left) (g .right) (p .a) (p .b)
 
 -- and that under every presentation that the cells serve
 abbrev pub TurnMeans : List ℕ → Word → ℕ → List ℕ → Turn → Type 0
-TurnMeans cells word left bytes r = (T : Presentation) → Serves cells word T → TurnDone T word left bytes r
+TurnMeans cells word remaining bytes r = (T : Presentation) → Serves cells word T → TurnDone T word remaining bytes r

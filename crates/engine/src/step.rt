@@ -54,12 +54,12 @@ pub fn push_inverse(bytes: &mut [u8], right: usize, cells: &[u8], at: usize) -> 
     next
 }
 
-// One step at a site, or why there is none; `left` steps of the budget are left.
-pub fn step(cells: &[u8], bytes: &mut [u8], site: Gap, left: u16) -> Turn
+// One step at a site, or why there is none; `remaining` steps of the budget are left.
+pub fn step(cells: &[u8], bytes: &mut [u8], site: Gap, remaining: u16) -> Turn
     requires site { ⌜ AtSite (wordAt (now bytes) (site .left) (site .right)) (now bytes) (site .left) (site .right) ⌝ }
     requires ready { ⌜ Ready (now cells) (wordAt (now bytes) (site .left) (site .right)) ⌝ }
     ensures length { λ r. ⌜ length (now (bytes .exit)) ≡ length (now (bytes .entry)) ⌝ }
-    ensures step { λ r. ⌜ TurnMeans (now (cells .entry)) (wordAt (now (bytes .entry)) (site .left) (site .right)) left (now (bytes .exit)) r ⌝ }
+    ensures step { λ r. ⌜ TurnMeans (now (cells .entry)) (wordAt (now (bytes .entry)) (site .left) (site .right)) remaining (now (bytes .exit)) r ⌝ }
 {
     let at = site.left - 1;
     let next = site.right;
@@ -72,7 +72,7 @@ pub fn step(cells: &[u8], bytes: &mut [u8], site: Gap, left: u16) -> Turn
     if x == 255 {
         return Turn::Undefined(Pair { a, b });
     }
-    if left == 0 {
+    if remaining == 0 {
         return Turn::Stopped(Stop::Budget);
     }
     if next + 1 - at < x + y {
@@ -87,15 +87,15 @@ pub fn step(cells: &[u8], bytes: &mut [u8], site: Gap, left: u16) -> Turn
 }
 
 // The search for the leftmost site, then the step there.
-pub fn advance(cells: &[u8], bytes: &mut [u8], gap: Gap, left: u16) -> Turn
+pub fn advance(cells: &[u8], bytes: &mut [u8], gap: Gap, remaining: u16) -> Turn
     requires searched { ⌜ Searched (now bytes) (gap .left) (gap .right) ⌝ }
     requires ready { ⌜ Ready (now cells) (wordAt (now bytes) (gap .left) (gap .right)) ⌝ }
     ensures length { λ r. ⌜ length (now (bytes .exit)) ≡ length (now (bytes .entry)) ⌝ }
-    ensures turn { λ r. ⌜ TurnMeans (now (cells .entry)) (wordAt (now (bytes .entry)) (gap .left) (gap .right)) left (now (bytes .exit)) r ⌝ }
+    ensures turn { λ r. ⌜ TurnMeans (now (cells .entry)) (wordAt (now (bytes .entry)) (gap .left) (gap .right)) remaining (now (bytes .exit)) r ⌝ }
 {
     let sought = seek(bytes, gap);
     match sought {
         Sought::Nowhere(end) => Turn::Final(end),
-        Sought::Found(site) => step(cells, bytes, site, left),
+        Sought::Found(site) => step(cells, bytes, site, remaining),
     }
 }

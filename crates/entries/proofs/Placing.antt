@@ -1,23 +1,23 @@
 -- Bits put at a position, one field after another, and fields read back.
-use mathlib.Core.Path.{_≡_, sym, ap, ap₂, _∙_}
+use mathlib.Core.Path.{_≡_, refl, sym, ap, ap₂, _∙_}
 use mathlib.Core.List.{List, _++_, append-assoc}
 use Prim.Native.Nat.{ℕ, _+_, _-_, _*_, _^_, _≤_, _<_}
 use native.Mathlib.Nat.{mul-le-mul}
 use native.Mathlib.Omega.{arith}
-use lib.ListN.{length, take, drop, length-append, length-drop}
-use lib.Seq.{take-at, drop-at, drop-drop, length-take-le}
+use lib.ListN.{length, take, drop, length-append}
+use lib.Seq.{take-at, drop-at, drop-drop}
 use lib.Pow.{pow-mono}
 use Rattle.model.specs.Range.{EntryInRange}
 use Rattle.model.specs.Bits.{bitsOf, digits, number, letterWidth}
 use Rattle.model.specs.Equivalence.{Entry}
 use Rattle.model.specs.Images.{entryBits, letterBits, entryWidth, entryPosition}
-use Rattle.bits.specs.Fields.{Inside, Written}
+use Rattle.bits.specs.Fields.{Inside, Written, Appended}
+use Rattle.bits.proofs.Appending.{appended-field, appended-more, appended-as}
 use Rattle.bits.proofs.Digits.{length-digits, number-of-digits}
-use Rattle.bits.proofs.Bytes.{length-bits}
 use Rattle.bits.proofs.Fields.{field-fits}
 use Rattle.bits.proofs.Width.{width-small, letter-fits}
 use Rattle.entries.specs.declared.entry.ChainEntry.{ChainEntry}
-use Rattle.entries.specs.Entry.{EntryInside, Placed, Same}
+use Rattle.entries.specs.Entry.{EntryInside, Same}
 
 -- POSITIONS
 
@@ -29,56 +29,6 @@ position-small n index width h e = omega (arith, product-small index width h (om
 
 pub entry-small : (n index : ℕ) → index < 65536 → entryPosition n index + entryWidth n ≤ 2000000
 entry-small n index h = omega (arith, product-small index (letterWidth n) h (width-small n), width-small n)
-
--- FIELDS WRITTEN
-
-pub written-placed : {before after : List ℕ} {at width value : ℕ} → Written before at width value after → Placed before at (digits width value) after
-written-placed {before} {after} {at} {width} {value} w =
-    record {
-      same-length = w .same-length;
-      placed = w .bits ∙ ap (λ k. take at (bitsOf before) ++ (digits width value ++ drop (at + k) (bitsOf before))) (sym (length-digits width value));
-    }
-
-pub placed-as : {before after : List ℕ} {at at′ : ℕ} {bits bits′ : List ℕ} → at ≡ at′ → bits ≡ bits′ → Placed before at bits after → Placed before at′ bits′ after
-placed-as e f p = rw (← e, ← f) p
-
--- the bits of a place are told
-pub placed-at : {before after : List ℕ} {at : ℕ} {bits : List ℕ} → Placed before at bits after → (p old s : List ℕ) → bitsOf before ≡ p ++ (old ++ s)
-    → length p ≡ at → length old ≡ length bits → bitsOf after ≡ p ++ (bits ++ s)
-placed-at {before} {after} {at} {bits} h p old s e f g =
-    let front : take at (bitsOf before) ≡ p = ap (take at) e ∙ take-at p (old ++ s) at f in
-    let both : length (p ++ old) ≡ at + length bits = length-append p old ∙ ap₂ (λ i j. i + j) f g in
-    let end : drop (at + length bits) (bitsOf before) ≡ s =
-    ap (drop (at + length bits)) (e ∙ sym (append-assoc p old s)) ∙ drop-at (p ++ old) s (at + length bits) both in
-    h .placed ∙ ap₂ (λ l r. l ++ (bits ++ r)) front end
-
--- the next bits follow
-pub placed-more : {before mid after : List ℕ} {at next : ℕ} {bits more : List ℕ} → Placed before at bits mid → Placed mid next more after
-    → next ≡ at + length bits → at + length bits + length more ≤ 8 * length before → Placed before at (bits ++ more) after
-placed-more {before} {mid} {after} {at} {next} {bits} {more} p q e room =
-    let long : length (bitsOf before) ≡ 8 * length before = length-bits before in
-    let begun : length (take at (bitsOf before) ++ bits) ≡ next =
-    length-append (take at (bitsOf before)) bits
-    ∙ (ap (λ i. i + length bits) (length-take-le at (bitsOf before) (omega arith)) ∙ sym e) in
-    let split : drop (at + length bits) (bitsOf before) ≡ take (length more) (drop (at + length bits) (bitsOf before)) ++ drop (length more) (drop (at + length bits) (bitsOf before)) =
-    sym (lib.ListN.take-append-drop (length more) (drop (at + length bits) (bitsOf before))) in
-    let bits-mid : bitsOf mid
-    ≡ (take at (bitsOf before) ++ bits) ++ (take (length more) (drop (at + length bits) (bitsOf before)) ++ drop (length more) (drop (at + length bits) (bitsOf before))) =
-    p .placed ∙ (sym (append-assoc (take at (bitsOf before)) bits (drop (at + length bits) (bitsOf before))) ∙ ap (λ l. (take at (bitsOf before) ++ bits) ++ l) split) in
-    let fits : length (take (length more) (drop (at + length bits) (bitsOf before))) ≡ length more =
-    length-take-le (length more) (drop (at + length bits) (bitsOf before)) (omega (arith, length-drop (at + length bits) (bitsOf before))) in
-    let sum : at + length bits + length more ≡ at + length (bits ++ more) = omega (arith, length-append bits more) in
-    record {
-      same-length = q .same-length ∙ p .same-length;
-      placed =
-          placed-at q (take at (bitsOf before) ++ bits) (take (length more) (drop (at + length bits) (bitsOf before)))
-          (drop (length more) (drop (at + length bits) (bitsOf before))) bits-mid begun fits
-          ∙ (append-assoc (take at (bitsOf before)) bits (more ++ drop (length more) (drop (at + length bits) (bitsOf before)))
-          ∙ ap (λ l. take at (bitsOf before) ++ l)
-          (sym (append-assoc bits more (drop (length more) (drop (at + length bits) (bitsOf before))))
-          ∙ ap (λ l. (bits ++ more) ++ l)
-          (drop-drop (length more) (at + length bits) (bitsOf before) ∙ ap (λ i. drop i (bitsOf before)) sum)));
-    }
 
 pub length-entry : (n : ℕ) (e : Entry) → length (entryBits n e) ≡ entryWidth n
 length-entry n e =
@@ -111,19 +61,23 @@ inside-as e h = record { some = h .some; few = h .few; low = h .low; inside = om
 module _ {n index : ℕ} {before : List ℕ} (h : EntryInside n index before) (e : Entry) (at width : ℕ) (ea : at ≡ entryPosition n index) (ew : width ≡ letterWidth n)
     (one two three : List ℕ) where
   pub entry-placed : Written before at 12 (e .offset) one → Written one (at + 12) width (e .a - 1) two → Written two (at + 12 + width) width (e .b - 1) three
-      → Placed before (entryPosition n index) (entryBits n e) three
+      → Appended before (entryPosition n index) (entryBits n e) three
   entry-placed p q r =
-      let pa : Placed before at (digits 12 (e .offset)) one = written-placed p in
-      let pb : Placed one (at + 12) (digits width (e .a - 1)) two = written-placed q in
-      let pc : Placed two (at + 12 + width) (digits width (e .b - 1)) three = written-placed r in
+      let pa : Appended before at (digits 12 (e .offset)) one = appended-field _ _ _ _ _ p in
+      let pb : Appended one (at + 12) (digits width (e .a - 1)) two = appended-field _ _ _ _ _ q in
+      let pc : Appended two (at + 12 + width) (digits width (e .b - 1)) three = appended-field _ _ _ _ _ r in
       let la : length (digits 12 (e .offset)) ≡ 12 = length-digits 12 (e .offset) in
       let lb : length (digits width (e .a - 1)) ≡ width = length-digits width (e .a - 1) in
       let lc : length (digits width (e .b - 1)) ≡ width = length-digits width (e .b - 1) in
       let lab : length (digits 12 (e .offset) ++ digits width (e .a - 1)) ≡ 12 + width =
       length-append (digits 12 (e .offset)) (digits width (e .a - 1)) ∙ ap₂ (λ i j. i + j) la lb in
-      let ab = placed-more pa pb (ap (λ i. at + i) (sym la)) (omega (arith, h .inside)) in
-      let abc = placed-more ab pc (omega arith) (omega (arith, h .inside)) in
-      placed-as ea
+      let ab =
+      appended-more before at (digits 12 (e .offset)) one (digits width (e .a - 1)) two (omega (arith, h .inside))
+      pa (appended-as (ap (λ i. at + i) (sym la)) refl pb) in
+      let abc =
+      appended-more before at (digits 12 (e .offset) ++ digits width (e .a - 1)) two (digits width (e .b - 1)) three (omega (arith, h .inside))
+      ab (appended-as (omega arith) refl pc) in
+      appended-as ea
       (append-assoc (digits 12 (e .offset)) (digits width (e .a - 1)) (digits width (e .b - 1))
       ∙ ap (λ w. digits 12 (e .offset) ++ (digits w (e .a - 1) ++ digits w (e .b - 1))) ew) abc
 

@@ -2,7 +2,7 @@
 use mathlib.Core.List.{List, _++_}
 use mathlib.Core.Path.{_≡_}
 use Prim.Native.Nat.{ℕ, _+_, _*_, _≤_, _<_}
-use lib.ListN.{length, take, drop}
+use lib.ListN.{length, drop}
 use Rattle.model.specs.Bits.{bitsOf}
 use Rattle.model.specs.Equivalence.{Entry}
 use Rattle.model.specs.Images.{entryWidth, entryPosition, entryBits}
@@ -15,11 +15,6 @@ pub record EntryInside (n index : ℕ) (area : List ℕ) : Type 0 where
   pub few : n ≤ 16
   pub low : index < 65536
   pub inside : entryPosition n index + entryWidth n ≤ 8 * length area
-
--- bits were put at a position, and every other bit is as it was
-pub record Placed (before : List ℕ) (at : ℕ) (bits after : List ℕ) : Type 0 where
-  pub same-length : length after ≡ length before
-  pub placed : bitsOf after ≡ take at (bitsOf before) ++ (bits ++ drop (at + length bits) (bitsOf before))
 
 -- the model's entry and the code's
 pub record Same (e : Entry) (s : ChainEntry) : Type 0 where

@@ -2,7 +2,8 @@ ghost use mathlib.Core.Path.{_≡_};
 ghost use Prim.Native.Nat.{_≤_, _<_};
 ghost use Rattle.model.specs.Images.{entryPosition, entryBits};
 ghost use Rattle.model.specs.Services.{chainBytes};
-ghost use Rattle.entries.specs.Entry.{EntryInside, Placed, ReadsEntry};
+ghost use Rattle.entries.specs.Entry.{EntryInside, ReadsEntry};
+ghost use Rattle.bits.specs.Fields.{Appended};
 use bits::letter_width;
 use bits::read_field;
 use bits::write_field;
@@ -41,7 +42,7 @@ pub fn chain_bytes(size: u8, entries: u16) -> usize
 pub fn write_entry(area: &mut [u8], size: u8, index: usize, entry: ChainEntry)
     requires inside { ⌜ EntryInside size index (now area) ⌝ }
     requires letters { ⌜ (1 ≤ entry .a) × (1 ≤ entry .b) ⌝ }
-    ensures { λ r. ⌜ Placed (now (area .entry)) (entryPosition size index) (entryBits size (record { offset = entry .offset; a = entry .a; b = entry .b })) (now (area .exit)) ⌝ }
+    ensures { λ r. ⌜ Appended (now (area .entry)) (entryPosition size index) (entryBits size (record { offset = entry .offset; a = entry .a; b = entry .b })) (now (area .exit)) ⌝ }
 {
     let at = position(size, index);
     let width = letter_width(size) as usize;

@@ -9,7 +9,7 @@ use native.Mathlib.Nat.{suc-mul}
 use borrow.Author.Tests.{leb-true, ltb-true}
 use lib.Dec.{leb, ltb}
 use lib.ListN.{length, take, drop, set, getD, replicate, length-append, length-map, take-append-drop, length-replicate}
-use lib.Seq.{take-at, drop-at, drop-drop, length-take-le, take-append-add, drop-append-add, take-suc, take-all, drop-append-le}
+use lib.Seq.{take-at, length-take-le, take-append-add, drop-append-add, take-suc, take-all, drop-append-le}
 use lib.Pow.{pow-mono, shl-lt, shl-exact}
 use Rattle.model.specs.Word.{forward, back, letter}
 use Rattle.model.specs.Presentation.{Presentation, Complement}
@@ -18,58 +18,15 @@ use Rattle.model.specs.Bits.{bitsOf, digits, bytesFor, pack, letterWidth}
 use Rattle.model.specs.Images.{letterBits, signedBits, programImage, pairBits, tableImage}
 use Rattle.model.specs.Plain.{namesLetter}
 use Rattle.model.specs.Areas.{begins}
-use Rattle.bits.specs.Fields.{Written}
+use Rattle.bits.specs.Fields.{Appended}
 use Rattle.bits.proofs.Digits.{AreBits, length-digits, digits-are-bits, bits-append, digits-joined}
 use Rattle.bits.proofs.Width.{letter-fits}
 use Rattle.bits.proofs.Bytes.{length-bits, bits-of-append, bits-store}
 use Rattle.model.specs.Range.{AreBytes}
 use Rattle.bits.proofs.Packing.{pack-bits, packed-bytes, length-packed, bits-injective, and-first, and-second}
-use Rattle.images.specs.Programs.{written}
-use Rattle.images.specs.Written.{Appended, WidthOf, programBits}
+use Rattle.images.specs.Written.{WidthOf, programBits}
 use Rattle.images.proofs.Placed.{length-signed}
 use Rattle.images.proofs.RoundTrip.{concat-bits, signed-are-bits, pair-are-bits}
-
-pub appended-field : (before : List ℕ) (at width v : ℕ) (after : List ℕ) → Written before at width v after → Appended before at (digits width v) after
-appended-field before at width v after w =
-    record {
-      same-length = w .same-length;
-      bits = w .bits ∙ ap (λ n. take at (bitsOf before) ++ (digits width v ++ drop (at + n) (bitsOf before))) (sym (length-digits width v));
-    }
-
-pub appended-none : (before : List ℕ) (at : ℕ) → Appended before at [] before
-appended-none before at =
-    record {
-      same-length = refl;
-      bits = sym (ap (λ n. take at (bitsOf before) ++ drop n (bitsOf before)) {x = at + 0} {y = at} (omega arith) ∙ take-append-drop at (bitsOf before));
-    }
-
-pub written-more : (old : List ℕ) (at : ℕ) (xs ys : List ℕ) → at + length xs ≤ length old → written (written old at xs) (at + length xs) ys ≡ written old at (xs ++ ys)
-written-more old at xs ys h =
-    let front : length (take at old) ≡ at = length-take-le at old (omega arith) in
-    let both : length (take at old ++ xs) ≡ at + length xs = length-append (take at old) xs ∙ ap (λ n. n + length xs) front in
-    let m : written old at xs ≡ (take at old ++ xs) ++ drop (at + length xs) old = sym (append-assoc (take at old) xs (drop (at + length xs) old)) in
-    let t : take (at + length xs) (written old at xs) ≡ take at old ++ xs =
-    ap (take (at + length xs)) m ∙ take-at (take at old ++ xs) (drop (at + length xs) old) (at + length xs) both in
-    let d : drop (at + length xs + length ys) (written old at xs) ≡ drop (at + length (xs ++ ys)) old =
-    sym (drop-drop (length ys) (at + length xs) (written old at xs))
-    ∙ (ap (λ l. drop (length ys) (drop (at + length xs) l)) m
-    ∙ (ap (drop (length ys)) (drop-at (take at old ++ xs) (drop (at + length xs) old) (at + length xs) both)
-    ∙ (drop-drop (length ys) (at + length xs) old
-    ∙ ap (λ n. drop n old) {x = at + length xs + length ys} {y = at + length (xs ++ ys)} (omega (arith, length-append xs ys))))) in
-    ap (λ l. l ++ (ys ++ drop (at + length xs + length ys) (written old at xs))) t
-    ∙ (ap (λ l. (take at old ++ xs) ++ (ys ++ l)) d
-    ∙ (append-assoc (take at old) xs (ys ++ drop (at + length (xs ++ ys)) old)
-    ∙ ap (λ l. take at old ++ l) (sym (append-assoc xs ys (drop (at + length (xs ++ ys)) old)))))
-
-pub appended-more : (before : List ℕ) (at : ℕ) (xs mid ys after : List ℕ) → at + length xs ≤ 8 * length before
-    → Appended before at xs mid → Appended mid (at + length xs) ys after → Appended before at (xs ++ ys) after
-appended-more before at xs mid ys after h p q =
-    record {
-      same-length = q .same-length ∙ p .same-length;
-      bits =
-          q .bits
-          ∙ (ap (λ bits. written bits (at + length xs) ys) (p .bits) ∙ written-more (bitsOf before) at xs ys (omega (arith, length-bits before)));
-    }
 
 -- a sign and a number are a letter's bits
 sign-and-number : (size width x : ℕ) → x < 256 → width ≡ letterWidth size → digits 1 (x / 128) ++ digits width (x % 128 - 1) ≡ signedBits size (letter x)

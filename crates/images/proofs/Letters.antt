@@ -18,7 +18,8 @@ use Rattle.model.specs.Services.{isForward}
 use Rattle.bits.specs.Fields.{Inside}
 use Rattle.bits.proofs.Width.{width-small}
 use Rattle.images.specs.Fields.{from, Before, FieldAt}
-use Rattle.images.specs.Programs.{SignedAt, Accepted, HasLetter, written}
+use Rattle.images.specs.Programs.{SignedAt, Accepted, HasLetter}
+use Rattle.model.specs.Areas.{written}
 use Rattle.images.proofs.Several.{same-answer}
 use Rattle.images.proofs.Signed.{sign-of}
 use Rattle.images.proofs.RoundTrip.{program-in-range}

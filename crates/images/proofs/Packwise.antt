@@ -19,7 +19,8 @@ use Rattle.cells.specs.Layout.{cellAt}
 use Rattle.images.specs.Tables.{HoldsPair}
 use Rattle.images.specs.Bitwise.{AppendedTo}
 use Rattle.images.proofs.Several.{all-at}
-use Rattle.images.proofs.Appending.{appended-field, appended-none, appended-more, concat-append}
+use Rattle.images.proofs.Appending.{concat-append}
+use Rattle.bits.proofs.Appending.{appended-field, appended-none, appended-more}
 
 pub to-none : (before : List ℕ) (at : ℕ) → AppendedTo before at [] before at
 to-none before at = record { next-is = omega arith; appended = appended-none before at }
@@ -34,7 +35,7 @@ to-more before at xs mid next ys after last h p q =
       next-is = q .next-is ∙ omega (arith, p .next-is, length-append xs ys);
       appended =
           appended-more before at xs mid ys after (omega (arith, p .next-is)) (p .appended)
-          (subst (λ n. Rattle.images.specs.Written.Appended mid n ys after) (p .next-is) (q .appended));
+          (subst (λ n. Rattle.bits.specs.Fields.Appended mid n ys after) (p .next-is) (q .appended));
     }
 
 -- WORDS

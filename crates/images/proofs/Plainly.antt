@@ -12,10 +12,11 @@ use Rattle.model.specs.Enumeration.{concatMap}
 use Rattle.model.specs.Plain.{plainWord, plainPair}
 use Rattle.cells.specs.Stands.{HoldsWord}
 use Rattle.cells.specs.Layout.{cellAt}
-use Rattle.images.specs.Tables.{HoldsPair, HoldsRow, Listed}
-use Rattle.images.specs.Programs.{written}
+use Rattle.images.specs.Tables.{HoldsPair, HoldsRow, RowsHeld}
+use Rattle.model.specs.Areas.{written}
 use Rattle.images.specs.Bytewise.{Wrote}
-use Rattle.images.proofs.Appending.{written-more, concat-append}
+use Rattle.images.proofs.Appending.{concat-append}
+use Rattle.bits.proofs.Appending.{written-more}
 
 -- one byte
 pub wrote-byte : (old : List ℕ) (at v : ℕ) → at < length old → set old at v ≡ written old at (v ∷ [])
@@ -97,7 +98,7 @@ module _ (f : Complement → List ℕ) (size : ℕ) (cells : List ℕ) (a : ℕ)
 
 -- TABLES
 
-module _ (size : ℕ) (cells : List ℕ) (rows : List (List Complement)) (listed : Listed size cells rows) where
+module _ (size : ℕ) (cells : List ℕ) (rows : List (List Complement)) (listed : RowsHeld size cells rows) where
   pub table-row : (a : ℕ) → 1 ≤ a → a ≤ size → HoldsRow size cells a (getD rows (a - 1) [])
   table-row a low high =
       let e : 1 + (a - 1) ≡ a = omega arith in
@@ -106,7 +107,7 @@ module _ (size : ℕ) (cells : List ℕ) (rows : List (List Complement)) (listed
   pub table-width : (a : ℕ) → 1 ≤ a → a ≤ size → length (getD rows (a - 1) []) + a ≡ size
   table-width a low high = omega (arith, listed .widths (a - 1) (omega (arith, listed .many)))
 
-module _ (f : Complement → List ℕ) (size : ℕ) (cells : List ℕ) (rows : List (List Complement)) (listed : Listed size cells rows) where
+module _ (f : Complement → List ℕ) (size : ℕ) (cells : List ℕ) (rows : List (List Complement)) (listed : RowsHeld size cells rows) where
   pub table-more : (a : ℕ) → 1 ≤ a → a ≤ size
       → concatMap (concatMap f) (take (a - 1) rows) ++ concatMap f (getD rows (a - 1) []) ≡ concatMap (concatMap f) (take (a + 1 - 1) rows)
   table-more a low high =

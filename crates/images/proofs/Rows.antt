@@ -22,7 +22,7 @@ use Rattle.cells.specs.Layout.{Letters, cellAt}
 use Rattle.model.specs.Range.{InRange}
 use Rattle.model.proofs.Complete.{complete-same}
 use Rattle.cells.specs.Stands.{HoldsFirst, Stands, Blank}
-use Rattle.images.specs.Tables.{SameCell, HoldsPair, HoldsRow, PairFrom, RowFrom, RowAt, Listed, TableOf, TableDone, SizeDone, bytesFrom, PlainTableOf}
+use Rattle.images.specs.Tables.{SameCell, HoldsPair, HoldsRow, PairFrom, RowFrom, RowAt, RowsHeld, TableOf, TableDone, SizeDone, bytesFrom, PlainTableOf}
 use Rattle.images.specs.declared.tables.TableRead.{TableRead}
 use Rattle.images.specs.declared.tables.TableRead.the-variants.{Table, Refused}
 use Rattle.images.proofs.Several.{after, after-none, several-step, several-refused, several-done, several-length, rows-step, rows-refused, rows-done}
@@ -252,7 +252,7 @@ module _ (reader : List ℕ → Outcome (Read Complement)) (source : ℕ → Lis
         ∙ (ap (λ k. after (f .done) (rowsOf reader k (source at))) {x = size + 1 - a} {y = 0} (omega arith)
         ∙ rows-done reader (f .done) (source at))
 
-    pub rows-listed : size < a → Listed size cells (f .done)
+    pub rows-listed : size < a → RowsHeld size cells (f .done)
     rows-listed h = record { many = omega (arith, f .done-length, f .some-left); widths = f .widths; holds = f .holds }
 
     pub rows-stand : size < a → Stands cells (record { size = size; rows = f .done })

@@ -3,7 +3,7 @@ use mathlib.Core.List.{List}
 use mathlib.Core.Path.{_≡_}
 use Prim.Native.Nat.{ℕ, _+_, _*_, _^_, _≤_}
 use lib.ListN.{length}
-use Rattle.images.specs.Written.{Appended}
+use Rattle.bits.specs.Fields.{Appended}
 
 -- bits were appended at a position, and `next` is the position after them
 pub record AppendedTo (before : List ℕ) (at : ℕ) (new after : List ℕ) (next : ℕ) : Type 0 where

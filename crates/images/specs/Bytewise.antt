@@ -7,14 +7,14 @@ use Rattle.model.specs.Word.{letter}
 use Rattle.model.specs.Outcome.{answered}
 use Rattle.model.specs.Plain.{readPlainProgram}
 use Rattle.model.specs.Stated.{refusal}
-use Rattle.images.specs.Programs.{written}
-use Rattle.images.specs.Written.{Named}
+use Rattle.model.specs.Areas.{written}
+use Rattle.images.specs.Written.{NamesLetters}
 use Rattle.images.specs.declared.plain.PlainRead.{PlainRead}
 use Rattle.images.specs.declared.plain.PlainRead.the-variants.{Accepted, Refused}
 
 -- every byte names a letter, and the program is theirs
 pub record PlainProgram (plain : List ℕ) (size : ℕ) : Type 0 where
-  pub named : Named size plain
+  pub named : NamesLetters size plain
   pub read : readPlainProgram size plain ≡ answered (map letter plain)
 
 abbrev pub PlainDone : List ℕ → ℕ → PlainRead → Type 0

@@ -6,7 +6,7 @@ use lib.ListN.{length}
 use Rattle.model.specs.Word.{Positive}
 use Rattle.model.specs.Presentation.{Complement}
 use Rattle.cells.specs.Stands.{HoldsWord}
-use Rattle.images.specs.Tables.{HoldsPair, HoldsRow, Listed}
+use Rattle.images.specs.Tables.{HoldsPair, HoldsRow, RowsHeld}
 
 -- a cell holds some word
 pub record HoldsSomeWord (size : ℕ) (cells : List ℕ) (cell : ℕ) : Type 0 where
@@ -32,4 +32,4 @@ pub record HoldsSomeTable (size : ℕ) (cells : List ℕ) : Type 0 where
   pub some : 1 ≤ size
   pub few : size ≤ 16
   pub rows : List (List Complement)
-  pub listed : Listed size cells rows
+  pub listed : RowsHeld size cells rows

@@ -1,8 +1,8 @@
 -- What reading a program image gives.
-use mathlib.Core.List.{List, [], _++_}
+use mathlib.Core.List.{List, []}
 use mathlib.Core.Path.{_≡_}
 use Prim.Native.Nat.{ℕ, _+_, _*_, _≤_, _<_}
-use lib.ListN.{length, take, drop}
+use lib.ListN.{length}
 use Rattle.model.specs.Word.{Letter, Word, byte, Positive, positive}
 use Rattle.model.specs.Outcome.{answered, refused}
 use Rattle.model.specs.Bits.{letterWidth}
@@ -52,10 +52,6 @@ pub record HasLetter (image : List ℕ) (size width i : ℕ) : Type 0 where
   pub word : Word
   pub read : readProgram size image ≡ answered word
   pub inside : i < length word
-
--- an area with bytes written from a place on, and as it was before and after them
-abbrev pub written : List ℕ → ℕ → List ℕ → List ℕ
-written area at bytes = take at area ++ (bytes ++ drop (at + length bytes) area)
 
 -- the image of a program of so many forward letters
 pub record ForwardOf (image : List ℕ) (size count : ℕ) : Type 0 where

@@ -124,7 +124,7 @@ pub record PlainBefore (plain : List ℕ) (at size : ℕ) : Type 0 where
   pub few : size ≤ 16
 
 -- the rows of a table stand in the cells
-pub record Listed (size : ℕ) (cells : List ℕ) (rows : List (List Complement)) : Type 0 where
+pub record RowsHeld (size : ℕ) (cells : List ℕ) (rows : List (List Complement)) : Type 0 where
   pub many : length rows ≡ size
   pub widths : (i : ℕ) → i < length rows → length (getD rows i []) ≡ size - (1 + i)
   pub holds : (i : ℕ) → i < length rows → HoldsRow size cells (1 + i) (getD rows i [])
@@ -134,14 +134,14 @@ pub record TableOf (image cells : List ℕ) (size : ℕ) : Type 0 where
   pub table : Presentation
   pub read : readTable image ≡ answered table
   pub of : Of cells size table
-  pub listed : Listed size cells (table .rows)
+  pub listed : RowsHeld size cells (table .rows)
 
 -- the cells stand for the table that the plain form says
 pub record PlainTableOf (plain cells : List ℕ) (size : ℕ) : Type 0 where
   pub table : Presentation
   pub read : readPlainTable plain ≡ answered table
   pub of : Of cells size table
-  pub listed : Listed size cells (table .rows)
+  pub listed : RowsHeld size cells (table .rows)
 
 abbrev pub PlainTableDone : List ℕ → List ℕ → TableRead → Type 0
 PlainTableDone plain cells (Table size) = PlainTableOf plain cells size

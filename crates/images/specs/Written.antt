@@ -1,18 +1,14 @@
--- What writing into an area gives: bits appended at a position, every other bit as it was.
+-- What writing an image into an area asks.
 use mathlib.Core.List.{List, _++_, map}
 use mathlib.Core.Path.{_≡_}
 use mathlib.Core.Bool.{true}
 use Prim.Native.Nat.{ℕ, _+_, _*_, _≤_, _<_}
-use lib.ListN.{length, take, drop, getD}
+use lib.ListN.{length, getD}
 use Rattle.model.specs.Word.{letter}
 use Rattle.model.specs.Enumeration.{concatMap}
-use Rattle.model.specs.Bits.{bitsOf, digits, letterWidth}
+use Rattle.model.specs.Bits.{digits, letterWidth}
 use Rattle.model.specs.Images.{signedBits}
 use Rattle.model.specs.Plain.{namesLetter}
-
-pub record Appended (before : List ℕ) (at : ℕ) (new : List ℕ) (after : List ℕ) : Type 0 where
-  pub same-length : length after ≡ length before
-  pub bits : bitsOf after ≡ take at (bitsOf before) ++ (new ++ drop (at + length new) (bitsOf before))
 
 -- the width of a letter's field under `size` letters
 pub record WidthOf (size width : ℕ) : Type 0 where
@@ -21,7 +17,7 @@ pub record WidthOf (size width : ℕ) : Type 0 where
   pub width-is : width ≡ letterWidth size
 
 -- every byte names a letter, and an image can count them
-pub record Named (size : ℕ) (plain : List ℕ) : Type 0 where
+pub record NamesLetters (size : ℕ) (plain : List ℕ) : Type 0 where
   pub short : length plain ≤ 4095
   pub named : (i : ℕ) → i < length plain → namesLetter size (getD plain i 0) ≡ true
 

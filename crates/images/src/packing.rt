@@ -12,7 +12,7 @@ ghost use Rattle.model.specs.Bits.{digits};
 ghost use Rattle.model.specs.Images.{wordBits, pairBits};
 ghost use Rattle.cells.specs.Stands.{HoldsWord};
 ghost use Rattle.cells.specs.Layout.{Letters};
-ghost use Rattle.images.specs.Tables.{HoldsPair, HoldsRow, Listed};
+ghost use Rattle.images.specs.Tables.{HoldsPair, HoldsRow, RowsHeld};
 ghost use Rattle.images.specs.Written.{WidthOf};
 ghost use Rattle.images.specs.Held.{HoldsSomeWord, HoldsSomePair, HoldsSomeRow, HoldsSomeTable};
 ghost use Rattle.images.specs.Bitwise.{AppendedTo, Room};
@@ -90,7 +90,7 @@ pub fn pack_row(cells: &[u8], size: u8, width: usize, a: u8, out: &mut [u8], at:
 // A table image, from its cells; how many bits it has.
 pub fn pack_cells(cells: &[u8], size: u8, out: &mut [u8]) -> usize
     requires { ⌜ HoldsSomeTable size (now cells) × (length (now cells) ≡ 4096) × (length (now out) ≡ 8192) ⌝ }
-    ensures table { λ r. ⌜ ((rows : List (List Complement)) → Listed size (now (cells .entry)) rows → AppendedTo (now (out .entry)) 0 (digits 4 (size - 1) ++ concatMap (concatMap (pairBits size)) rows) (now (out .exit)) r) ⌝ }
+    ensures table { λ r. ⌜ ((rows : List (List Complement)) → RowsHeld size (now (cells .entry)) rows → AppendedTo (now (out .entry)) 0 (digits 4 (size - 1) ++ concatMap (concatMap (pairBits size)) rows) (now (out .exit)) r) ⌝ }
     ensures length { λ r. ⌜ length (now (out .exit)) ≡ length (now (out .entry)) ⌝ }
     ensures near { λ r. ⌜ r ≤ 65528 ⌝ }
 {

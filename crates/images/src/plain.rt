@@ -15,7 +15,7 @@ ghost use Rattle.model.specs.Enumeration.{concatMap};
 ghost use Rattle.model.specs.Plain.{plainWord, plainPair};
 ghost use Rattle.cells.specs.Stands.{HoldsWord, Blank};
 ghost use Rattle.cells.specs.Layout.{Letters};
-ghost use Rattle.images.specs.Tables.{HoldsPair, HoldsRow, Listed, PlainBefore, PlainWordDone, PlainPairDone, PlainRowDone, PlainTableDone};
+ghost use Rattle.images.specs.Tables.{HoldsPair, HoldsRow, RowsHeld, PlainBefore, PlainWordDone, PlainPairDone, PlainRowDone, PlainTableDone};
 ghost use Rattle.images.specs.Held.{HoldsSomeWord, HoldsSomePair, HoldsSomeRow, HoldsSomeTable};
 ghost use Rattle.images.specs.Bytewise.{PlainDone, Wrote};
 
@@ -223,7 +223,7 @@ pub fn write_plain_row(cells: &[u8], size: u8, a: u8, out: &mut [u8], at: usize)
 pub fn write_plain_table(cells: &[u8], size: u8, out: &mut [u8]) -> usize
     requires { ⌜ HoldsSomeTable size (now cells) × (length (now cells) ≡ 4096) × (length (now out) ≡ 8192) ⌝ }
     ensures length { λ r. ⌜ length (now (out .exit)) ≡ length (now (out .entry)) ⌝ }
-    ensures table { λ r. ⌜ ((rows : List (List Complement)) → Listed size (now (cells .entry)) rows → Wrote (now (out .entry)) 0 (size ∷ concatMap (concatMap plainPair) rows) (now (out .exit)) r) ⌝ }
+    ensures table { λ r. ⌜ ((rows : List (List Complement)) → RowsHeld size (now (cells .entry)) rows → Wrote (now (out .entry)) 0 (size ∷ concatMap (concatMap plainPair) rows) (now (out .exit)) r) ⌝ }
     ensures near { λ r. ⌜ r ≤ 8192 ⌝ }
 {
     out[0] = size;

@@ -13,7 +13,8 @@ ghost use Rattle.model.specs.Outcome.{answered};
 ghost use Rattle.model.specs.Images.{readProgram};
 ghost use Rattle.model.specs.Plain.{plainProgram};
 ghost use Rattle.model.specs.Services.{isForward};
-ghost use Rattle.images.specs.Programs.{SignedDone, ProgramDone, Accepted, HasLetter, written, ForwardDone};
+ghost use Rattle.images.specs.Programs.{SignedDone, ProgramDone, Accepted, HasLetter, ForwardDone};
+ghost use Rattle.model.specs.Areas.{written};
 
 // What stands at a position: a letter's byte, too few bits, or a field that names no letter.
 pub enum SignedField {

@@ -8,7 +8,8 @@ ghost use Rattle.model.specs.Word.{letter};
 ghost use Rattle.model.specs.Bits.{letterWidth};
 ghost use Rattle.model.specs.Images.{signedBits};
 ghost use Rattle.model.specs.Plain.{namesLetter};
-ghost use Rattle.images.specs.Written.{Appended, WidthOf, Named, PackRoom, programBits};
+ghost use Rattle.images.specs.Written.{WidthOf, NamesLetters, PackRoom, programBits};
+ghost use Rattle.bits.specs.Fields.{Appended};
 
 // Whether a byte names a letter, forward or back.
 pub fn names_letter(x: u8, size: u8) -> bool
@@ -33,7 +34,7 @@ pub fn write_signed(area: &mut [u8], at: usize, size: u8, width: usize, x: u8)
 
 // The count and the letters of a program, from their bytes.
 pub fn write_program(plain: &[u8], size: u8, area: &mut [u8])
-    requires { ⌜ (1 ≤ size) × (size ≤ 16) × Named size (now plain) × PackRoom (length (now plain)) (letterWidth size) (length (now area)) ⌝ }
+    requires { ⌜ (1 ≤ size) × (size ≤ 16) × NamesLetters size (now plain) × PackRoom (length (now plain)) (letterWidth size) (length (now area)) ⌝ }
     ensures { λ r. ⌜ Appended (now (area .entry)) 0 (programBits size (now (plain .entry))) (now (area .exit)) ⌝ }
 {
     let width = bits::letter_width(size) as usize;

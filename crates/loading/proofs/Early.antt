@@ -17,7 +17,7 @@ use Rattle.model.specs.Areas.{workspaceAfter}
 use Rattle.model.specs.Stated.{refusal}
 use Rattle.model.specs.declared.answers.Refusal.{Refusal}
 use Rattle.images.proofs.Refusals.{told}
-use Rattle.loading.specs.Loading.{readPair}
+use Rattle.loading.specs.Loading.{readPrograms}
 
 -- a refusal, if it is one, has a number of at most k
 abbrev pub Early : {A : Type 0} → ℕ → Outcome A → Type 0
@@ -115,8 +115,8 @@ forward-early n bytes =
     then 7 (readProgram n bytes) _ (wider 6 7 (readProgram n bytes) (omega arith) (program-early n bytes))
     (λ w. test 7 (not (isForward w)) 7 (forwards w) (omega arith))
 
-pub images-early : (table first second : List ℕ) → Early 7 (readPair table first second)
-unfolding readPair
+pub images-early : (table first second : List ℕ) → Early 7 (readPrograms table first second)
+unfolding readPrograms
 images-early table first second =
     then 7 (readTable table) _ (wider 3 7 (readTable table) (omega arith) (table-early table))
     (λ T. then 7 (readForward (T .size) first) _ (forward-early (T .size) first)

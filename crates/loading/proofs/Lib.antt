@@ -2,4 +2,4 @@ pub mod Early
 pub mod Outcomes
 pub mod Programs
 pub mod Reading
-pub mod LoadedPairs
+pub mod LoadedPrograms

@@ -14,7 +14,7 @@ use Rattle.model.specs.declared.answers.Ending.the-variants.{Stopped}
 use Rattle.model.specs.declared.answers.Stop.the-variants.{Room}
 use Rattle.model.proofs.Reversal.{reversing-long}
 use Rattle.model.specs.Range.{All, LetterInRange, ProgramInRange, Lettered}
-use Rattle.images.specs.Programs.{written}
+use Rattle.model.specs.Areas.{written}
 use Rattle.engine.specs.Gap.{letters, wordAt, Searched}
 use Rattle.cells.specs.Stands.{Serves, Of}
 use Rattle.engine.specs.Run.{Reverses}

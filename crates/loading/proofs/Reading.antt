@@ -13,7 +13,7 @@ use Rattle.model.specs.Stated.{refusal}
 use Rattle.model.specs.declared.answers.Refusal.{Refusal}
 use Rattle.images.specs.Programs.{ForwardOf}
 use Rattle.images.specs.Tables.{TableOf}
-use Rattle.loading.specs.Loading.{Images, readPair, PairLoaded}
+use Rattle.loading.specs.Loading.{Images, readPrograms, ProgramsLoaded}
 use Rattle.loading.proofs.Early.{images-early}
 use Rattle.loading.proofs.Outcomes.{AsFound, still-refused, goes-on, reading-refused}
 
@@ -27,8 +27,8 @@ pub loaded-size : {table cells : List ℕ} {size : ℕ} → TableOf table cells 
 loaded-size t = (omega (arith, t .of .sized, t .of .stands .some), omega (arith, t .of .sized, t .of .stands .few))
 
 module _ (table first second : List ℕ) where
-  pub no-table : (r : Refusal) → readTable table ≡ refusal r → readPair table first second ≡ refusal r
-  unfolding readPair
+  pub no-table : (r : Refusal) → readTable table ≡ refusal r → readPrograms table first second ≡ refusal r
+  unfolding readPrograms
   no-table r e = still-refused (readTable table) r e _
 
   -- programs under the table that was loaded
@@ -36,20 +36,20 @@ module _ (table first second : List ℕ) where
     sized : (image : List ℕ) → readForward (t .table .size) image ≡ readForward size image
     sized image = ap (λ i. readForward i image) (t .of .sized)
 
-    pub no-first : (r : Refusal) → readForward size first ≡ refusal r → readPair table first second ≡ refusal r
-    unfolding readPair
+    pub no-first : (r : Refusal) → readForward size first ≡ refusal r → readPrograms table first second ≡ refusal r
+    unfolding readPrograms
     no-first r e = goes-on (readTable table) (t .table) (t .read) _ ∙ still-refused (readForward (t .table .size) first) r (sized first ∙ e) _
 
     module _ {m : ℕ} (one : ForwardOf first size m) where
-      pub no-second : (r : Refusal) → readForward size second ≡ refusal r → readPair table first second ≡ refusal r
-      unfolding readPair
+      pub no-second : (r : Refusal) → readForward size second ≡ refusal r → readPrograms table first second ≡ refusal r
+      unfolding readPrograms
       no-second r e =
           goes-on (readTable table) (t .table) (t .read) _
           ∙ (goes-on (readForward (t .table .size) first) (one .word) (sized first ∙ one .read) _
           ∙ still-refused (readForward (t .table .size) second) r (sized second ∙ e) _)
 
-      pub pair-loaded : {n : ℕ} → ForwardOf second size n → PairLoaded table first second cells size m n
-      pair-loaded two =
+      pub programs-loaded : {n : ℕ} → ForwardOf second size n → ProgramsLoaded table first second cells size m n
+      programs-loaded two =
           record {
             forward = record { table = t .table; of = t .of; pair = record { some = loaded-size t .0; few = loaded-size t .1; one = one; two = two } };
             reads = record { table-read = t .read; first-read = sized first ∙ one .read; second-read = sized second ∙ two .read };
@@ -60,17 +60,17 @@ module _ (table first second : List ℕ) where
     abbrev service : Outcome A
     service = readTable table >>= λ T. readForward (T .size) first >>= λ u. readForward (T .size) second >>= λ v. rest (record { table = T; first = u; second = v })
 
-    reads-pair : service ≡ (readPair table first second >>= rest)
-    unfolding readPair
+    reads-pair : service ≡ (readPrograms table first second >>= rest)
+    unfolding readPrograms
     reads-pair =
         sym (regrouped (readTable table) _ rest _
         (λ T. regrouped (readForward (T .size) first) _ rest _
         (λ u. regrouped (readForward (T .size) second) _ rest _ (λ v. refl))))
 
-    pub pair-refused : (r : Refusal) → readPair table first second ≡ refusal r → AsFound service r
-    pair-refused r e = reading-refused service (readPair table first second) rest reads-pair r e 7 (images-early table first second) (omega arith)
+    pub programs-refused : (r : Refusal) → readPrograms table first second ≡ refusal r → AsFound service r
+    programs-refused r e = reading-refused service (readPrograms table first second) rest reads-pair r e 7 (images-early table first second) (omega arith)
 
-    pub pair-runs : (T : Presentation) (u v : Positive) → Compares table first second T u v → service ≡ rest (record { table = T; first = u; second = v })
-    pair-runs T u v c =
+    pub programs-run : (T : Presentation) (u v : Positive) → Compares table first second T u v → service ≡ rest (record { table = T; first = u; second = v })
+    programs-run T u v c =
         goes-on (readTable table) T (c .table-read) _
         ∙ (goes-on (readForward (T .size) first) u (c .first-read) _ ∙ goes-on (readForward (T .size) second) v (c .second-read) _)

@@ -13,8 +13,8 @@ use Rattle.model.specs.declared.answers.Ending.{Ending}
 use Rattle.images.specs.Programs.{Accepted, ForwardOf}
 use Rattle.cells.specs.Stands.{Of}
 use Rattle.engine.specs.Run.{Reverses}
-use Rattle.loading.specs.declared.loading.PairRead.{PairRead}
-use Rattle.loading.specs.declared.loading.PairRead.the-variants.{Pair as PairAnswer, Refused as RefusedAnswer}
+use Rattle.loading.specs.declared.loading.ProgramsRead.{ProgramsRead}
+use Rattle.loading.specs.declared.loading.ProgramsRead.the-variants.{Programs as ProgramsAnswer, Refused as RefusedAnswer}
 
 -- an accepted program under cells that stand for a table
 pub record ProgramRuns (cells : List ℕ) (size : ℕ) (program : List ℕ) (count : ℕ) : Type 0 where
@@ -28,7 +28,7 @@ ProgramReverses cells size program budget workspace r =
     (T : Presentation) → Of cells size T → (w : Word) → readProgram size program ≡ answered w → Reverses T w budget workspace r
 
 -- two forward programs of so many letters
-pub record Pair (size : ℕ) (first : List ℕ) (first-count : ℕ) (second : List ℕ) (second-count : ℕ) : Type 0 where
+pub record TwoForward (size : ℕ) (first : List ℕ) (first-count : ℕ) (second : List ℕ) (second-count : ℕ) : Type 0 where
   pub some : 1 ≤ size
   pub few : size ≤ 16
   pub one : ForwardOf first size first-count
@@ -38,7 +38,7 @@ pub record Pair (size : ℕ) (first : List ℕ) (first-count : ℕ) (second : Li
 pub record Forward (cells : List ℕ) (size : ℕ) (first : List ℕ) (first-count : ℕ) (second : List ℕ) (second-count : ℕ) : Type 0 where
   pub table : Presentation
   pub of : Of cells size table
-  pub pair : Pair size first first-count second second-count
+  pub pair : TwoForward size first first-count second second-count
 
 -- what the three images of compare, chain and check hold
 pub record Images : Type 0 where
@@ -47,18 +47,18 @@ pub record Images : Type 0 where
   pub second : Positive
 
 -- "A first program passes 4 to 7 before the second"
-unfoldable pub readPair : List ℕ → List ℕ → List ℕ → Outcome Images
-readPair table first second =
+unfoldable pub readPrograms : List ℕ → List ℕ → List ℕ → Outcome Images
+readPrograms table first second =
     readTable table >>= λ T.
     readForward (T .size) first >>= λ u.
     readForward (T .size) second >>= λ v.
     answered (record { table = T; first = u; second = v })
 
 -- the table that the cells stand for, and the programs, are those that the images hold
-pub record PairLoaded (table first second cells : List ℕ) (size first-count second-count : ℕ) : Type 0 where
+pub record ProgramsLoaded (table first second cells : List ℕ) (size first-count second-count : ℕ) : Type 0 where
   pub forward : Forward cells size first first-count second second-count
   pub reads : Compares table first second (forward .table) (forward .pair .one .word) (forward .pair .two .word)
 
-abbrev pub PairDone : List ℕ → List ℕ → List ℕ → List ℕ → PairRead → Type 0
-PairDone table first second cells (PairAnswer size m n) = PairLoaded table first second cells size m n
-PairDone table first second cells (RefusedAnswer r) = readPair table first second ≡ refusal r
+abbrev pub ProgramsDone : List ℕ → List ℕ → List ℕ → List ℕ → ProgramsRead → Type 0
+ProgramsDone table first second cells (ProgramsAnswer size m n) = ProgramsLoaded table first second cells size m n
+ProgramsDone table first second cells (RefusedAnswer r) = readPrograms table first second ≡ refusal r

@@ -1,7 +1,7 @@
 ghost use mathlib.Core.Path.{_≡_};
 ghost use lib.ListN.{length};
 ghost use Rattle.cells.specs.Stands.{Blank};
-ghost use Rattle.loading.specs.Loading.{PairDone, ProgramRuns, ProgramReverses};
+ghost use Rattle.loading.specs.Loading.{ProgramsDone, ProgramRuns, ProgramReverses};
 use engine::gap::Gap;
 use engine::run::reversing;
 use images::programs::ProgramRead;
@@ -14,28 +14,28 @@ use model::answers::Refusal;
 use model::answers::Stop;
 
 // A table of so many letters, and two forward programs of m and n letters.
-pub enum PairRead {
-    Pair { size: u8, m: u16, n: u16 },
+pub enum ProgramsRead {
+    Programs { size: u8, m: u16, n: u16 },
     Refused(Refusal),
 }
 
 // Reads a table image into cells, then the images of two forward programs.
-pub fn read_pair(table: &[u8], first: &[u8], second: &[u8], cells: &mut [u8]) -> PairRead
+pub fn read_programs(table: &[u8], first: &[u8], second: &[u8], cells: &mut [u8]) -> ProgramsRead
     requires { ⌜ Blank (now cells) ⌝ }
-    ensures { λ r. ⌜ PairDone (now (table .entry)) (now (first .entry)) (now (second .entry)) (now (cells .exit)) r ⌝ }
+    ensures { λ r. ⌜ ProgramsDone (now (table .entry)) (now (first .entry)) (now (second .entry)) (now (cells .exit)) r ⌝ }
 {
     let read = read_table(table, cells);
     match read {
-        TableRead::Refused(refusal) => PairRead::Refused(refusal),
+        TableRead::Refused(refusal) => ProgramsRead::Refused(refusal),
         TableRead::Table { size } => {
             let one = read_forward(first, size);
             match one {
-                ProgramRead::Refused(refusal) => PairRead::Refused(refusal),
+                ProgramRead::Refused(refusal) => ProgramsRead::Refused(refusal),
                 ProgramRead::Program { count: m } => {
                     let two = read_forward(second, size);
                     match two {
-                        ProgramRead::Refused(refusal) => PairRead::Refused(refusal),
-                        ProgramRead::Program { count: n } => PairRead::Pair { size, m, n },
+                        ProgramRead::Refused(refusal) => ProgramsRead::Refused(refusal),
+                        ProgramRead::Program { count: n } => ProgramsRead::Programs { size, m, n },
                     }
                 }
             }

@@ -6,10 +6,10 @@ pub data Case : Type 1 where
   _gives_ : {A : Type 0} → A → A → Case
 
 infix 20 _gives_
-abbrev pub Holds : Case → Type 0
-Holds (x gives y) = x ≡ y
+abbrev pub Agrees : Case → Type 0
+Agrees (x gives y) = x ≡ y
 
 -- every case of the table holds
 abbrev pub All : List {1} Case → Type 0
 All [] = Unit {0}
-All (c ∷ cs) = Holds c × All cs
+All (c ∷ cs) = Agrees c × All cs

@@ -11,6 +11,7 @@ use lib.Dec.{leb, ltb}
 use lib.ListN.{getD}
 use borrow.Author.Tests.{eq-eqb, ne-eqb, lt-ltb, le-ltb, leb-true}
 use Rattle.model.specs.Word.{Positive}
+use Rattle.model.specs.Range.{InRange}
 use Rattle.model.specs.Presentation.{Presentation, Complement, undefined, complement, swapped, listed, complete}
 use Rattle.model.proofs.Impossible.{impossible}
 
@@ -35,11 +36,6 @@ swapped-twice : (c : Complement) → swapped (swapped c) ≡ c
 swapped-twice undefined = refl
 swapped-twice (complement x y) = refl
 
--- a number that names a letter
-pub record Named (T : Presentation) (a : ℕ) : Type 0 where
-  pub low : 1 ≤ a
-  pub high : a ≤ T .size
-
 module _ (T : Presentation) where
   pub complete-turn : (a b : ℕ) → complete T b a ≡ swapped (complete T a b)
   complete-turn a b = go (ℕ-discrete a b) (decLt a b)
@@ -52,7 +48,7 @@ module _ (T : Presentation) where
           complete-below T h ∙ (sym (swapped-twice (listed T b a)) ∙ ap swapped (sym (complete-above T h)))
 
   -- of two different letters that have a complement both are named: a pair is undefined where one of them is not
-  listed-named : {a b : ℕ} {x y : Positive} → a < b → listed T a b ≡ complement x y → Named T a × Named T b
+  listed-named : {a b : ℕ} {x y : Positive} → a < b → listed T a b ≡ complement x y → InRange (T .size) a × InRange (T .size) b
   listed-named {a} {b} {x} {y} h e = go (leb 1 a) (leb b (T .size)) refl refl
     where
       given : Complement
@@ -61,7 +57,7 @@ module _ (T : Presentation) where
       none-there : {t : Bool} → leb 1 a && leb b (T .size) ≡ t → cond t given undefined ≡ complement x y
       none-there p = ap (λ t. cond t given undefined) (sym p) ∙ e
 
-      go : (s t : Bool) → leb 1 a ≡ s → leb b (T .size) ≡ t → Named T a × Named T b
+      go : (s t : Bool) → leb 1 a ≡ s → leb b (T .size) ≡ t → InRange (T .size) a × InRange (T .size) b
       go true true p q =
           let low-a = leb-true 1 a p in
           let high-b = leb-true b (T .size) q in
@@ -73,10 +69,10 @@ module _ (T : Presentation) where
           let r : undefined ≡ complement x y = none-there (ap (λ s. s && leb b (T .size)) p) in
           impossible (cc)
 
-  pub complete-named : {a b : ℕ} {x y : Positive} → a ≢ b → complete T a b ≡ complement x y → Named T a × Named T b
+  pub complete-named : {a b : ℕ} {x y : Positive} → a ≢ b → complete T a b ≡ complement x y → InRange (T .size) a × InRange (T .size) b
   complete-named {a} {b} {x} {y} h e = go (decLt a b)
     where
-      go : Dec (a < b) → Named T a × Named T b
+      go : Dec (a < b) → InRange (T .size) a × InRange (T .size) b
       go (yes q) = listed-named q (sym (complete-below T q) ∙ e)
       go (no q) =
           let below : b < a = omega arith in

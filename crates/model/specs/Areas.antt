@@ -2,7 +2,7 @@
 use mathlib.Core.List.{List, _++_}
 use mathlib.Core.Bool.{cond}
 use mathlib.Core.Path.{_≡_}
-use Prim.Native.Nat.{ℕ, _≤_}
+use Prim.Native.Nat.{ℕ, _+_, _≤_}
 use lib.Dec.{leb}
 use lib.ListN.{length, take, drop, replicate}
 use Rattle.model.specs.Word.{Positive}
@@ -11,6 +11,10 @@ use Rattle.model.specs.Equivalence.{Entry, Leads}
 use Rattle.model.specs.Outcome.{Outcome, answered, refused}
 use Rattle.model.specs.Images.{readTable, readChain, chainImage}
 use Rattle.model.specs.Services.{Fraction, Verdict, same-after, different-after, readForward}
+
+-- an area with bytes put from a place on, and as it was before and after them
+abbrev pub written : List ℕ → ℕ → List ℕ → List ℕ
+written area at bytes = take at area ++ (bytes ++ drop (at + length bytes) area)
 
 -- an area that begins with the bytes and is as it was from there on
 abbrev pub begins : List ℕ → List ℕ → List ℕ

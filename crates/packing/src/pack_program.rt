@@ -1,7 +1,7 @@
 // Pack a program: its image in the answer area.
 
-use images::plain;
 use images::plain::PlainRead;
+use images::plain::read_plain_program;
 use images::tables;
 use images::tables::TableRead;
 use images::writing;
@@ -14,23 +14,23 @@ ghost use Rattle.model.specs.Areas.{outputAfter, ReadsBack};
 ghost use Rattle.model.specs.Stated.{packedAs};
 ghost use Rattle.model.specs.Services.{packProgram, programUnder, plainProgramUnder};
 
-pub fn pack(table: &[u8], program: &[u8], area: &mut [u8]) -> Packed
-    ensures stated { λ r. ⌜ packedAs r ≡ mapped length (packProgram (now (table .entry)) (now (program .entry)) (length (now (area .entry)))) ⌝ }
-    ensures area { λ r. ⌜ now (area .exit) ≡ outputAfter (λ b. b) (packProgram (now (table .entry)) (now (program .entry)) (length (now (area .entry)))) (now (area .entry)) ⌝ }
-    ensures readable { λ r. ⌜ ReadsBack (plainProgramUnder (now (table .entry)) (now (program .entry))) (programUnder (now (table .entry))) (packedAs r) (now (area .exit)) ⌝ }
+pub fn pack(table: &[u8], plain: &[u8], answer: &mut [u8]) -> Packed
+    ensures stated { λ r. ⌜ packedAs r ≡ mapped length (packProgram (now (table .entry)) (now (plain .entry)) (length (now (answer .entry)))) ⌝ }
+    ensures answer { λ r. ⌜ now (answer .exit) ≡ outputAfter (λ b. b) (packProgram (now (table .entry)) (now (plain .entry)) (length (now (answer .entry)))) (now (answer .entry)) ⌝ }
+    ensures readable { λ r. ⌜ ReadsBack (plainProgramUnder (now (table .entry)) (now (plain .entry))) (programUnder (now (table .entry))) (packedAs r) (now (answer .exit)) ⌝ }
 {
     match tables::table_size(table) {
         TableRead::Refused(refusal) => Packed::Refused(refusal),
-        TableRead::Table { size } => match plain::read_plain_program(program, size) {
+        TableRead::Table { size } => match read_plain_program(plain, size) {
             PlainRead::Refused(refusal) => Packed::Refused(refusal),
             PlainRead::Accepted => {
                 let width = bits::letter_width(size) as usize;
-                let bytes = (12 + program.len() * (1 + width) + 7) / 8;
-                if area.len() < bytes {
+                let bytes = (12 + plain.len() * (1 + width) + 7) / 8;
+                if answer.len() < bytes {
                     return Packed::Refused(Refusal::AnswerShort);
                 }
-                area[bytes - 1] = 0;
-                writing::write_program(program, size, area);
+                answer[bytes - 1] = 0;
+                writing::write_program(plain, size, answer);
                 Packed::Written { bytes }
             }
         },

@@ -16,10 +16,10 @@ ghost use Rattle.model.specs.Plain.{readPlainTable};
 ghost use Rattle.model.specs.Services.{packTable};
 
 // The image is made in a local area first, so that its length is known before anything is written.
-pub fn pack(plain: &[u8], area: &mut [u8]) -> Packed
-    ensures stated { λ r. ⌜ packedAs r ≡ mapped length (packTable (now (plain .entry)) (length (now (area .entry)))) ⌝ }
-    ensures area { λ r. ⌜ now (area .exit) ≡ outputAfter (λ b. b) (packTable (now (plain .entry)) (length (now (area .entry)))) (now (area .entry)) ⌝ }
-    ensures readable { λ r. ⌜ ReadsBack (readPlainTable (now (plain .entry))) readTable (packedAs r) (now (area .exit)) ⌝ }
+pub fn pack(plain: &[u8], answer: &mut [u8]) -> Packed
+    ensures stated { λ r. ⌜ packedAs r ≡ mapped length (packTable (now (plain .entry)) (length (now (answer .entry)))) ⌝ }
+    ensures answer { λ r. ⌜ now (answer .exit) ≡ outputAfter (λ b. b) (packTable (now (plain .entry)) (length (now (answer .entry)))) (now (answer .entry)) ⌝ }
+    ensures readable { λ r. ⌜ ReadsBack (readPlainTable (now (plain .entry))) readTable (packedAs r) (now (answer .exit)) ⌝ }
 {
     let mut cells = [0u8; 4096];
     match plain::read_plain_table(plain, &mut cells) {
@@ -28,10 +28,10 @@ pub fn pack(plain: &[u8], area: &mut [u8]) -> Packed
             let mut out = [0u8; 8192];
             let fields = packing::pack_cells(&cells, size, &mut out);
             let bytes = (fields + 7) / 8;
-            if area.len() < bytes {
+            if answer.len() < bytes {
                 return Packed::Refused(Refusal::AnswerShort);
             }
-            copy_bytes(&out, bytes, area);
+            copy_bytes(&out, bytes, answer);
             Packed::Written { bytes }
         }
     }

@@ -13,10 +13,10 @@ ghost use Rattle.model.specs.Areas.{outputAfter, ReadsBack};
 ghost use Rattle.model.specs.Stated.{packedAs};
 ghost use Rattle.model.specs.Services.{unpackProgram, programUnder, plainProgramUnder};
 
-pub fn unpack(table: &[u8], program: &[u8], area: &mut [u8]) -> Packed
-    ensures stated { λ r. ⌜ packedAs r ≡ mapped length (unpackProgram (now (table .entry)) (now (program .entry)) (length (now (area .entry)))) ⌝ }
-    ensures area { λ r. ⌜ now (area .exit) ≡ outputAfter (λ b. b) (unpackProgram (now (table .entry)) (now (program .entry)) (length (now (area .entry)))) (now (area .entry)) ⌝ }
-    ensures readable { λ r. ⌜ ReadsBack (programUnder (now (table .entry)) (now (program .entry))) (plainProgramUnder (now (table .entry))) (packedAs r) (now (area .exit)) ⌝ }
+pub fn unpack(table: &[u8], program: &[u8], answer: &mut [u8]) -> Packed
+    ensures stated { λ r. ⌜ packedAs r ≡ mapped length (unpackProgram (now (table .entry)) (now (program .entry)) (length (now (answer .entry)))) ⌝ }
+    ensures answer { λ r. ⌜ now (answer .exit) ≡ outputAfter (λ b. b) (unpackProgram (now (table .entry)) (now (program .entry)) (length (now (answer .entry)))) (now (answer .entry)) ⌝ }
+    ensures readable { λ r. ⌜ ReadsBack (programUnder (now (table .entry)) (now (program .entry))) (plainProgramUnder (now (table .entry))) (packedAs r) (now (answer .exit)) ⌝ }
 {
     match tables::table_size(table) {
         TableRead::Refused(refusal) => Packed::Refused(refusal),
@@ -24,10 +24,10 @@ pub fn unpack(table: &[u8], program: &[u8], area: &mut [u8]) -> Packed
             ProgramRead::Refused(refusal) => Packed::Refused(refusal),
             ProgramRead::Program { count } => {
                 let bytes = count as usize;
-                if area.len() < bytes {
+                if answer.len() < bytes {
                     return Packed::Refused(Refusal::AnswerShort);
                 }
-                programs::unpack_letters(program, size, count, area, 0);
+                programs::unpack_letters(program, size, count, answer, 0);
                 Packed::Written { bytes }
             }
         },

@@ -16,10 +16,10 @@ ghost use Rattle.model.specs.Plain.{readPlainTable};
 ghost use Rattle.model.specs.Services.{unpackTable};
 
 // The plain form is made in a local area first, so that its length is known before anything is written.
-pub fn unpack(table: &[u8], area: &mut [u8]) -> Packed
-    ensures stated { λ r. ⌜ packedAs r ≡ mapped length (unpackTable (now (table .entry)) (length (now (area .entry)))) ⌝ }
-    ensures area { λ r. ⌜ now (area .exit) ≡ outputAfter (λ b. b) (unpackTable (now (table .entry)) (length (now (area .entry)))) (now (area .entry)) ⌝ }
-    ensures readable { λ r. ⌜ ReadsBack (readTable (now (table .entry))) readPlainTable (packedAs r) (now (area .exit)) ⌝ }
+pub fn unpack(table: &[u8], answer: &mut [u8]) -> Packed
+    ensures stated { λ r. ⌜ packedAs r ≡ mapped length (unpackTable (now (table .entry)) (length (now (answer .entry)))) ⌝ }
+    ensures answer { λ r. ⌜ now (answer .exit) ≡ outputAfter (λ b. b) (unpackTable (now (table .entry)) (length (now (answer .entry)))) (now (answer .entry)) ⌝ }
+    ensures readable { λ r. ⌜ ReadsBack (readTable (now (table .entry))) readPlainTable (packedAs r) (now (answer .exit)) ⌝ }
 {
     let mut cells = [0u8; 4096];
     match tables::read_table(table, &mut cells) {
@@ -27,10 +27,10 @@ pub fn unpack(table: &[u8], area: &mut [u8]) -> Packed
         TableRead::Table { size } => {
             let mut out = [0u8; 8192];
             let bytes = plain::write_plain_table(&cells, size, &mut out);
-            if area.len() < bytes {
+            if answer.len() < bytes {
                 return Packed::Refused(Refusal::AnswerShort);
             }
-            copy_bytes(&out, bytes, area);
+            copy_bytes(&out, bytes, answer);
             Packed::Written { bytes }
         }
     }

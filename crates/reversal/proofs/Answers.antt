@@ -23,7 +23,7 @@ use Rattle.model.specs.declared.answers.Reversed.{Reversed}
 use Rattle.model.specs.declared.answers.Reversed.the-variants.{Answer, Refused}
 use Rattle.model.proofs.Impossible.{impossible}
 use Rattle.engine.specs.Gap.{letters}
-use Rattle.engine.specs.Run.{Holds, Reverses}
+use Rattle.engine.specs.Run.{LeavesWord, Reverses}
 use Rattle.engine.proofs.Letters.{length-letters}
 use Rattle.engine.proofs.Lettering.{length-positive, length-negative}
 use Rattle.reversal.specs.Fraction.{FractionWritten}
@@ -58,7 +58,7 @@ module _ (T : Presentation) (word : Word) (steps : ℕ) (workspace before : List
   pub done : (n d k r : ℕ) → Reverses T word steps workspace (Finished n d k r) → Done n d k r
   done n d k r p = go end refl (p .answer) (p .holds)
     where
-      go : (e : Ending) → end ≡ e → Finished n d k r ≡ endingAnswer e → Holds e workspace → Done n d k r
+      go : (e : Ending) → end ≡ e → Finished n d k r ≡ endingAnswer e → LeavesWord e workspace → Done n d k r
       go (finished N D k′ r′) f g h =
           let en : length N ≡ n = cc in
           let ed : length D ≡ d = cc in

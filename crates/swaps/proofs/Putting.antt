@@ -6,7 +6,7 @@ use native.Mathlib.Omega.{arith}
 use native.Mathlib.Numerals.{add-one}
 use lib.ListN.{length, take, drop, set, getD, length-drop}
 use lib.Seq.{paste, paste-suc, take-all, getD-take, getD-drop, length-take-le, set-append-left, take-set-lt, take-suc-set, append-snoc}
-use Rattle.images.specs.Programs.{written}
+use Rattle.model.specs.Areas.{written}
 
 module _ (cells : List ℕ) (from count : ℕ) (inside : from + count ≤ length cells) where
   abbrev pub word : List ℕ

@@ -5,9 +5,9 @@ use Prim.Native.Nat.{ℕ, suc, _+_, _-_, _≤_, _<_}
 use native.Mathlib.Omega.{arith}
 use lib.ListN.{length, take, drop, length-append, length-take, length-drop}
 use lib.Seq.{drop-at, take-append-le, take-take, length-take-le}
-use Rattle.images.specs.Programs.{written}
+use Rattle.model.specs.Areas.{written}
 use Rattle.swaps.specs.Held.{heldAt, Placed}
-use Rattle.swaps.specs.Entry.{Holds}
+use Rattle.swaps.specs.Entry.{WordHeld}
 
 module _ (before : List ℕ) (left right taken b : ℕ) (word : List ℕ) (count : ℕ) (n : length word ≡ count) (p : Placed before left right) (t : right + taken ≤ length before) where
   abbrev made : List ℕ
@@ -42,7 +42,7 @@ module _ (before : List ℕ) (left right taken b : ℕ) (word : List ℕ) (count
         drop-at (take start before) ((b ∷ word) ++ drop (start + suc (length word)) before) start start-fits
         ∙ ap (λ i. (b ∷ word) ++ drop i before) behind
 
-    pub holds-made : (after : List ℕ) → after ≡ written before start (b ∷ word) → Holds made after left start
+    pub holds-made : (after : List ℕ) → after ≡ written before start (b ∷ word) → WordHeld made after left start
     unfolding heldAt
     holds-made after e =
         record {

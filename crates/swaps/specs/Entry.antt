@@ -14,13 +14,13 @@ use Rattle.swaps.specs.declared.entry.Applied.{Applied}
 use Rattle.swaps.specs.declared.entry.Applied.the-variants.{Word, Breaks, Short}
 
 -- the word is in the area
-pub record Holds (word : Positive) (bytes : List ℕ) (left right : ℕ) : Type 0 where
+pub record WordHeld (word : Positive) (bytes : List ℕ) (left right : ℕ) : Type 0 where
   pub placed : Placed bytes left right
   pub word-is : heldAt bytes left right ≡ word
 
 -- the letters before `left`, then b and a word, then those from `end` on
 abbrev pub ReplaceMeans : List ℕ → ℕ → ℕ → ℕ → Positive → List ℕ → Applied → Type 0
-ReplaceMeans before left end b word after (Word g) = Holds (take left before ++ ((b ∷ word) ++ drop end before)) after (g .left) (g .right)
+ReplaceMeans before left end b word after (Word g) = WordHeld (take left before ++ ((b ∷ word) ++ drop end before)) after (g .left) (g .right)
 ReplaceMeans before left end b word after Breaks = ⊥
 ReplaceMeans before left end b word after Short = length before < length (take left before ++ ((b ∷ word) ++ drop end before))
 

@@ -4,7 +4,7 @@ ghost use mathlib.Core.List.{_∷_};
 ghost use Prim.Native.Nat.{_+_, _≤_};
 ghost use lib.ListN.{length, take, drop};
 ghost use Rattle.model.specs.Equivalence.{equal};
-ghost use Rattle.images.specs.Programs.{written};
+ghost use Rattle.model.specs.Areas.{written};
 
 // Whether `a`, then `count` letters of the cells, stand from `at` on.
 pub fn stands_at(bytes: &[u8], at: usize, a: u8, cells: &[u8], from: usize, count: usize) -> bool

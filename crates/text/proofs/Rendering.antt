@@ -11,10 +11,9 @@ use Rattle.model.specs.Outcome.{Outcome, answered, mapped}
 use Rattle.model.specs.Images.{readProgram}
 use Rattle.model.specs.Plain.{plainProgram}
 use Rattle.model.specs.Services.{Fraction, reverse}
-use Rattle.model.specs.Areas.{begins, fractionBytes, outputAfter}
+use Rattle.model.specs.Areas.{begins, fractionBytes, outputAfter, written}
 use Rattle.model.specs.Stated.{refusal, sizes}
 use Rattle.model.specs.declared.answers.Refusal.{Refusal}
-use Rattle.images.specs.Programs.{written}
 use Rattle.images.specs.Tables.{SizeOf}
 use Rattle.images.proofs.RoundTrip.{program-in-range}
 use Rattle.text.specs.Text.{wordText, bytesText, answerText, outcomeText, report}

@@ -10,9 +10,10 @@ use lib.ListN.{length}
 use borrow.Author.Tests.{eqb-true}
 use Rattle.model.specs.Word.{Positive}
 use Rattle.model.specs.Presentation.{Presentation, Complement, undefined, complement, swapped, complete}
+use Rattle.model.specs.Range.{InRange}
 use Rattle.model.specs.Outcome.{answered}
 use Rattle.model.specs.Checks.{balanced, Side, CubeRule, both-undefined, both-defined, cleared}
-use Rattle.model.proofs.Complete.{Named, complete-same, complete-turn, complete-named}
+use Rattle.model.proofs.Complete.{complete-same, complete-turn, complete-named}
 use Rattle.model.proofs.Equiv.{Homogeneous, total-one}
 use Rattle.theory.proofs.Grid.{derives-empty, recast}
 use Rattle.theory.proofs.Diagram.{draw}
@@ -24,7 +25,7 @@ use Rattle.theory.proofs.Completeness.{Cube, Closes}
 
 module _ (T : Presentation) where
   -- both sides want the complements of a and c and of b and c
-  outside-rule : (a b c : ℕ) → a ≢ c → b ≢ c → (Named T c → ⊥) → CubeRule T a b c
+  outside-rule : (a b c : ℕ) → a ≢ c → b ≢ c → (InRange (T .size) c → ⊥) → CubeRule T a b c
   outside-rule a b c p q unnamed =
       both-undefined
       (λ l s. unnamed (complete-named T p (side-grid T a b c s .to-c) .1))
@@ -75,10 +76,10 @@ module _ (T : Presentation) (steps width : ℕ) (clear : cleared T steps width �
 
   -- THE CUBE RULE
 
-  named-rule : (a b c : ℕ) {x y : Positive} → a ≢ b → a ≢ c → b ≢ c → Named T c → complete T a b ≡ complement x y → CubeRule T a b c
+  named-rule : (a b c : ℕ) {x y : Positive} → a ≢ b → a ≢ c → b ≢ c → InRange (T .size) c → complete T a b ≡ complement x y → CubeRule T a b c
   named-rule a b c {x} {y} p q r n e = go (decLt a b)
     where
-      letters : Named T a × Named T b
+      letters : InRange (T .size) a × InRange (T .size) b
       letters = complete-named T p e
 
       go : Dec (a < b) → CubeRule T a b c

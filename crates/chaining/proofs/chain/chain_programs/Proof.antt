@@ -15,7 +15,7 @@ use Rattle.comparing.specs.declared.compare.Judgement.{Judgement}
 use Rattle.comparing.specs.declared.compare.Judgement.the-variants.{Same, Different, Refused}
 use Rattle.comparing.proofs.compare.Judgement.{the-type}
 use Rattle.comparing.proofs.Comparing.{told-states}
-use Rattle.chaining.proofs.ChainService.{NotSame, lists-nothing, area-too-short, lists-chain, pair-fits, listed-from, listed-of}
+use Rattle.chaining.proofs.ChainService.{NotSame, lists-nothing, area-too-short, lists-chain, programs-fit, listed-from, listed-of}
 use borrow.Author.Needs.{needs}
 use Rattle.chaining.proofs.chain.chain_programs.Statement.{statement}
 use Rattle.chaining.proofs.chain.chain_programs.Tie as tie
@@ -76,23 +76,23 @@ sub-right c =
     let p = s .pre .pair in
     let k = c .before .before .before .verdict .given .0 .0 in
     let r = c .before .before .before .verdict .given .0 .1 .0 in
-    omega (arith, pair-fits (s .pre .table) (p .one .word) (p .two .word) (s .args .budget) (length (s .args .workspace .now)) k r ((subst (Judged (s .pre .table) (p .one .word) (p .two .word) (s .args .budget) (length (s .args .workspace .now))) (c .before .before .before .verdict .given .1) (z .ensures .judged (s .pre .table) (s .pre .of) (p .one .word) (p .two .word) (p .one .read) (p .two .read))) .ended), p .one .count-is, p .two .count-is, (ap length (z .ensures .workspace ∙ ap (λ j. workspaceAfter (judgementAs j) (s .args .workspace .now)) (c .before .before .before .verdict .given .1)) ∙ length-replicate (length (s .args .workspace .now)) 0))
+    omega (arith, programs-fit (s .pre .table) (p .one .word) (p .two .word) (s .args .budget) (length (s .args .workspace .now)) k r ((subst (Judged (s .pre .table) (p .one .word) (p .two .word) (s .args .budget) (length (s .args .workspace .now))) (c .before .before .before .verdict .given .1) (z .ensures .judged (s .pre .table) (s .pre .of) (p .one .word) (p .two .word) (p .one .read) (p .two .read))) .ended), p .one .count-is, p .two .count-is, (ap length (z .ensures .workspace ∙ ap (λ j. workspaceAfter (judgementAs j) (s .args .workspace .now)) (c .before .before .before .verdict .given .1)) ∙ length-replicate (length (s .args .workspace .now)) 0))
 
-load-pair-requires : tie.Need-load-pair-requires
-load-pair-requires c κs =
+load-programs-requires : tie.Need-load-programs-requires
+load-programs-requires c κs =
     let s = c .before .before .before .before .before .before .before .before .before .before .before .before .before .before .before in
     let z = c .before .before .before .before .before .before .before .before .compare-programs in
     let p = s .pre .pair in
     let k = c .before .before .before .before .verdict .given .0 .0 in
     let r = c .before .before .before .before .verdict .given .0 .1 .0 in
-    (p, omega (arith, pair-fits (s .pre .table) (p .one .word) (p .two .word) (s .args .budget) (length (s .args .workspace .now)) k r ((subst (Judged (s .pre .table) (p .one .word) (p .two .word) (s .args .budget) (length (s .args .workspace .now))) (c .before .before .before .before .verdict .given .1) (z .ensures .judged (s .pre .table) (s .pre .of) (p .one .word) (p .two .word) (p .one .read) (p .two .read))) .ended), p .one .count-is, p .two .count-is, (ap length (z .ensures .workspace ∙ ap (λ j. workspaceAfter (judgementAs j) (s .args .workspace .now)) (c .before .before .before .before .verdict .given .1)) ∙ length-replicate (length (s .args .workspace .now)) 0)))
+    (p, omega (arith, programs-fit (s .pre .table) (p .one .word) (p .two .word) (s .args .budget) (length (s .args .workspace .now)) k r ((subst (Judged (s .pre .table) (p .one .word) (p .two .word) (s .args .budget) (length (s .args .workspace .now))) (c .before .before .before .before .verdict .given .1) (z .ensures .judged (s .pre .table) (s .pre .of) (p .one .word) (p .two .word) (p .one .read) (p .two .read))) .ended), p .one .count-is, p .two .count-is, (ap length (z .ensures .workspace ∙ ap (λ j. workspaceAfter (judgementAs j) (s .args .workspace .now)) (c .before .before .before .before .verdict .given .1)) ∙ length-replicate (length (s .args .workspace .now)) 0)))
 
 list-requires : tie.Need-list-requires
 list-requires c κs =
     let s = c .before .before .before .before .before .before .before .before .before .before .before .before .before .before .before .before .before .before .before .before in
     let z = c .before .before .before .before .before .before .before .before .before .before .before .before .before .compare-programs in
     let p = s .pre .pair in
-    let l = c .before .before .before .before .load-pair in
+    let l = c .before .before .before .before .load-programs in
     let k = c .before .before .before .before .before .before .before .before .before .verdict .given .0 .0 in
     let r = c .before .before .before .before .before .before .before .before .before .verdict .given .0 .1 .0 in
     ((s .pre .table), (p .one .word), (p .two .word), k, listed-from (s .args .cells .now) (s .args .size) (s .pre .table) (s .pre .of) (p .one .word) (p .two .word) (s .args .first .now) (s .args .second .now) (s .args .m) (s .args .n) (p .one) (p .two) refl refl (s .args .budget) (length (s .args .workspace .now)) k r ((subst (Judged (s .pre .table) (p .one .word) (p .two .word) (s .args .budget) (length (s .args .workspace .now))) (c .before .before .before .before .before .before .before .before .before .verdict .given .1) (z .ensures .judged (s .pre .table) (s .pre .of) (p .one .word) (p .two .word) (p .one .read) (p .two .read))) .ended) (l .last .1 .1 .1 .1 .1 .0) (length (z .last .1 .1 .1 .1 .1 .1 .1 .0) - s .args .n) (l .ensures .same-length ∙ (ap length (z .ensures .workspace ∙ ap (λ j. workspaceAfter (judgementAs j) (s .args .workspace .now)) (c .before .before .before .before .before .before .before .before .before .verdict .given .1)) ∙ length-replicate (length (s .args .workspace .now)) 0)) (l .ensures .loads (s .args .cells .now) (s .pre .table) (s .pre .of) (p .one .word) (p .two .word) (p .one .read) (p .two .read)) (length (s .args .answer .now)) (omega (arith, c .before .before .before .before .before .before .if1 .left, c .before .before .before .before .before .before .before .chain-bytes .ensures)))
@@ -111,7 +111,7 @@ returns-3 c =
     let s = c .before .before .before .before .before .before .before .before .before .before .before .before .before .before .before .before .before .before .before .before .before .before .before .before .before .before .before .before .before in
     let z = c .before .before .before .before .before .before .before .before .before .before .before .before .before .before .before .before .before .before .before .before .before .before .compare-programs in
     let p = s .pre .pair in
-    let l = c .before .before .before .before .before .before .before .before .before .before .before .before .before .load-pair in
+    let l = c .before .before .before .before .before .before .before .before .before .before .before .before .before .load-programs in
     let h = c .before .before .before .before .before .before .before .before .list in
     let w = c .before .before .wipe in
     let k = c .before .before .before .before .before .before .before .before .before .before .before .before .before .before .before .before .before .before .verdict .given .0 .0 in
@@ -139,7 +139,7 @@ chain-programs-spec =
     same-length-2
     returns-2
     sub-right
-    load-pair-requires
+    load-programs-requires
     list-requires
     wipe-requires
     same-length-3

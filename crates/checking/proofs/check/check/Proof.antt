@@ -3,18 +3,18 @@ use mathlib.Core.Path.{sym, ap, subst, _∙_}
 use lib.ListN.{length}
 use Rattle.model.specs.Areas.{workspaceAfter}
 use Rattle.images.specs.Chains.{ChainDone}
-use Rattle.loading.specs.Loading.{PairDone}
+use Rattle.loading.specs.Loading.{ProgramsDone}
 use Rattle.checking.proofs.CheckService.{check-refused, check-no-chain, check-runs, check-says}
 use Rattle.cells.proofs.Rules.{blank-zeros}
 use borrow.Author.Needs.{needs}
 use Rattle.checking.proofs.check.check.Statement.{statement}
 use Rattle.checking.proofs.check.check.Tie as tie
 
-slice-aggregate-read-pair : tie.Need-slice-aggregate-read-pair
-slice-aggregate-read-pair c = search needs
+slice-aggregate-read-programs : tie.Need-slice-aggregate-read-programs
+slice-aggregate-read-programs c = search needs
 
-read-pair-requires : tie.Need-read-pair-requires
-read-pair-requires c κs = blank-zeros
+read-programs-requires : tie.Need-read-programs-requires
+read-programs-requires c κs = blank-zeros
 
 enum-known-read : tie.Need-enum-known-read
 enum-known-read c = search needs
@@ -25,8 +25,8 @@ enum-known-read-2 c = search needs
 read-chain-requires : tie.Need-read-chain-requires
 read-chain-requires c κs =
     let a = c .before .before .before .before .before .before .before .before .before .before .before .args in
-    let v = c .before .before .before .before .read-pair in
-    let t = subst (PairDone (a .table .now) (a .first .now) (a .second .now) (v .last .1 .1 .1 .0)) (c .before .read2 .given .1) (v .ensures) in
+    let v = c .before .before .before .before .read-programs in
+    let t = subst (ProgramsDone (a .table .now) (a .first .now) (a .second .now) (v .last .1 .1 .1 .0)) (c .before .read2 .given .1) (v .ensures) in
     (t .forward .pair .some, t .forward .pair .few)
 
 enum-known-list : tie.Need-enum-known-list
@@ -41,8 +41,8 @@ slice-aggregate-check-programs c = search needs
 check-programs-requires : tie.Need-check-programs-requires
 check-programs-requires c κs =
     let a = c .before .before .before .before .before .before .before .before .before .before .before .before .before .before .before .before .before .args in
-    let v = c .before .before .before .before .before .before .before .before .before .before .read-pair in
-    let t = subst (PairDone (a .table .now) (a .first .now) (a .second .now) (v .last .1 .1 .1 .0)) (c .before .before .before .before .before .before .before .read2 .given .1) (v .ensures) in
+    let v = c .before .before .before .before .before .before .before .before .before .before .read-programs in
+    let t = subst (ProgramsDone (a .table .now) (a .first .now) (a .second .now) (v .last .1 .1 .1 .0)) (c .before .before .before .before .before .before .before .read2 .given .1) (v .ensures) in
     let size = c .before .before .before .before .before .before .before .read2 .given .0 .0 in
     let list = subst (ChainDone (a .entries .now) size) (c .before .before .before .list2 .given .1) (c .before .before .before .before .before .read-chain .ensures) in
     record { forward = t .forward; chain = list }
@@ -50,16 +50,16 @@ check-programs-requires c κs =
 returns : tie.Need-returns
 returns c =
     let a = c .before .before .before .before .before .before .before .before .before .before .before .args in
-    let v = c .before .before .before .before .read-pair in
-    let e = subst (PairDone (a .table .now) (a .first .now) (a .second .now) (v .last .1 .1 .1 .0)) (c .before .read .given .1) (v .ensures) in
+    let v = c .before .before .before .before .read-programs in
+    let e = subst (ProgramsDone (a .table .now) (a .first .now) (a .second .now) (v .last .1 .1 .1 .0)) (c .before .read .given .1) (v .ensures) in
     let o = check-refused (a .table .now) (a .first .now) (a .second .now) (a .entries .now) (length (a .workspace .now)) (c .before .read .given .0 .0) e in
     (o .stated, (o .workspace (a .workspace .now), check-says (a .table .now) (a .first .now) (a .second .now) (a .entries .now) (length (a .workspace .now)) _ (o .stated)))
 
 returns-2 : tie.Need-returns-2
 returns-2 c =
     let a = c .before .before .before .before .before .before .before .before .before .before .before .before .before .before .before .args in
-    let v = c .before .before .before .before .before .before .before .before .read-pair in
-    let t = subst (PairDone (a .table .now) (a .first .now) (a .second .now) (v .last .1 .1 .1 .0)) (c .before .before .before .before .before .read2 .given .1) (v .ensures) in
+    let v = c .before .before .before .before .before .before .before .before .read-programs in
+    let t = subst (ProgramsDone (a .table .now) (a .first .now) (a .second .now) (v .last .1 .1 .1 .0)) (c .before .before .before .before .before .read2 .given .1) (v .ensures) in
     let f = t .forward in
     let size = c .before .before .before .before .before .read2 .given .0 .0 in
     let e = subst (ChainDone (a .entries .now) size) (c .before .list .given .1) (c .before .before .before .read-chain .ensures) in
@@ -72,8 +72,8 @@ same-length c = search needs
 returns-3 : tie.Need-returns-3
 returns-3 c =
     let a = c .before .before .before .before .before .before .before .before .before .before .before .before .before .before .before .before .before .before .before .before .args in
-    let v = c .before .before .before .before .before .before .before .before .before .before .before .before .before .read-pair in
-    let t = subst (PairDone (a .table .now) (a .first .now) (a .second .now) (v .last .1 .1 .1 .0)) (c .before .before .before .before .before .before .before .before .before .before .read2 .given .1) (v .ensures) in
+    let v = c .before .before .before .before .before .before .before .before .before .before .before .before .before .read-programs in
+    let t = subst (ProgramsDone (a .table .now) (a .first .now) (a .second .now) (v .last .1 .1 .1 .0)) (c .before .before .before .before .before .before .before .before .before .before .read2 .given .1) (v .ensures) in
     let f = t .forward in
     let size = c .before .before .before .before .before .before .before .before .before .before .read2 .given .0 .0 in
     let list = subst (ChainDone (a .entries .now) size) (c .before .before .before .before .before .before .list2 .given .1) (c .before .before .before .before .before .before .before .before .read-chain .ensures) in
@@ -86,8 +86,8 @@ pub check-spec : {M : Type 1} → statement M
 check-spec =
     tie.close
     (tie.spec
-    slice-aggregate-read-pair
-    read-pair-requires
+    slice-aggregate-read-programs
+    read-programs-requires
     enum-known-read
     enum-known-read-2
     read-chain-requires

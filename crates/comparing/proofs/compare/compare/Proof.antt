@@ -3,18 +3,18 @@ use mathlib.Core.Path.{sym, ap, subst, _∙_}
 use lib.ListN.{length}
 use Rattle.model.specs.Areas.{workspaceAfter}
 use Rattle.model.specs.Stated.{compared}
-use Rattle.loading.specs.Loading.{PairDone}
+use Rattle.loading.specs.Loading.{ProgramsDone}
 use Rattle.comparing.proofs.Comparing.{compare-refused, compare-runs, compare-means, told-states}
 use Rattle.cells.proofs.Rules.{blank-zeros}
 use borrow.Author.Needs.{needs}
 use Rattle.comparing.proofs.compare.compare.Statement.{statement}
 use Rattle.comparing.proofs.compare.compare.Tie as tie
 
-slice-aggregate-read-pair : tie.Need-slice-aggregate-read-pair
-slice-aggregate-read-pair c = search needs
+slice-aggregate-read-programs : tie.Need-slice-aggregate-read-programs
+slice-aggregate-read-programs c = search needs
 
-read-pair-requires : tie.Need-read-pair-requires
-read-pair-requires c κs = blank-zeros
+read-programs-requires : tie.Need-read-programs-requires
+read-programs-requires c κs = blank-zeros
 
 enum-known-read : tie.Need-enum-known-read
 enum-known-read c = search needs
@@ -28,8 +28,8 @@ slice-aggregate-compare-programs c = search needs
 compare-programs-requires : tie.Need-compare-programs-requires
 compare-programs-requires c κs =
     let a = c .before .before .before .before .before .before .before .before .before .before .before .before .args in
-    let v = c .before .before .before .before .before .before .read-pair in
-    let t = subst (PairDone (a .table .now) (a .first .now) (a .second .now) (v .last .1 .1 .1 .0)) (c .before .before .before .read2 .given .1) (v .ensures) in
+    let v = c .before .before .before .before .before .before .read-programs in
+    let t = subst (ProgramsDone (a .table .now) (a .first .now) (a .second .now) (v .last .1 .1 .1 .0)) (c .before .before .before .read2 .given .1) (v .ensures) in
     t .forward
 
 told-requires : tie.Need-told-requires
@@ -38,8 +38,8 @@ told-requires c κs = search needs
 returns : tie.Need-returns
 returns c =
     let a = c .before .before .before .before .before .before .before .before .before .before .args in
-    let v = c .before .before .before .before .read-pair in
-    let e = subst (PairDone (a .table .now) (a .first .now) (a .second .now) (v .last .1 .1 .1 .0)) (c .before .read .given .1) (v .ensures) in
+    let v = c .before .before .before .before .read-programs in
+    let e = subst (ProgramsDone (a .table .now) (a .first .now) (a .second .now) (v .last .1 .1 .1 .0)) (c .before .read .given .1) (v .ensures) in
     let o = compare-refused (a .table .now) (a .first .now) (a .second .now) (a .allowance) (length (a .workspace .now)) (c .before .read .given .0 .0) e in
     (o .stated, (o .workspace (a .workspace .now), compare-means (a .table .now) (a .first .now) (a .second .now) (a .allowance) (length (a .workspace .now)) _ (o .stated)))
 
@@ -49,8 +49,8 @@ same-length c = search needs
 returns-2 : tie.Need-returns-2
 returns-2 c =
     let a = c .before .before .before .before .before .before .before .before .before .before .before .before .before .before .before .before .args in
-    let v = c .before .before .before .before .before .before .before .before .before .before .read-pair in
-    let t = subst (PairDone (a .table .now) (a .first .now) (a .second .now) (v .last .1 .1 .1 .0)) (c .before .before .before .before .before .before .before .read2 .given .1) (v .ensures) in
+    let v = c .before .before .before .before .before .before .before .before .before .before .read-programs in
+    let t = subst (ProgramsDone (a .table .now) (a .first .now) (a .second .now) (v .last .1 .1 .1 .0)) (c .before .before .before .before .before .before .before .read2 .given .1) (v .ensures) in
     let f = t .forward in
     let z = c .before .before .before .compare-programs in
     let j = z .ensures .judged (f .table) (f .of) (f .pair .one .word) (f .pair .two .word) (f .pair .one .read) (f .pair .two .read) in
@@ -62,8 +62,8 @@ pub compare-spec : {M : Type 1} → statement M
 compare-spec =
     tie.close
     (tie.spec
-    slice-aggregate-read-pair
-    read-pair-requires
+    slice-aggregate-read-programs
+    read-programs-requires
     enum-known-read
     enum-known-read-2
     slice-aggregate-compare-programs

@@ -41,8 +41,8 @@ returns c =
           c .if1 .taken (omega (arith, p .one .count-is, p .two .count-is, ap length fu, ap length fv)));
     }
 
-run-pair-requires : tie.Need-run-pair-requires
-run-pair-requires c κs = search needs
+run-programs-requires : tie.Need-run-programs-requires
+run-programs-requires c κs = search needs
 
 wipe-requires : tie.Need-wipe-requires
 wipe-requires c κs = search needs
@@ -73,7 +73,7 @@ returns-3 c =
     let z = c .before .before .before .before .before .before .before .before .before .before .before .before .before .before .clear-cells in
     let p = s .pre .pair in
     let w = c .before .before .before .wipe in
-    let x = c .before .before .before .before .before .before .before .run-pair in
+    let x = c .before .before .before .before .before .before .before .run-programs in
     let e = c .judge .ensures in
     let kept : length (z .last .1 .1 .1 .0) ≡ length (s .args .workspace .now) = ap length (z .ensures .1 ∙ ap (λ r. workspaceAfter (clearedAs r) (s .args .workspace .now)) (c .before .before .before .before .before .before .before .before .before .before .enum-told .given .1)) ∙ length-replicate (length (s .args .workspace .now)) 0 in
     record {
@@ -97,7 +97,7 @@ compare-programs-spec =
     enum-told
     same-length
     returns
-    run-pair-requires
+    run-programs-requires
     wipe-requires
     judge-requires
     same-length-2

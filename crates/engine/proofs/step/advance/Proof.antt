@@ -43,7 +43,7 @@ returns-2 c =
     let t = c .before .before .step in
     let found = subst (SeekDone (wordAt (s .args .bytes .now) (s .args .gap .left) (s .args .gap .right)) (k .last .0)) (c .before .before .before .before .before .sought2 .given .1) (k .ensures .1) in (
       t .ensures .0 ∙ k .ensures .0,
-      λ T v. subst (λ w. TurnDone T w (s .args .left) (t .last .1 .0) (t .result)) (found .word-kept) (t .ensures .1 T (record { stands = v .stands; lettered = rw (found .word-kept) (v .lettered) })),
+      λ T v. subst (λ w. TurnDone T w (s .args .remaining) (t .last .1 .0) (t .result)) (found .word-kept) (t .ensures .1 T (record { stands = v .stands; lettered = rw (found .word-kept) (v .lettered) })),
     )
 
 pub advance-spec : {M : Type 1} → statement M

@@ -10,7 +10,7 @@ use Rattle.model.specs.Enumeration.{concatMap}
 use Rattle.model.specs.Bits.{digits}
 use Rattle.model.specs.Images.{pairBits}
 use Rattle.bits.proofs.Width.{width-small}
-use Rattle.images.specs.Tables.{Listed}
+use Rattle.images.specs.Tables.{RowsHeld}
 use Rattle.images.specs.Bitwise.{AppendedTo}
 use Rattle.images.proofs.Plainly.{table-row, table-width, table-more, table-all}
 use Rattle.images.proofs.Packwise.{to-none, to-field, to-more}
@@ -23,7 +23,7 @@ Inv-loop cells size out₀ width next₀ a₀ out next a =
     × (a ≤ size + 1)
     × (length out ≡ length out₀)
     × (next + 1935 ≤ 4 + 1935 * a)
-    × ((rows : List (List Complement)) → Listed size cells rows → AppendedTo out₀ 4 (concatMap (concatMap (pairBits size)) (take (a - 1) rows)) out next)
+    × ((rows : List (List Complement)) → RowsHeld size cells rows → AppendedTo out₀ 4 (concatMap (concatMap (pairBits size)) (take (a - 1) rows)) out next)
 
 abbrev μ-loop : tie.MeasureT-loop
 μ-loop cells size out₀ width next₀ a₀ out next a = size + 1 - a

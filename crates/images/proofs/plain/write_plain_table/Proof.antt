@@ -7,7 +7,7 @@ use lib.ListN.{length, take, set, getD, length-set}
 use Rattle.model.specs.Presentation.{Complement}
 use Rattle.model.specs.Enumeration.{concatMap}
 use Rattle.model.specs.Plain.{plainPair}
-use Rattle.images.specs.Tables.{Listed}
+use Rattle.images.specs.Tables.{RowsHeld}
 use Rattle.images.specs.Bytewise.{Wrote}
 use Rattle.images.proofs.Plainly.{wrote-byte, wrote-none, wrote-more, table-row, table-width, table-more, table-all}
 use Rattle.images.proofs.plain.write_plain_table.Statement.{statement}
@@ -19,7 +19,7 @@ Inv-loop cells size out₀ next₀ a₀ out next a =
     × (a ≤ size + 1)
     × (length out ≡ length out₀)
     × (next + 480 ≤ 1 + 480 * a)
-    × ((rows : List (List Complement)) → Listed size cells rows → Wrote out₀ 1 (concatMap (concatMap plainPair) (take (a - 1) rows)) out next)
+    × ((rows : List (List Complement)) → RowsHeld size cells rows → Wrote out₀ 1 (concatMap (concatMap plainPair) (take (a - 1) rows)) out next)
 
 abbrev μ-loop : tie.MeasureT-loop
 μ-loop cells size out₀ next₀ a₀ out next a = size + 1 - a

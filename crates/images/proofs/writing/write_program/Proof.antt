@@ -9,9 +9,10 @@ use Rattle.model.specs.Word.{letter}
 use Rattle.model.specs.Bits.{digits}
 use Rattle.model.specs.Images.{signedBits}
 use Rattle.bits.proofs.Width.{width-small}
-use Rattle.images.specs.Written.{Appended}
+use Rattle.bits.specs.Fields.{Appended}
 use Rattle.images.proofs.Letters.{near}
-use Rattle.images.proofs.Appending.{appended-field, appended-none, appended-more, firstBits, first-length, first-more, first-none, first-all}
+use Rattle.images.proofs.Appending.{firstBits, first-length, first-more, first-none, first-all}
+use Rattle.bits.proofs.Appending.{appended-field, appended-none, appended-more}
 use Rattle.images.proofs.writing.write_program.Statement.{statement}
 use Rattle.images.proofs.writing.write_program.Tie as tie
 

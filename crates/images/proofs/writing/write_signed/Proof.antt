@@ -2,8 +2,9 @@
 use mathlib.Core.Path.{subst}
 use Prim.Native.Nat.{_+_}
 use native.Mathlib.Omega.{arith}
-use Rattle.images.specs.Written.{Appended}
-use Rattle.images.proofs.Appending.{appended-field, signed-fits, signed-written, named-positive}
+use Rattle.bits.specs.Fields.{Appended}
+use Rattle.images.proofs.Appending.{signed-fits, signed-written, named-positive}
+use Rattle.bits.proofs.Appending.{appended-field}
 use borrow.Author.Needs.{needs}
 use Rattle.images.proofs.writing.write_signed.Statement.{statement}
 use Rattle.images.proofs.writing.write_signed.Tie as tie

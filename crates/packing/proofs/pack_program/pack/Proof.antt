@@ -12,7 +12,8 @@ use Rattle.bits.proofs.Width.{width-small}
 use Rattle.bits.proofs.Packing.{length-packed}
 use Rattle.images.specs.Tables.{SizeDone, SizeOf}
 use Rattle.images.specs.Bytewise.{PlainDone, PlainProgram}
-use Rattle.images.specs.Written.{Appended, programBits}
+use Rattle.images.specs.Written.{programBits}
+use Rattle.bits.specs.Fields.{Appended}
 use Rattle.images.proofs.Letters.{near}
 use Rattle.images.proofs.Appending.{program-length, program-bits, program-image, image-written}
 use Rattle.packing.proofs.Packing.{refused-keeps, answered-writes, short-area, long-area, pack-table-refused, pack-program-refused, pack-read}
@@ -30,30 +31,30 @@ told c = c .before .before .before
 size-of : (c : tie.After-known-told2) → SizeOf (start c .args .table .now) (c .before .size .given .0 .0)
 size-of c = subst (SizeDone (start c .args .table .now)) (c .before .size .given .1) (c .before .before .before .table-size .ensures)
 
-plain-of : (c : tie.After-enum-told) → PlainProgram (start (told c) .args .program .now) (told c .before .size .given .0 .0)
-plain-of c = subst (PlainDone (start (told c) .args .program .now) (told c .before .size .given .0 .0)) (c .enum-told .given .1) (c .before .before .read-plain-program .ensures)
+plain-of : (c : tie.After-enum-told) → PlainProgram (start (told c) .args .plain .now) (told c .before .size .given .0 .0)
+plain-of c = subst (PlainDone (start (told c) .args .plain .now) (told c .before .size .given .0 .0)) (c .enum-told .given .1) (c .before .before .read-plain-program .ensures)
 
-bound : (c : tie.After-letter-width) → length (start (told (c .before)) .args .program .now) * (1 + c .letter-width .result) ≤ 20480
+bound : (c : tie.After-letter-width) → length (start (told (c .before)) .args .plain .now) * (1 + c .letter-width .result) ≤ 20480
 bound c =
-    near (length (start (told (c .before)) .args .program .now)) (c .letter-width .result) (omega (arith, plain-of (c .before) .named .short))
+    near (length (start (told (c .before)) .args .plain .now)) (c .letter-width .result) (omega (arith, plain-of (c .before) .named .short))
     (subst (λ n. n ≤ 4) (sym (c .letter-width .ensures)) (width-small (told (c .before) .before .size .given .0 .0)))
 
-bits-length : (c : tie.After-letter-width) → length (programBits (told (c .before) .before .size .given .0 .0) (start (told (c .before)) .args .program .now)) ≡ 12 + length (start (told (c .before)) .args .program .now) * (1 + c .letter-width .result)
-bits-length c = program-length (told (c .before) .before .size .given .0 .0) (c .letter-width .result) (c .letter-width .ensures) (start (told (c .before)) .args .program .now)
+bits-length : (c : tie.After-letter-width) → length (programBits (told (c .before) .before .size .given .0 .0) (start (told (c .before)) .args .plain .now)) ≡ 12 + length (start (told (c .before)) .args .plain .now) * (1 + c .letter-width .result)
+bits-length c = program-length (told (c .before) .before .size .given .0 .0) (c .letter-width .result) (c .letter-width .ensures) (start (told (c .before)) .args .plain .now)
 
-image-length : (c : tie.After-letter-width) → length (pack (programBits (told (c .before) .before .size .given .0 .0) (start (told (c .before)) .args .program .now))) ≡ bytesFor (12 + length (start (told (c .before)) .args .program .now) * (1 + c .letter-width .result))
+image-length : (c : tie.After-letter-width) → length (pack (programBits (told (c .before) .before .size .given .0 .0) (start (told (c .before)) .args .plain .now))) ≡ bytesFor (12 + length (start (told (c .before)) .args .plain .now) * (1 + c .letter-width .result))
 image-length c =
-    length-packed (bytesFor (length (programBits (told (c .before) .before .size .given .0 .0) (start (told (c .before)) .args .program .now)))) (programBits (told (c .before) .before .size .given .0 .0) (start (told (c .before)) .args .program .now))
+    length-packed (bytesFor (length (programBits (told (c .before) .before .size .given .0 .0) (start (told (c .before)) .args .plain .now)))) (programBits (told (c .before) .before .size .given .0 .0) (start (told (c .before)) .args .plain .now))
     ∙ ap bytesFor (bits-length c)
 
 image-of : (c : tie.After-letter-width)
-    → packProgram (start (told (c .before)) .args .table .now) (start (told (c .before)) .args .program .now) (length (start (told (c .before)) .args .area .now))
-    ≡ Rattle.model.specs.Services.fitted (length (start (told (c .before)) .args .area .now)) (pack (programBits (told (c .before) .before .size .given .0 .0) (start (told (c .before)) .args .program .now)))
+    → packProgram (start (told (c .before)) .args .table .now) (start (told (c .before)) .args .plain .now) (length (start (told (c .before)) .args .answer .now))
+    ≡ Rattle.model.specs.Services.fitted (length (start (told (c .before)) .args .answer .now)) (pack (programBits (told (c .before) .before .size .given .0 .0) (start (told (c .before)) .args .plain .now)))
 image-of c =
     let k = told (c .before) in
     let s = start k in
-    pack-read (s .args .table .now) (s .args .program .now) (length (s .args .area .now)) (size-of k .table) _ (size-of k .read) (size-of k .size-is) (map letter (s .args .program .now)) (plain-of (c .before) .read)
-    ∙ ap (Rattle.model.specs.Services.fitted (length (s .args .area .now))) (program-image (k .before .size .given .0 .0) (s .args .program .now))
+    pack-read (s .args .table .now) (s .args .plain .now) (length (s .args .answer .now)) (size-of k .table) _ (size-of k .read) (size-of k .size-is) (map letter (s .args .plain .now)) (plain-of (c .before) .read)
+    ∙ ap (Rattle.model.specs.Services.fitted (length (s .args .answer .now))) (program-image (k .before .size .given .0 .0) (s .args .plain .now))
 
 table-size-requires : tie.Need-table-size-requires
 table-size-requires c κs = search needs
@@ -96,14 +97,14 @@ returns c =
     let w = c .before in
     let k = told (w .before) in
     let s = start k in
-    refused-keeps (plainProgramUnder (s .args .table .now) (s .args .program .now)) (programUnder (s .args .table .now)) (packProgram (s .args .table .now) (s .args .program .now) (length (s .args .area .now))) (s .args .area .now) AnswerShort
-    (image-of w ∙ short-area (length (s .args .area .now)) (pack (programBits (k .before .size .given .0 .0) (s .args .program .now))) (omega (arith, c .if1 .taken, image-length w)))
+    refused-keeps (plainProgramUnder (s .args .table .now) (s .args .plain .now)) (programUnder (s .args .table .now)) (packProgram (s .args .table .now) (s .args .plain .now) (length (s .args .answer .now))) (s .args .answer .now) AnswerShort
+    (image-of w ∙ short-area (length (s .args .answer .now)) (pack (programBits (k .before .size .given .0 .0) (s .args .plain .now))) (omega (arith, c .if1 .taken, image-length w)))
 
-sub-area : tie.Need-sub-area
-sub-area c = search needs
+sub-answer : tie.Need-sub-answer
+sub-answer c = search needs
 
-slice-write-area : tie.Need-slice-write-area
-slice-write-area c = search needs
+slice-write-answer : tie.Need-slice-write-answer
+slice-write-answer c = search needs
 
 write-program-requires : tie.Need-write-program-requires
 write-program-requires c κs =
@@ -116,23 +117,23 @@ write-program-requires c κs =
       record {
         room =
             simp length-set
-            (subst (λ n. 12 + length (s .args .program .now) * (1 + n) ≤ 8 * length (s .args .area .now)) (w .letter-width .ensures) (omega (arith, c .before .if1 .left)));
+            (subst (λ n. 12 + length (s .args .plain .now) * (1 + n) ≤ 8 * length (s .args .answer .now)) (w .letter-width .ensures) (omega (arith, c .before .if1 .left)));
       },
     )
 
 returns-2 : tie.Need-returns-2
 returns-2 c =
     let s = c .before .before .before .before .before .before .before in
-    refused-keeps (plainProgramUnder (s .args .table .now) (s .args .program .now)) (programUnder (s .args .table .now)) (packProgram (s .args .table .now) (s .args .program .now) (length (s .args .area .now))) (s .args .area .now) (c .before .refusal .given .0 .0)
-    (pack-table-refused (s .args .table .now) (s .args .program .now) (length (s .args .area .now)) (c .before .refusal .given .0 .0) (subst (SizeDone (s .args .table .now)) (c .before .refusal .given .1) (c .before .before .before .table-size .ensures)))
+    refused-keeps (plainProgramUnder (s .args .table .now) (s .args .plain .now)) (programUnder (s .args .table .now)) (packProgram (s .args .table .now) (s .args .plain .now) (length (s .args .answer .now))) (s .args .answer .now) (c .before .refusal .given .0 .0)
+    (pack-table-refused (s .args .table .now) (s .args .plain .now) (length (s .args .answer .now)) (c .before .refusal .given .0 .0) (subst (SizeDone (s .args .table .now)) (c .before .refusal .given .1) (c .before .before .before .table-size .ensures)))
 
 returns-3 : tie.Need-returns-3
 returns-3 c =
     let k = c .before .before .before .before in
     let s = start k in
-    refused-keeps (plainProgramUnder (s .args .table .now) (s .args .program .now)) (programUnder (s .args .table .now)) (packProgram (s .args .table .now) (s .args .program .now) (length (s .args .area .now))) (s .args .area .now) (c .before .refusal2 .given .0 .0)
-    (pack-program-refused (s .args .table .now) (s .args .program .now) (length (s .args .area .now)) (size-of k .table) _ (size-of k .read) (size-of k .size-is) (c .before .refusal2 .given .0 .0)
-    (subst (PlainDone (s .args .program .now) (k .before .size .given .0 .0)) (c .before .refusal2 .given .1) (c .before .before .before .read-plain-program .ensures)))
+    refused-keeps (plainProgramUnder (s .args .table .now) (s .args .plain .now)) (programUnder (s .args .table .now)) (packProgram (s .args .table .now) (s .args .plain .now) (length (s .args .answer .now))) (s .args .answer .now) (c .before .refusal2 .given .0 .0)
+    (pack-program-refused (s .args .table .now) (s .args .plain .now) (length (s .args .answer .now)) (size-of k .table) _ (size-of k .read) (size-of k .size-is) (c .before .refusal2 .given .0 .0)
+    (subst (PlainDone (s .args .plain .now) (k .before .size .given .0 .0)) (c .before .refusal2 .given .1) (c .before .before .before .read-plain-program .ensures)))
 
 same-length : tie.Need-same-length
 same-length c =
@@ -145,17 +146,17 @@ returns-4 c =
     let w = v .before .before .before in
     let k = told (w .before) in
     let s = start k in
-    let bits = programBits (k .before .size .given .0 .0) (s .args .program .now) in
+    let bits = programBits (k .before .size .given .0 .0) (s .args .plain .now) in
     let n = bits-length w in
-    answered-writes (plainProgramUnder (s .args .table .now) (s .args .program .now)) (programUnder (s .args .table .now)) (packProgram (s .args .table .now) (s .args .program .now) (length (s .args .area .now))) (s .args .area .now) (pack bits) (v .write-program .last .1 .1 .0) _
-    (image-of w ∙ long-area (length (s .args .area .now)) (pack bits) (omega (arith, v .before .before .if1 .left, image-length w)))
+    answered-writes (plainProgramUnder (s .args .table .now) (s .args .plain .now)) (programUnder (s .args .table .now)) (packProgram (s .args .table .now) (s .args .plain .now) (length (s .args .answer .now))) (s .args .answer .now) (pack bits) (v .write-program .last .1 .1 .0) _
+    (image-of w ∙ long-area (length (s .args .answer .now)) (pack bits) (omega (arith, v .before .before .if1 .left, image-length w)))
     (image-length w)
-    (image-written (s .args .area .now) (v .write-program .last .1 .1 .0) bits (λ i. k .before .before .before .before .slice-known .given i .fits) (λ i. c .slice-known2 .given i .fits) (program-bits (k .before .size .given .0 .0) (s .args .program .now))
+    (image-written (s .args .answer .now) (v .write-program .last .1 .1 .0) bits (λ i. k .before .before .before .before .slice-known .given i .fits) (λ i. c .slice-known2 .given i .fits) (program-bits (k .before .size .given .0 .0) (s .args .plain .now))
     (omega arith) (omega (arith, v .before .before .if1 .left))
-    (subst (λ m. Appended (set (s .args .area .now) (bytesFor m - 1) 0) 0 bits (v .write-program .last .1 .1 .0)) (sym n) (v .write-program .ensures)))
-    (ap (programUnder (s .args .table .now)) (sym (program-image (k .before .size .given .0 .0) (s .args .program .now)))
-    ∙ program-back (s .args .table .now) (size-of k .table) _ (size-of k .read) (size-of k .size-is) (s .args .program .now)
-    (λ i. k .before .before .before .before .before .shared-slice-known2 .given i .fits) (map letter (s .args .program .now)) (plain-of (w .before) .read))
+    (subst (λ m. Appended (set (s .args .answer .now) (bytesFor m - 1) 0) 0 bits (v .write-program .last .1 .1 .0)) (sym n) (v .write-program .ensures)))
+    (ap (programUnder (s .args .table .now)) (sym (program-image (k .before .size .given .0 .0) (s .args .plain .now)))
+    ∙ program-back (s .args .table .now) (size-of k .table) _ (size-of k .read) (size-of k .size-is) (s .args .plain .now)
+    (λ i. k .before .before .before .before .before .shared-slice-known2 .given i .fits) (map letter (s .args .plain .now)) (plain-of (w .before) .read))
 
 pub pack-spec : {M : Type 1} → statement M
 pack-spec =
@@ -174,8 +175,8 @@ pack-spec =
     add-bytes-2
     add-bytes-3
     returns
-    sub-area
-    slice-write-area
+    sub-answer
+    slice-write-answer
     write-program-requires
     returns-2
     returns-3

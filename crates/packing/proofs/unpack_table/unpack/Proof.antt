@@ -69,8 +69,8 @@ returns c =
     let k = v .before .before .before in
     let s = start k in
     let t = table-of k in
-    refused-keeps (readTable (s .args .table .now)) readPlainTable (unpackTable (s .args .table .now) (length (s .args .area .now))) (s .args .area .now) AnswerShort
-    (table-read (s .args .table .now) (length (s .args .area .now)) (t .table) (t .read) ∙ short-area (length (s .args .area .now)) (plainTable (t .table)) (omega (arith, c .if1 .taken, bytes-length v)))
+    refused-keeps (readTable (s .args .table .now)) readPlainTable (unpackTable (s .args .table .now) (length (s .args .answer .now))) (s .args .answer .now) AnswerShort
+    (table-read (s .args .table .now) (length (s .args .answer .now)) (t .table) (t .read) ∙ short-area (length (s .args .answer .now)) (plainTable (t .table)) (omega (arith, c .if1 .taken, bytes-length v)))
 
 slice-aggregate-copy-bytes : tie.Need-slice-aggregate-copy-bytes
 slice-aggregate-copy-bytes c = search needs
@@ -82,8 +82,8 @@ returns-2 : tie.Need-returns-2
 returns-2 c =
     let s = c .before .before .before .before .before .before .before .before in
     let r = c .before .before .before .before in
-    refused-keeps (readTable (s .args .table .now)) readPlainTable (unpackTable (s .args .table .now) (length (s .args .area .now))) (s .args .area .now) (c .before .refusal .given .0 .0)
-    (table-refused (s .args .table .now) (length (s .args .area .now)) (c .before .refusal .given .0 .0) (subst (TableDone (s .args .table .now) (r .read-table .last .1 .0)) (c .before .refusal .given .1) (r .read-table .ensures .1)))
+    refused-keeps (readTable (s .args .table .now)) readPlainTable (unpackTable (s .args .table .now) (length (s .args .answer .now))) (s .args .answer .now) (c .before .refusal .given .0 .0)
+    (table-refused (s .args .table .now) (length (s .args .answer .now)) (c .before .refusal .given .0 .0) (subst (TableDone (s .args .table .now) (r .read-table .last .1 .0)) (c .before .refusal .given .1) (r .read-table .ensures .1)))
 
 same-length : tie.Need-same-length
 same-length c = search needs
@@ -96,12 +96,12 @@ returns-3 c =
     let k = v .before .before .before in
     let s = start k in
     let t = table-of k in
-    answered-writes (readTable (s .args .table .now)) readPlainTable (unpackTable (s .args .table .now) (length (s .args .area .now))) (s .args .area .now) (plainTable (t .table)) (u .copy-bytes .last .1 .1 .0) _
-    (table-read (s .args .table .now) (length (s .args .area .now)) (t .table) (t .read) ∙ long-area (length (s .args .area .now)) (plainTable (t .table)) (omega (arith, e .if1 .left, bytes-length v)))
+    answered-writes (readTable (s .args .table .now)) readPlainTable (unpackTable (s .args .table .now) (length (s .args .answer .now))) (s .args .answer .now) (plainTable (t .table)) (u .copy-bytes .last .1 .1 .0) _
+    (table-read (s .args .table .now) (length (s .args .answer .now)) (t .table) (t .read) ∙ long-area (length (s .args .answer .now)) (plainTable (t .table)) (omega (arith, e .if1 .left, bytes-length v)))
     (bytes-length v)
     (u .copy-bytes .ensures .1
-    ∙ (ap (λ l. l ++ drop (v .write-plain-table .result) (s .args .area .now)) (bytes-taken v)
-    ∙ ap (λ n. plainTable (t .table) ++ drop n (s .args .area .now)) (sym (bytes-length v))))
+    ∙ (ap (λ l. l ++ drop (v .write-plain-table .result) (s .args .answer .now)) (bytes-taken v)
+    ∙ ap (λ n. plainTable (t .table) ++ drop n (s .args .answer .now)) (sym (bytes-length v))))
     (plain-table-back (s .args .table .now) (t .table) (t .read))
 
 pub unpack-spec : {M : Type 1} → statement M

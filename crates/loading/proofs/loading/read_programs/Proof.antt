@@ -1,11 +1,11 @@
--- `loading::loading::read_pair` meets its contract.
+-- `loading::loading::read_programs` meets its contract.
 use mathlib.Core.Path.{subst}
 use Rattle.images.specs.Programs.{ForwardDone}
 use Rattle.images.specs.Tables.{TableDone}
-use Rattle.loading.proofs.Reading.{loaded-size, no-table, no-first, no-second, pair-loaded}
+use Rattle.loading.proofs.Reading.{loaded-size, no-table, no-first, no-second, programs-loaded}
 use borrow.Author.Needs.{needs}
-use Rattle.loading.proofs.loading.read_pair.Statement.{statement}
-use Rattle.loading.proofs.loading.read_pair.Tie as tie
+use Rattle.loading.proofs.loading.read_programs.Statement.{statement}
+use Rattle.loading.proofs.loading.read_programs.Tie as tie
 
 read-table-requires : tie.Need-read-table-requires
 read-table-requires c κs = search needs
@@ -88,10 +88,10 @@ returns-4 c =
     let t = subst (TableDone (a .table .now) (v .last .1 .0)) (c .before .before .before .before .before .before .before .before .before .read2 .given .1) (v .ensures .1) in
     let one = subst (ForwardDone (a .first .now) size) (c .before .before .before .before .before .one2 .given .1) (c .before .before .before .before .before .before .before .read-forward .ensures) in
     let two = subst (ForwardDone (a .second .now) size) (c .before .two2 .given .1) (c .before .before .before .read-forward2 .ensures) in
-    pair-loaded (a .table .now) (a .first .now) (a .second .now) t one two
+    programs-loaded (a .table .now) (a .first .now) (a .second .now) t one two
 
-pub read-pair-spec : {M : Type 1} → statement M
-read-pair-spec =
+pub read-programs-spec : {M : Type 1} → statement M
+read-programs-spec =
     tie.close
     (tie.spec
     read-table-requires

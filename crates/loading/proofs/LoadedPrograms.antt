@@ -13,7 +13,8 @@ use Rattle.model.specs.Plain.{plainProgram}
 use Rattle.model.specs.declared.answers.Ending.the-variants.{Stopped}
 use Rattle.model.specs.declared.answers.Stop.the-variants.{Room}
 use Rattle.model.specs.Range.{ProgramInRange, Lettered}
-use Rattle.images.specs.Programs.{written, ForwardOf}
+use Rattle.images.specs.Programs.{ForwardOf}
+use Rattle.model.specs.Areas.{written}
 use Rattle.images.proofs.RoundTrip.{program-in-range}
 use Rattle.engine.specs.Gap.{letters}
 use Rattle.cells.specs.Stands.{Of}
@@ -21,7 +22,7 @@ use Rattle.engine.specs.Run.{Reverses}
 use Rattle.engine.proofs.Lettering.{length-positive, length-negative}
 use Rattle.engine.proofs.Loads.{loaded, load-searched, load-serves}
 use Rattle.engine.specs.Words.{Inverted}
-use Rattle.loading.specs.Pairs.{LoadedPair}
+use Rattle.loading.specs.Comparison.{LoadedPrograms}
 use Rattle.loading.proofs.Programs.{byte-letters, written-end, too-long}
 
 module _ (cells : List ℕ) (size : ℕ) (T : Presentation) (o : Of cells size T) (u v : Positive) (pu : ProgramInRange size (positive u)) (pv : ProgramInRange size (positive v))
@@ -72,8 +73,8 @@ module _ (cells : List ℕ) (size : ℕ) (T : Presentation) (o : Of cells size T
   named : (w : Positive) → ProgramInRange size (positive w) → Lettered (T .size) (positive w)
   named w p = subst (λ k. Lettered k (positive w)) (sym (o .sized)) (p .letters)
 
-  pub pair-loaded : LoadedPair cells T u v both m (length start - n)
-  pair-loaded =
+  pub programs-loaded : LoadedPrograms cells T u v both m (length start - n)
+  programs-loaded =
       record {
         word = loaded both m (length start - n) u v (omega (arith, fit)) (omega (arith, both-length)) left-word right-word;
         searched = load-searched both m (length start - n) u v (omega (arith, fit)) (omega (arith, both-length)) left-word right-word;
@@ -88,18 +89,18 @@ pair-too-long T u v steps area h =
     too-long T (negative u ++ positive v) steps area
     (simp (length-append, length-negative, length-positive) h)
 
--- from what the three writes of `load_pair` promise
+-- from what the three writes of `load_programs` promise
 pub loads-pair : (cells : List ℕ) (size : ℕ) (T : Presentation) → Of cells size T → (u v : Positive) (first second : List ℕ) (m n : ℕ) → size ≤ 16
     → (one : ForwardOf first size m) (two : ForwardOf second size n) → one .word ≡ u → two .word ≡ v
     → (start unpacked turned last : List ℕ) → m + n ≤ length start
     → ((w : Word) → readProgram size first ≡ answered w → unpacked ≡ written start 0 (plainProgram w)) → Inverted unpacked m turned
     → ((w : Word) → readProgram size second ≡ answered w → last ≡ written turned (length start - n) (plainProgram w))
-    → LoadedPair cells T u v last m (length start - n)
+    → LoadedPrograms cells T u v last m (length start - n)
 loads-pair cells size T o u v first second m n few one two eu ev start unpacked turned last fit w₁ i w₂ =
     let ru : readProgram size first ≡ answered (positive u) = one .read-signed ∙ ap (λ x. answered (positive x)) eu in
     let rv : readProgram size second ≡ answered (positive v) = two .read-signed ∙ ap (λ x. answered (positive x)) ev in
     let pu = program-in-range size few first (positive u) ru in
     let pv = program-in-range size few second (positive v) rv in
     let i′ = subst (λ l. Inverted l m turned) (w₁ (positive u) ru) i in
-    subst (λ l. LoadedPair cells T u v l m (length start - n)) (sym (w₂ (positive v) rv))
-    (pair-loaded cells size T o u v pu pv start turned m n (ap length (sym eu) ∙ one .count-is) (ap length (sym ev) ∙ two .count-is) fit i′)
+    subst (λ l. LoadedPrograms cells T u v l m (length start - n)) (sym (w₂ (positive v) rv))
+    (programs-loaded cells size T o u v pu pv start turned m n (ap length (sym eu) ∙ one .count-is) (ap length (sym ev) ∙ two .count-is) fit i′)

@@ -1,12 +1,12 @@
--- `loading::pairs::load_pair` meets its contract.
+-- `loading::comparison::load_programs` meets its contract.
 use mathlib.Core.Path.{_≡_, _∙_}
 use native.Mathlib.Omega.{arith}
 use Rattle.model.specs.Word.{positive}
 use Rattle.engine.proofs.Lettering.{length-positive}
-use Rattle.loading.proofs.LoadedPairs.{loads-pair}
+use Rattle.loading.proofs.LoadedPrograms.{loads-pair}
 use borrow.Author.Needs.{needs}
-use Rattle.loading.proofs.pairs.load_pair.Statement.{statement}
-use Rattle.loading.proofs.pairs.load_pair.Tie as tie
+use Rattle.loading.proofs.comparison.load_programs.Statement.{statement}
+use Rattle.loading.proofs.comparison.load_programs.Tie as tie
 
 sub-right : tie.Need-sub-right
 sub-right c = search needs
@@ -38,8 +38,8 @@ returns c =
           (s .args .workspace .now) (a .last .1 .1 .1 .0) (i .last .0) (b .last .1 .1 .1 .0) (s .pre .1) (a .ensures .1) (i .ensures) (b .ensures .1);
     }
 
-pub load-pair-spec : {M : Type 1} → statement M
-load-pair-spec =
+pub load-programs-spec : {M : Type 1} → statement M
+load-programs-spec =
     tie.close
     (tie.spec
     sub-right

@@ -13,7 +13,7 @@ use Rattle.cells.specs.Stands.{Serves, Of}
 use Rattle.engine.specs.Run.{Reverses}
 
 -- the inverse of the first word and the second word stand in the workspace
-pub record LoadedPair (cells : List ℕ) (T : Presentation) (u v : Positive) (bytes : List ℕ) (left right : ℕ) : Type 0 where
+pub record LoadedPrograms (cells : List ℕ) (T : Presentation) (u v : Positive) (bytes : List ℕ) (left right : ℕ) : Type 0 where
   pub word : wordAt bytes left right ≡ negative u ++ positive v
   pub searched : Searched bytes left right
   pub serves : Serves cells (wordAt bytes left right) T
@@ -21,10 +21,10 @@ pub record LoadedPair (cells : List ℕ) (T : Presentation) (u v : Positive) (by
 pub record Loads (size : ℕ) (first : List ℕ) (first-count : ℕ) (second : List ℕ) (second-count : ℕ) (before after : List ℕ) : Type 0 where
   pub same-length : length after ≡ length before
   pub loads : (cells : List ℕ) (T : Presentation) → Of cells size T → (u v : Positive) → readForward size first ≡ answered u → readForward size second ≡ answered v
-      → LoadedPair cells T u v after first-count (length before - second-count)
+      → LoadedPrograms cells T u v after first-count (length before - second-count)
 
 -- their reversing
-abbrev pub PairReverses : List ℕ → ℕ → List ℕ → List ℕ → ℕ → List ℕ → Ending → Type 0
-PairReverses cells size first second budget workspace r =
+abbrev pub ProgramsReverse : List ℕ → ℕ → List ℕ → List ℕ → ℕ → List ℕ → Ending → Type 0
+ProgramsReverse cells size first second budget workspace r =
     (T : Presentation) → Of cells size T → (u v : Positive) → readForward size first ≡ answered u → readForward size second ≡ answered v
     → Reverses T (negative u ++ positive v) budget workspace r

@@ -1,12 +1,12 @@
--- `loading::pairs::run_pair` meets its contract.
+-- `loading::comparison::run_programs` meets its contract.
 use mathlib.Core.Path.{_≡_, refl, ap, subst, _∙_}
 use native.Mathlib.Omega.{arith}
 use lib.ListN.{length}
 use Rattle.engine.specs.Run.{Reverses}
-use Rattle.loading.proofs.LoadedPairs.{pair-too-long}
+use Rattle.loading.proofs.LoadedPrograms.{pair-too-long}
 use borrow.Author.Needs.{needs}
-use Rattle.loading.proofs.pairs.run_pair.Statement.{statement}
-use Rattle.loading.proofs.pairs.run_pair.Tie as tie
+use Rattle.loading.proofs.comparison.run_programs.Statement.{statement}
+use Rattle.loading.proofs.comparison.run_programs.Tie as tie
 
 add-if1 : tie.Need-add-if1
 add-if1 c = search needs
@@ -23,13 +23,13 @@ returns c =
 sub-right : tie.Need-sub-right
 sub-right c = search needs
 
-load-pair-requires : tie.Need-load-pair-requires
-load-pair-requires c κs = search needs
+load-programs-requires : tie.Need-load-programs-requires
+load-programs-requires c κs = search needs
 
 reversing-requires : tie.Need-reversing-requires
 reversing-requires c κs =
     let s = c .before .before .before .before .before .before .before .before .before .before in
-    let l = c .before .before .before .load-pair .ensures in
+    let l = c .before .before .before .load-programs .ensures in
     let p = s .pre .pair in
     let d = l .loads (s .args .cells .now) (s .pre .table) (s .pre .of) (p .one .word) (p .two .word) (p .one .read) (p .two .read) in
     (d .searched, (s .pre .table, d .serves))
@@ -40,7 +40,7 @@ same-length c = search needs
 returns-2 : tie.Need-returns-2
 returns-2 c =
     let s = c .before .before .before .before .before .before .before .before .before .before .before .before .before in
-    let l = c .before .before .before .before .before .before .load-pair .ensures in
+    let l = c .before .before .before .before .before .before .load-programs .ensures in
     let v = c .before .before .reversing in (
       v .ensures .0 ∙ l .same-length,
       λ T o x y ex ey.
@@ -48,14 +48,14 @@ returns-2 c =
           subst (λ w. Reverses T w (s .args .budget) (v .last .1 .0) (v .result)) (d .word) (v .ensures .1 T (d .serves)),
     )
 
-pub run-pair-spec : {M : Type 1} → statement M
-run-pair-spec =
+pub run-programs-spec : {M : Type 1} → statement M
+run-programs-spec =
     tie.close
     (tie.spec
     add-if1
     returns
     sub-right
-    load-pair-requires
+    load-programs-requires
     reversing-requires
     same-length
     returns-2)

@@ -2,8 +2,8 @@
 ghost use mathlib.Core.Path.{_≡_};
 ghost use Prim.Native.Nat.{_+_, _≤_};
 ghost use lib.ListN.{length};
-ghost use Rattle.loading.specs.Loading.{Pair, Forward};
-ghost use Rattle.loading.specs.Pairs.{Loads, PairReverses};
+ghost use Rattle.loading.specs.Loading.{TwoForward, Forward};
+ghost use Rattle.loading.specs.Comparison.{Loads, ProgramsReverse};
 use engine::gap::Gap;
 use engine::run::reversing;
 use engine::words::invert;
@@ -12,8 +12,8 @@ use model::answers::Ending;
 use model::answers::Stop;
 
 // The inverse of the first program, of m letters, at the workspace's start, and the second, of n letters, at its end.
-pub fn load_pair(size: u8, first: &[u8], m: u16, second: &[u8], n: u16, workspace: &mut [u8])
-    requires pair { ⌜ Pair size (now first) m (now second) n ⌝ }
+pub fn load_programs(size: u8, first: &[u8], m: u16, second: &[u8], n: u16, workspace: &mut [u8])
+    requires pair { ⌜ TwoForward size (now first) m (now second) n ⌝ }
     requires room { ⌜ m + n ≤ length (now workspace) ⌝ }
     ensures { λ r. ⌜ Loads size (now (first .entry)) m (now (second .entry)) n (now (workspace .entry)) (now (workspace .exit)) ⌝ }
 {
@@ -25,7 +25,7 @@ pub fn load_pair(size: u8, first: &[u8], m: u16, second: &[u8], n: u16, workspac
 }
 
 // Reverses the first program's inverse, then the second program.
-pub fn run_pair(
+pub fn run_programs(
     cells: &[u8],
     size: u8,
     first: &[u8],
@@ -37,7 +37,7 @@ pub fn run_pair(
 ) -> Ending
     requires { ⌜ Forward (now cells) size (now first) m (now second) n ⌝ }
     ensures length { λ r. ⌜ length (now (workspace .exit)) ≡ length (now (workspace .entry)) ⌝ }
-    ensures runs { λ r. ⌜ PairReverses (now (cells .entry)) size (now (first .entry)) (now (second .entry)) budget (now (workspace .exit)) r ⌝ }
+    ensures runs { λ r. ⌜ ProgramsReverse (now (cells .entry)) size (now (first .entry)) (now (second .entry)) budget (now (workspace .exit)) r ⌝ }
 {
     let end = workspace.len();
     let left = m as usize;
@@ -46,6 +46,6 @@ pub fn run_pair(
         return Ending::Stopped(Stop::Room);
     }
     let right = end - count;
-    load_pair(size, first, m, second, n, workspace);
+    load_programs(size, first, m, second, n, workspace);
     reversing(cells, workspace, Gap { left, right }, budget)
 }
