@@ -2,6 +2,10 @@
 use Prim.Native.Nat.{ℕ, _+_, _-_, _*_}
 use Rattle.model.specs.Range.{InRange}
 
+-- how many bytes all cells have
+abbrev pub cellBytes : ℕ
+cellBytes = 4096
+
 -- two letters that a table can have
 abbrev pub Letters : ℕ → ℕ → Type 0
 Letters a b = InRange 16 a × InRange 16 b

@@ -6,7 +6,7 @@ use lib.ListN.{length, getD}
 use Rattle.model.specs.Word.{Word, Positive}
 use Rattle.model.specs.Presentation.{Presentation, Complement, undefined, complement, complete}
 use Rattle.model.specs.Range.{InRange, Lettered, WordInRange}
-use Rattle.cells.specs.Layout.{cellAt}
+use Rattle.cells.specs.Layout.{cellBytes, cellAt}
 
 -- the cell that begins at a place holds a word, whose letters are among `size`
 pub record HoldsWord (size : ℕ) (cells : List ℕ) (cell : ℕ) (x : Positive) : Type 0 where
@@ -14,14 +14,18 @@ pub record HoldsWord (size : ℕ) (cells : List ℕ) (cell : ℕ) (x : Positive)
   pub letters : (k : ℕ) → k < length x → getD cells (cell + 1 + k) 0 ≡ getD x k 0
   pub in-range : WordInRange size x
 
+-- what stands for a length in the cell of an undefined pair
+abbrev pub undefinedLength : ℕ
+undefinedLength = 255
+
 -- .. the first word of a pair
 abbrev pub HoldsFirst : ℕ → List ℕ → ℕ → Complement → Type 0
-HoldsFirst size cells cell undefined = getD cells cell 0 ≡ 255
+HoldsFirst size cells cell undefined = getD cells cell 0 ≡ undefinedLength
 HoldsFirst size cells cell (complement x y) = HoldsWord size cells cell x
 
 -- the cells stand for a presentation: each cell is `complete`, also that of a letter with itself
 pub record Stands (cells : List ℕ) (T : Presentation) : Type 0 where
-  pub full : length cells ≡ 4096
+  pub full : length cells ≡ cellBytes
   pub some : 1 ≤ T .size
   pub few : T .size ≤ 16
   pub cell : (a b : ℕ) → InRange (T .size) a → InRange (T .size) b → HoldsFirst (T .size) cells (cellAt a b) (complete T a b)
@@ -44,5 +48,5 @@ Ready cells word = (T : Presentation) × Serves cells word T
 
 -- cells that a table can be read into: C(a,a) is empty, and a reader writes no cell of a letter with itself
 pub record Blank (cells : List ℕ) : Type 0 where
-  pub full : length cells ≡ 4096
+  pub full : length cells ≡ cellBytes
   pub diagonal : (a : ℕ) → InRange 16 a → getD cells (cellAt a a) 0 ≡ 0

@@ -1,6 +1,14 @@
 ghost use mathlib.Core.Path.{_≡_};
 ghost use Rattle.cells.specs.Layout.{Letters, cellAt};
 
+// The bytes of all cells.
+pub const CELLS: usize = 4096;
+
+// What stands for the length of C(a,b) in the cell of an undefined pair, as a byte and as a length.
+pub const UNDEFINED: u8 = 255;
+
+pub const UNDEFINED_LENGTH: usize = 255;
+
 // Where the cell of a pair begins.
 pub fn cell_at(a: u8, b: u8) -> usize
     requires { ⌜ Letters a b ⌝ }

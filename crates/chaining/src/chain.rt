@@ -8,6 +8,7 @@ ghost use Rattle.loading.specs.Loading.{Forward};
 ghost use Rattle.comparing.specs.Compare.{Meaning};
 ghost use Rattle.chaining.specs.Chain.{Lists, ListedChecks};
 use areas::bytes::wipe;
+use cells::layout::CELLS;
 use chains::listing::list;
 use comparing::compare::Judgement;
 use comparing::compare::compare_programs;
@@ -71,7 +72,7 @@ pub fn chain(
     ensures checks { λ r. ⌜ ListedChecks (now (table .entry)) (now (first .entry)) (now (second .entry)) (now (answer .entry)) (now (answer .exit)) (compared r) ⌝ }
     ensures meaning { λ r. ⌜ Meaning (now (table .entry)) (now (first .entry)) (now (second .entry)) allowance (length (now (workspace .entry))) (λ T v. listable (T .size) (length (now (answer .entry))) v) (compared r) ⌝ }
 {
-    let mut cells = [0u8; 4096];
+    let mut cells = [0u8; CELLS];
     let read = read_programs(table, first, second, &mut cells);
     match read {
         ProgramsRead::Refused(refusal) => Compared::Refused(refusal),

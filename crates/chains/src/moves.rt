@@ -8,6 +8,7 @@ use engine::step::push_inverse;
 use entries::entry::ChainEntry;
 use entries::entry::read_entry;
 use entries::entry::write_entry;
+use model::plain::BACK;
 
 // How far a listing has come. The bytes before `left` are the inverse of the first word's rest, those from `right` on the letters left of
 // the second; `passed` letters stand before the rest in the word that the `emitted` entries have led to, and `stacked` faces are not done.
@@ -33,7 +34,7 @@ pub fn meet(
     ensures { λ r. ⌜ Moves (now (cells .entry)) size total (b ∷ []) (now (bytes .entry)) (now (answer .entry)) at (now (bytes .entry)) (now (answer .exit)) r ⌝ }
 {
     let left = at.left - 1;
-    let a = bytes[left] - 128;
+    let a = bytes[left] - BACK;
     let passed = at.passed + 1;
     if a == b {
         return Progress {
@@ -75,18 +76,14 @@ pub fn emit(
     let from = cell_at(b, a);
     let x = cells[to] as usize;
     let y = cells[from] as usize;
-    let offset = at.passed - x - 1;
-    let passed = offset + 1;
+    let start = at.passed - x - 1;
+    let passed = start + 1;
     let left = at.left + y;
     let index = at.emitted;
     let emitted = index + 1;
     let stacked = at.stacked - 1;
-    let place = offset as u16;
-    let entry = ChainEntry {
-        offset: place,
-        a,
-        b,
-    };
+    let offset = start as u16;
+    let entry = ChainEntry { offset, a, b };
     write_entry(answer, size, index, entry);
     push_inverse(bytes, left, cells, from);
     Progress {

@@ -6,6 +6,7 @@ ghost use Rattle.model.specs.Areas.{workspaceAfter};
 ghost use Rattle.model.specs.Stated.{checked};
 ghost use Rattle.checking.specs.Check.{ForwardChain, PassageMeans, Checks, CheckMeaning};
 use areas::bytes::wipe;
+use cells::layout::CELLS;
 use engine::gap::Gap;
 use images::chains::ChainRead;
 use images::chains::read_chain;
@@ -97,7 +98,7 @@ pub fn check(
     ensures workspace { λ r. ⌜ now (workspace .exit) ≡ workspaceAfter (check (now (table .entry)) (now (first .entry)) (now (second .entry)) (now (entries .entry)) (length (now (workspace .entry)))) (now (workspace .entry)) ⌝ }
     ensures meaning { λ r. ⌜ CheckMeaning (now (table .entry)) (now (first .entry)) (now (second .entry)) (now (entries .entry)) (length (now (workspace .entry))) (checked r) ⌝ }
 {
-    let mut cells = [0u8; 4096];
+    let mut cells = [0u8; CELLS];
     let read = read_programs(table, first, second, &mut cells);
     match read {
         ProgramsRead::Refused(refusal) => Checked::Refused(refusal),

@@ -7,6 +7,7 @@ ghost use Rattle.cells.specs.Stands.{Ready};
 ghost use Rattle.checks.specs.Cube.{verdictOf, missingSide, Ends, AgreeMeans, RightSide, CubeMeans};
 use crate::residues::Residue;
 use crate::residues::side;
+use cells::layout::UNDEFINED;
 use cells::layout::cell_at;
 use engine::gap::Gap;
 use engine::run::reversing;
@@ -101,7 +102,7 @@ pub fn cube_at(cells: &[u8], bytes: &mut [u8], a: u8, b: u8, c: u8, budget: u16)
     ensures cube { λ r. ⌜ CubeMeans (now (cells .entry)) (length (now (bytes .entry))) a b c budget r ⌝ }
 {
     let at = cell_at(a, b);
-    if cells[at] == 255 {
+    if cells[at] == UNDEFINED {
         return CubeVerdict::Holds;
     }
     let left = side(cells, bytes, a, b, c, budget);

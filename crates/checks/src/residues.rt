@@ -12,6 +12,7 @@ use engine::step::push_inverse;
 use engine::step::push_word;
 use model::answers::Ending;
 use model::answers::Stop;
+use model::plain::BACK;
 
 // u\v: a word, which stands at the workspace's start; an undefined pair was met; or the reversing was stopped.
 pub enum Residue {
@@ -45,7 +46,7 @@ pub fn letter_residue(cells: &[u8], bytes: &mut [u8], a: u8, b: u8, budget: u16)
     if end < 2 {
         return Residue::Halted(Stop::Room);
     }
-    bytes[0] = 128 + a;
+    bytes[0] = BACK + a;
     bytes[end - 1] = b;
     let ending = reversing(
         cells,

@@ -7,6 +7,7 @@ ghost use Rattle.model.specs.Stated.{clearedAs};
 ghost use Rattle.cells.specs.Stands.{Sized};
 ghost use Rattle.clearing.specs.Clear.{triplesRefusal, ClearMeans, ClearMeaning};
 use areas::bytes::wipe;
+use cells::layout::CELLS;
 use checks::table::Lengths;
 use checks::table::Triples;
 use checks::table::check_lengths;
@@ -54,7 +55,7 @@ pub fn clear(table: &[u8], allowance: u16, workspace: &mut [u8]) -> Cleared
     ensures workspace { λ r. ⌜ now (workspace .exit) ≡ workspaceAfter (clear (now (table .entry)) allowance (length (now (workspace .entry)))) (now (workspace .entry)) ⌝ }
     ensures meaning { λ r. ⌜ ClearMeaning (now (table .entry)) (clearedAs r) ⌝ }
 {
-    let mut cells = [0u8; 4096];
+    let mut cells = [0u8; CELLS];
     let read = read_table(table, &mut cells);
     match read {
         TableRead::Refused(refusal) => Cleared::Refused(refusal),

@@ -8,6 +8,7 @@ ghost use Rattle.model.specs.Stated.{compared};
 ghost use Rattle.loading.specs.Loading.{TwoForward, Forward};
 ghost use Rattle.comparing.specs.Compare.{judgement, toldAs, Judges, Meaning};
 use areas::bytes::wipe;
+use cells::layout::CELLS;
 use clearing::clear::clear_cells;
 use loading::comparison::run_programs;
 use loading::loading::ProgramsRead;
@@ -102,7 +103,7 @@ pub fn compare(
     ensures workspace { λ r. ⌜ now (workspace .exit) ≡ workspaceAfter (compare (now (table .entry)) (now (first .entry)) (now (second .entry)) allowance (length (now (workspace .entry)))) (now (workspace .entry)) ⌝ }
     ensures meaning { λ r. ⌜ Meaning (now (table .entry)) (now (first .entry)) (now (second .entry)) allowance (length (now (workspace .entry))) (λ T v. answered v) (compared r) ⌝ }
 {
-    let mut cells = [0u8; 4096];
+    let mut cells = [0u8; CELLS];
     let read = read_programs(table, first, second, &mut cells);
     match read {
         ProgramsRead::Refused(refusal) => Compared::Refused(refusal),

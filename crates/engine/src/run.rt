@@ -9,6 +9,7 @@ use crate::gap::Gap;
 use crate::step::Turn;
 use crate::step::advance;
 use model::answers::Ending;
+use model::plain::BACK;
 
 // How many of the letters before `end` are forward.
 pub fn forward_letters(bytes: &[u8], end: usize) -> usize
@@ -18,7 +19,7 @@ pub fn forward_letters(bytes: &[u8], end: usize) -> usize
     let mut count: usize = 0;
     let mut i: usize = 0;
     while i < end {
-        if bytes[i] < 128 {
+        if bytes[i] < BACK {
             count += 1;
         }
         i += 1;

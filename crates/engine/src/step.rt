@@ -9,9 +9,11 @@ use crate::gap::Gap;
 use crate::gap::Sought;
 use crate::gap::seek;
 use crate::letter::turned;
+use cells::layout::UNDEFINED_LENGTH;
 use cells::layout::cell_at;
 use model::answers::Pair;
 use model::answers::Stop;
+use model::plain::BACK;
 
 // What the next word of a reversing comes to.
 pub enum Turn {
@@ -63,13 +65,13 @@ pub fn step(cells: &[u8], bytes: &mut [u8], site: Gap, remaining: u16) -> Turn
 {
     let at = site.left - 1;
     let next = site.right;
-    let a = bytes[at] - 128;
+    let a = bytes[at] - BACK;
     let b = bytes[next];
     let to = cell_at(a, b);
     let from = cell_at(b, a);
     let x = cells[to] as usize;
     let y = cells[from] as usize;
-    if x == 255 {
+    if x == UNDEFINED_LENGTH {
         return Turn::Undefined(Pair { a, b });
     }
     if remaining == 0 {

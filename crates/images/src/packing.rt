@@ -1,5 +1,9 @@
 // Table images written from cells.
 
+use crate::tables::DEFINED_BITS;
+use crate::tables::LENGTH_BITS;
+use crate::tables::SIZE_BITS;
+use cells::layout::UNDEFINED;
 use cells::layout::cell_at;
 ghost use mathlib.Core.Path.{_≡_};
 ghost use mathlib.Core.List.{List, _++_};
@@ -33,7 +37,7 @@ pub fn pack_word(
 {
     let first = cells[cell];
     let count = first as usize;
-    bits::write_field(out, at, 4, first as u16);
+    bits::write_field(out, at, LENGTH_BITS, first as u16);
     let mut next = at + 4;
     let mut k: usize = 0;
     while k < count {
@@ -62,11 +66,11 @@ pub fn pack_pair(
 {
     let there = cell_at(a, b);
     let back = cell_at(b, a);
-    if cells[there] == 255 {
-        bits::write_field(out, at, 1, 0);
+    if cells[there] == UNDEFINED {
+        bits::write_field(out, at, DEFINED_BITS, 0);
         return at + 1;
     }
-    bits::write_field(out, at, 1, 1);
+    bits::write_field(out, at, DEFINED_BITS, 1);
     let next = pack_word(cells, there, size, width, out, at + 1);
     pack_word(cells, back, size, width, out, next)
 }
@@ -95,8 +99,8 @@ pub fn pack_cells(cells: &[u8], size: u8, out: &mut [u8]) -> usize
     ensures near { λ r. ⌜ r ≤ 65528 ⌝ }
 {
     let width = bits::letter_width(size) as usize;
-    bits::write_field(out, 0, 4, (size - 1) as u16);
-    let mut next: usize = 4;
+    bits::write_field(out, 0, SIZE_BITS, (size - 1) as u16);
+    let mut next: usize = SIZE_BITS;
     let mut a: u8 = 1;
     while a <= size {
         next = pack_row(cells, size, width, a, out, next);

@@ -3,8 +3,10 @@
 use crate::tables::TablePart;
 use crate::tables::TableRead;
 use crate::writing;
+use cells::layout::UNDEFINED;
 use cells::layout::cell_at;
 use model::answers::Refusal;
+use model::plain::MOST_LETTERS;
 ghost use mathlib.Core.Path.{_≡_};
 ghost use Prim.Native.Nat.{ℕ, _+_, _≤_, _<_};
 ghost use lib.ListN.{length};
@@ -28,7 +30,7 @@ pub enum PlainRead {
 pub fn read_plain_program(plain: &[u8], size: u8) -> PlainRead
     ensures { λ r. ⌜ PlainDone (now (plain .entry)) size r ⌝ }
 {
-    if plain.len() > 4095 {
+    if plain.len() > MOST_LETTERS {
         return PlainRead::Refused(Refusal::ImageEnds);
     }
     let mut i: usize = 0;
@@ -98,9 +100,9 @@ pub fn read_plain_pair(
     let count = plain[at];
     let there = cell_at(a, b);
     let back = cell_at(b, a);
-    if count == 255 {
-        cells[there] = 255;
-        cells[back] = 255;
+    if count == UNDEFINED {
+        cells[there] = UNDEFINED;
+        cells[back] = UNDEFINED;
         return TablePart::Next(at + 1);
     }
     match read_plain_word(plain, at + 1, count, size, cells, there) {
@@ -195,8 +197,8 @@ pub fn write_plain_pair(cells: &[u8], a: u8, b: u8, out: &mut [u8], at: usize) -
 {
     let there = cell_at(a, b);
     let back = cell_at(b, a);
-    if cells[there] == 255 {
-        out[at] = 255;
+    if cells[there] == UNDEFINED {
+        out[at] = UNDEFINED;
         return at + 1;
     }
     let next = write_plain_word(cells, there, out, at);

@@ -4,6 +4,7 @@ use crate::fields;
 use crate::fields::Field;
 use crate::fields::LetterField;
 use model::answers::Refusal;
+use model::plain::BACK;
 ghost use mathlib.Core.Path.{_≡_};
 ghost use Prim.Native.Nat.{_+_, _*_, _≤_, _<_};
 ghost use lib.ListN.{length, getD};
@@ -15,6 +16,11 @@ ghost use Rattle.model.specs.Plain.{plainProgram};
 ghost use Rattle.model.specs.Services.{isForward};
 ghost use Rattle.images.specs.Programs.{SignedDone, ProgramDone, Accepted, HasLetter, ForwardDone};
 ghost use Rattle.model.specs.Areas.{written};
+
+// The bits of a program's count, and of a letter's sign.
+pub const COUNT_BITS: usize = 12;
+
+pub const SIGN_BITS: usize = 1;
 
 // What stands at a position: a letter's byte, too few bits, or a field that names no letter.
 pub enum SignedField {
@@ -32,7 +38,7 @@ pub fn next_signed(image: &[u8], at: usize, size: u8, width: usize) -> SignedFie
     requires { ⌜ Before (now image) at size width ⌝ }
     ensures { λ r. ⌜ SignedDone (now (image .entry)) at size width r ⌝ }
 {
-    let Field::Value(sign) = fields::next_field(image, at, 1) else {
+    let Field::Value(sign) = fields::next_field(image, at, SIGN_BITS) else {
         return SignedField::Ends;
     };
     match fields::next_letter(image, at + 1, size, width) {
@@ -42,7 +48,7 @@ pub fn next_signed(image: &[u8], at: usize, size: u8, width: usize) -> SignedFie
             if sign == 0 {
                 return SignedField::Byte(a);
             }
-            SignedField::Byte(128 + a)
+            SignedField::Byte(BACK + a)
         }
     }
 }
@@ -52,11 +58,11 @@ pub fn read_program(image: &[u8], size: u8) -> ProgramRead
     requires { ⌜ (1 ≤ size) × (size ≤ 16) ⌝ }
     ensures { λ r. ⌜ ProgramDone (now (image .entry)) size r ⌝ }
 {
-    let Field::Value(count) = fields::next_field(image, 0, 12) else {
+    let Field::Value(count) = fields::next_field(image, 0, COUNT_BITS) else {
         return ProgramRead::Refused(Refusal::ImageEnds);
     };
     let width = bits::letter_width(size) as usize;
-    let mut at: usize = 12;
+    let mut at: usize = COUNT_BITS;
     let mut i: u16 = 0;
     while i < count {
         match next_signed(image, at, size, width) {
@@ -80,7 +86,7 @@ pub fn letter_at(image: &[u8], size: u8, width: usize, i: usize) -> u8
     requires { ⌜ HasLetter (now image) size width i ⌝ }
     ensures { λ r. ⌜ ((w : Word) → readProgram size (now (image .entry)) ≡ answered w → r ≡ byte (getD w i (forward 0))) ⌝ }
 {
-    match next_signed(image, 12 + i * (1 + width), size, width) {
+    match next_signed(image, COUNT_BITS + i * (SIGN_BITS + width), size, width) {
         SignedField::Byte(x) => x,
         SignedField::Ends => 0,
         SignedField::Wrong => 0,
@@ -95,8 +101,8 @@ pub fn is_forward(image: &[u8], size: u8, count: u16) -> bool
     let width = bits::letter_width(size) as usize;
     let mut i: u16 = 0;
     while i < count {
-        let at = 12 + (i as usize) * (1 + width);
-        if bits::read_field(image, at, 1) != 0 {
+        let at = COUNT_BITS + (i as usize) * (SIGN_BITS + width);
+        if bits::read_field(image, at, SIGN_BITS) != 0 {
             return false;
         }
         i += 1;

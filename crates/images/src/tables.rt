@@ -3,6 +3,8 @@
 use crate::fields;
 use crate::fields::Field;
 use crate::fields::LetterField;
+use cells::layout::CELLS;
+use cells::layout::UNDEFINED;
 use cells::layout::cell_at;
 use model::answers::Refusal;
 ghost use mathlib.Core.Path.{_≡_};
@@ -12,6 +14,13 @@ ghost use Rattle.images.specs.Fields.{Before};
 ghost use Rattle.cells.specs.Layout.{Letters};
 ghost use Rattle.cells.specs.Stands.{Blank};
 ghost use Rattle.images.specs.Tables.{WordDone, PairDone, RowDone, TableDone, SizeDone};
+
+// The bits of a table's number of letters, of the mark that a pair is defined, and of a word's length.
+pub const SIZE_BITS: usize = 4;
+
+pub const DEFINED_BITS: usize = 1;
+
+pub const LENGTH_BITS: usize = 4;
 
 // The position after a part of a table, or why there is none.
 pub enum TablePart {
@@ -38,7 +47,7 @@ pub fn read_word(
     ensures length { λ r. ⌜ length (now (cells .exit)) ≡ length (now (cells .entry)) ⌝ }
     ensures word { λ r. ⌜ WordDone (now (image .entry)) at size (now (cells .entry)) cell (now (cells .exit)) r ⌝ }
 {
-    let Field::Value(value) = fields::next_field(image, at, 4) else {
+    let Field::Value(value) = fields::next_field(image, at, LENGTH_BITS) else {
         return TablePart::Ends;
     };
     cells[cell] = value as u8;
@@ -73,14 +82,14 @@ pub fn read_pair(
     ensures length { λ r. ⌜ length (now (cells .exit)) ≡ length (now (cells .entry)) ⌝ }
     ensures pair { λ r. ⌜ PairDone (now (image .entry)) at size (now (cells .entry)) a b (now (cells .exit)) r ⌝ }
 {
-    let Field::Value(bit) = fields::next_field(image, at, 1) else {
+    let Field::Value(bit) = fields::next_field(image, at, DEFINED_BITS) else {
         return TablePart::Ends;
     };
     let there = cell_at(a, b);
     let back = cell_at(b, a);
     if bit == 0 {
-        cells[there] = 255;
-        cells[back] = 255;
+        cells[there] = UNDEFINED;
+        cells[back] = UNDEFINED;
         return TablePart::Next(at + 1);
     }
     match read_word(image, at + 1, size, width, cells, there) {
@@ -124,12 +133,12 @@ pub fn read_table(image: &[u8], cells: &mut [u8]) -> TableRead
     ensures length { λ r. ⌜ length (now (cells .exit)) ≡ length (now (cells .entry)) ⌝ }
     ensures table { λ r. ⌜ TableDone (now (image .entry)) (now (cells .exit)) r ⌝ }
 {
-    let Field::Value(head) = fields::next_field(image, 0, 4) else {
+    let Field::Value(head) = fields::next_field(image, 0, SIZE_BITS) else {
         return TableRead::Refused(Refusal::TableEnds);
     };
     let size = (head + 1) as u8;
     let width = bits::letter_width(size) as usize;
-    let mut at: usize = 4;
+    let mut at: usize = SIZE_BITS;
     let mut a: u8 = 1;
     while a <= size {
         match read_row(image, at, size, width, cells, a) {
@@ -152,6 +161,6 @@ pub fn read_table(image: &[u8], cells: &mut [u8]) -> TableRead
 pub fn table_size(image: &[u8]) -> TableRead
     ensures { λ r. ⌜ SizeDone (now (image .entry)) r ⌝ }
 {
-    let mut cells = [0u8; 4096];
+    let mut cells = [0u8; CELLS];
     read_table(image, &mut cells)
 }

@@ -10,12 +10,15 @@ ghost use Rattle.model.specs.Images.{signedBits};
 ghost use Rattle.model.specs.Plain.{namesLetter};
 ghost use Rattle.images.specs.Written.{WidthOf, NamesLetters, PackRoom, programBits};
 ghost use Rattle.bits.specs.Fields.{Appended};
+use crate::programs::COUNT_BITS;
+use crate::programs::SIGN_BITS;
+use model::plain::BACK;
 
 // Whether a byte names a letter, forward or back.
 pub fn names_letter(x: u8, size: u8) -> bool
     ensures { λ r. ⌜ r ≡ namesLetter size x ⌝ }
 {
-    let number = x % 128;
+    let number = x % BACK;
     if number < 1 {
         return false;
     }
@@ -27,9 +30,9 @@ pub fn write_signed(area: &mut [u8], at: usize, size: u8, width: usize, x: u8)
     requires { ⌜ WidthOf size width × (namesLetter size x ≡ true) × (at + 1 + width ≤ 8 * length (now area)) × (at ≤ 2 ^ 40) ⌝ }
     ensures { λ r. ⌜ Appended (now (area .entry)) at (signedBits size (letter x)) (now (area .exit)) ⌝ }
 {
-    let sign = (x / 128) as u16;
-    let number = (x % 128 - 1) as u16;
-    bits::write_field(area, at, 1 + width, (sign << width) + number);
+    let sign = (x / BACK) as u16;
+    let number = (x % BACK - 1) as u16;
+    bits::write_field(area, at, SIGN_BITS + width, (sign << width) + number);
 }
 
 // The count and the letters of a program, from their bytes.
@@ -38,10 +41,16 @@ pub fn write_program(plain: &[u8], size: u8, area: &mut [u8])
     ensures { λ r. ⌜ Appended (now (area .entry)) 0 (programBits size (now (plain .entry))) (now (area .exit)) ⌝ }
 {
     let width = bits::letter_width(size) as usize;
-    bits::write_field(area, 0, 12, plain.len() as u16);
+    bits::write_field(area, 0, COUNT_BITS, plain.len() as u16);
     let mut i: usize = 0;
     while i < plain.len() {
-        write_signed(area, 12 + i * (1 + width), size, width, plain[i]);
+        write_signed(
+            area,
+            COUNT_BITS + i * (SIGN_BITS + width),
+            size,
+            width,
+            plain[i],
+        );
         i += 1;
     }
 }

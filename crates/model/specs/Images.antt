@@ -11,6 +11,23 @@ use Rattle.model.specs.Enumeration.{concatMap}
 use Rattle.model.specs.Outcome.{Outcome, answered, _>>=_, unless}
 use Rattle.model.specs.Bits.{Read, field, digits, bitsOf, pack, letterWidth, finish}
 
+-- FIELD WIDTHS: of a table's number of letters and of a word's length, of a program's count, of a chain's count and of an entry's offset
+
+abbrev pub sizeWidth : ℕ
+sizeWidth = 4
+
+abbrev pub lengthWidth : ℕ
+lengthWidth = 4
+
+abbrev pub countWidth : ℕ
+countWidth = 12
+
+abbrev pub chainCountWidth : ℕ
+chainCountWidth = 16
+
+abbrev pub offsetWidth : ℕ
+offsetWidth = 12
+
 -- WRITING
 
 -- "a move field holds the number less 1"
@@ -19,7 +36,7 @@ letterBits n a = digits (letterWidth n) (a - 1)
 
 -- "the length of C(a,b) in 4 bits, its moves"
 abbrev pub wordBits : ℕ → Positive → List ℕ
-wordBits n x = digits 4 (length x) ++ concatMap (letterBits n) x
+wordBits n x = digits lengthWidth (length x) ++ concatMap (letterBits n) x
 
 -- "for each pair a < b in order one bit, 0 for open; after a 1, the length of C(a,b) in 4 bits, its moves, then the same for C(b,a)"
 abbrev pub pairBits : ℕ → Complement → List ℕ
@@ -28,7 +45,7 @@ pairBits n (complement x y) = 1 ∷ (wordBits n x ++ wordBits n y)
 
 -- "Table: n − 1 in 4 bits; for each pair .."
 unfoldable pub tableImage : Presentation → List ℕ
-tableImage T = pack (digits 4 (T .size - 1) ++ concatMap (concatMap (pairBits (T .size))) (T .rows))
+tableImage T = pack (digits sizeWidth (T .size - 1) ++ concatMap (concatMap (pairBits (T .size))) (T .rows))
 
 -- "for each move a bit, 1 for back, and a move field"
 abbrev pub signedBits : ℕ → Letter → List ℕ
@@ -37,24 +54,21 @@ signedBits n (back a) = 1 ∷ letterBits n a
 
 -- "Program: the count in 12 bits; for each move .."
 unfoldable pub programImage : ℕ → Word → List ℕ
-programImage n w = pack (digits 12 (length w) ++ concatMap (signedBits n) w)
+programImage n w = pack (digits countWidth (length w) ++ concatMap (signedBits n) w)
 
 -- "each entry an offset in 12 bits and fields a, b", after "the count in 16 bits"
-abbrev pub offsetWidth : ℕ
-offsetWidth = 12
-
 abbrev pub entryWidth : ℕ → ℕ
 entryWidth n = offsetWidth + 2 * letterWidth n
 
 abbrev pub entryPosition : ℕ → ℕ → ℕ
-entryPosition n index = 16 + index * entryWidth n
+entryPosition n index = chainCountWidth + index * entryWidth n
 
 abbrev pub entryBits : ℕ → Entry → List ℕ
 entryBits n e = digits offsetWidth (e .offset) ++ (letterBits n (e .a) ++ letterBits n (e .b))
 
 -- "Chain: the count in 16 bits; each entry .."
 unfoldable pub chainImage : ℕ → List Entry → List ℕ
-chainImage n es = pack (digits 16 (length es) ++ concatMap (entryBits n) es)
+chainImage n es = pack (digits chainCountWidth (length es) ++ concatMap (entryBits n) es)
 
 -- READING
 
@@ -73,7 +87,7 @@ several reader (suc k) input =
     answered (record { value = r .value ∷ rs .value; rest = rs .rest })
 
 abbrev pub wordField : ℕ → List ℕ → Outcome (Read Positive)
-wordField n bits = field 1 4 bits >>= λ k. several (letterField 1 2 n) (k .value) (k .rest)
+wordField n bits = field 1 lengthWidth bits >>= λ k. several (letterField 1 2 n) (k .value) (k .rest)
 
 abbrev pub definedField : ℕ → List ℕ → Outcome (Read Complement)
 definedField n bits =
@@ -97,7 +111,7 @@ rowsOf reader (suc k) input =
 -- refusals 1 and 2, "the first met in reading counts", then 3
 unfoldable pub readTable : List ℕ → Outcome Presentation
 readTable bytes =
-    field 1 4 (bitsOf bytes) >>= λ head.
+    field 1 sizeWidth (bitsOf bytes) >>= λ head.
     rowsOf (pairField (head .value + 1)) (head .value + 1) (head .rest) >>= λ rs.
     finish 3 (record { value = record { size = head .value + 1; rows = rs .value }; rest = rs .rest })
 
@@ -113,7 +127,7 @@ signedField n bits =
 -- refusals 4 and 5, the first met, then 6, of a program image under a table of n letters
 unfoldable pub readProgram : ℕ → List ℕ → Outcome Word
 readProgram n bytes =
-    field 4 12 (bitsOf bytes) >>= λ k.
+    field 4 countWidth (bitsOf bytes) >>= λ k.
     several (signedField n) (k .value) (k .rest) >>= λ w.
     finish 6 w
 
@@ -127,6 +141,6 @@ entryField n bits =
 -- refusals 4 and 5, the first met, then 6, of a chain image
 unfoldable pub readChain : ℕ → List ℕ → Outcome (List Entry)
 readChain n bytes =
-    field 4 16 (bitsOf bytes) >>= λ k.
+    field 4 chainCountWidth (bitsOf bytes) >>= λ k.
     several (entryField n) (k .value) (k .rest) >>= λ es.
     finish 6 es

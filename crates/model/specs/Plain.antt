@@ -5,12 +5,19 @@ use mathlib.Core.Bool.{Bool, not, _&&_, _||_, cond}
 use Prim.Native.Nat.{ℕ, _%_}
 use lib.Dec.{leb, ltb, eqb}
 use lib.ListN.{length}
-use Rattle.model.specs.Word.{Word, Positive, byte, letter}
+use Rattle.model.specs.Word.{Word, Positive, backByte, byte, letter}
 use Rattle.model.specs.Presentation.{Presentation, Complement, undefined, complement}
 use Rattle.model.specs.Enumeration.{concatMap}
 use Rattle.model.specs.Outcome.{Outcome, answered, refused, _>>=_, unless}
 use Rattle.model.specs.Bits.{Read}
 use Rattle.model.specs.Images.{several, rowsOf}
+
+-- the byte of an open pair, and the most letters of a program
+abbrev pub openByte : ℕ
+openByte = 255
+
+abbrev pub mostLetters : ℕ
+mostLetters = 4095
 
 -- WRITING
 
@@ -18,7 +25,7 @@ abbrev pub plainWord : Positive → List ℕ
 plainWord x = length x ∷ x
 
 abbrev pub plainPair : Complement → List ℕ
-plainPair undefined = 255 ∷ []
+plainPair undefined = openByte ∷ []
 plainPair (complement x y) = plainWord x ++ plainWord y
 
 unfoldable pub plainTable : Presentation → List ℕ
@@ -53,7 +60,7 @@ plainDefined n k input =
 abbrev pub plainPairAt : ℕ → List ℕ → Outcome (Read Complement)
 plainPairAt n input =
     nextByte input >>= λ k.
-    cond (eqb (k .value) 255) (answered (record { value = undefined; rest = k .rest })) (plainDefined n (k .value) (k .rest))
+    cond (eqb (k .value) openByte) (answered (record { value = undefined; rest = k .rest })) (plainDefined n (k .value) (k .rest))
 
 -- refusals 1 and 2, the first met, then 3: "bytes follow it"
 unfoldable pub readPlainTable : List ℕ → Outcome Presentation
@@ -65,7 +72,7 @@ readPlainTable bytes =
 
 -- a byte that names a letter, forward or back
 abbrev pub namesLetter : ℕ → ℕ → Bool
-namesLetter n x = leb 1 (x % 128) && leb (x % 128) n
+namesLetter n x = leb 1 (x % backByte) && leb (x % backByte) n
 
 -- refusal 5: "a byte to be packed, names no move"
 abbrev pub plainLettersSigned : ℕ → List ℕ → Outcome Word
@@ -77,4 +84,4 @@ plainLettersSigned n (x ∷ xs) =
 
 -- refusal 4: "more than 4,095 moves are to be packed"; "the count to be packed is tested before the moves"
 unfoldable pub readPlainProgram : ℕ → List ℕ → Outcome Word
-readPlainProgram n bytes = unless (ltb 4095 (length bytes)) 4 bytes >>= plainLettersSigned n
+readPlainProgram n bytes = unless (ltb mostLetters (length bytes)) 4 bytes >>= plainLettersSigned n

@@ -6,7 +6,7 @@ use lib.ListN.{length, getD}
 use Rattle.model.specs.Word.{Letter, forward, back, Word, Positive}
 use Rattle.model.specs.Presentation.{Presentation, Complement, undefined, complement}
 use Rattle.model.specs.Equivalence.{Entry}
-use Rattle.model.specs.Images.{offsetWidth}
+use Rattle.model.specs.Images.{lengthWidth, countWidth, chainCountWidth, offsetWidth}
 
 -- every element
 abbrev pub All : {A : Type 0} → (A → Type 0) → List A → Type 0
@@ -35,12 +35,12 @@ Lettered n w = All (LetterInRange n) w
 
 -- "A program is 0 to 4,095 moves"
 pub record ProgramInRange (n : ℕ) (w : Word) : Type 0 where
-  pub short : length w < 4096
+  pub short : length w < 2 ^ countWidth
   pub letters : Lettered n w
 
 -- "words of forward moves, each 0 to 15 long"
 pub record WordInRange (n : ℕ) (x : Positive) : Type 0 where
-  pub short : length x < 16
+  pub short : length x < 2 ^ lengthWidth
   pub letters : All (InRange n) x
 
 abbrev pub PairInRange : ℕ → Complement → Type 0
@@ -66,5 +66,5 @@ pub record EntryInRange (n : ℕ) (e : Entry) : Type 0 where
   pub b-names : InRange n (e .b)
 
 pub record ChainInRange (n : ℕ) (es : List Entry) : Type 0 where
-  pub short : length es < 65536
+  pub short : length es < 2 ^ chainCountWidth
   pub entries : All (EntryInRange n) es

@@ -44,9 +44,12 @@ backs (forward a ∷ w) = backs w
 backs (back a ∷ w) = a ∷ backs w
 
 -- "Unpacked, a forward move is its number in one byte and a back move is 128 plus it."
+abbrev pub backByte : ℕ
+backByte = 128
+
 abbrev pub byte : Letter → ℕ
 byte (forward a) = a
-byte (back a) = 128 + a
+byte (back a) = backByte + a
 
 abbrev pub letter : ℕ → Letter
-letter x = cond (ltb x 128) (forward x) (back (x - 128))
+letter x = cond (ltb x backByte) (forward x) (back (x - backByte))

@@ -2,6 +2,8 @@
 
 use images::plain::PlainRead;
 use images::plain::read_plain_program;
+use images::programs::COUNT_BITS;
+use images::programs::SIGN_BITS;
 use images::tables;
 use images::tables::TableRead;
 use images::writing;
@@ -25,7 +27,7 @@ pub fn pack(table: &[u8], plain: &[u8], answer: &mut [u8]) -> Packed
             PlainRead::Refused(refusal) => Packed::Refused(refusal),
             PlainRead::Accepted => {
                 let width = bits::letter_width(size) as usize;
-                let bytes = (12 + plain.len() * (1 + width) + 7) / 8;
+                let bytes = (COUNT_BITS + plain.len() * (SIGN_BITS + width) + 7) / 8;
                 if answer.len() < bytes {
                     return Packed::Refused(Refusal::AnswerShort);
                 }

@@ -1,6 +1,7 @@
 // Pack a table: its image in the answer area.
 
 use areas::bytes::copy_bytes;
+use cells::layout::CELLS;
 use images::packing;
 use images::plain;
 use images::tables::TableRead;
@@ -21,7 +22,7 @@ pub fn pack(plain: &[u8], answer: &mut [u8]) -> Packed
     ensures answer { λ r. ⌜ now (answer .exit) ≡ outputAfter (λ b. b) (packTable (now (plain .entry)) (length (now (answer .entry)))) (now (answer .entry)) ⌝ }
     ensures readable { λ r. ⌜ ReadsBack (readPlainTable (now (plain .entry))) readTable (packedAs r) (now (answer .exit)) ⌝ }
 {
-    let mut cells = [0u8; 4096];
+    let mut cells = [0u8; CELLS];
     match plain::read_plain_table(plain, &mut cells) {
         TableRead::Refused(refusal) => Packed::Refused(refusal),
         TableRead::Table { size } => {

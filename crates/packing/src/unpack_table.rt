@@ -1,6 +1,7 @@
 // Unpack a table: its plain form in the answer area.
 
 use areas::bytes::copy_bytes;
+use cells::layout::CELLS;
 use images::plain;
 use images::tables;
 use images::tables::TableRead;
@@ -21,7 +22,7 @@ pub fn unpack(table: &[u8], answer: &mut [u8]) -> Packed
     ensures answer { λ r. ⌜ now (answer .exit) ≡ outputAfter (λ b. b) (unpackTable (now (table .entry)) (length (now (answer .entry)))) (now (answer .entry)) ⌝ }
     ensures readable { λ r. ⌜ ReadsBack (readTable (now (table .entry))) readPlainTable (packedAs r) (now (answer .exit)) ⌝ }
 {
-    let mut cells = [0u8; 4096];
+    let mut cells = [0u8; CELLS];
     match tables::read_table(table, &mut cells) {
         TableRead::Refused(refusal) => Packed::Refused(refusal),
         TableRead::Table { size } => {

@@ -9,6 +9,7 @@ ghost use Rattle.loading.specs.Loading.{ProgramRuns};
 ghost use Rattle.reversal.specs.Reverse.{Finishable, AnswerOf, ProgramAnswered};
 use crate::fraction::write_fraction;
 use areas::bytes::wipe;
+use cells::layout::CELLS;
 use images::programs::ProgramRead;
 use images::programs::read_program;
 use images::tables::TableRead;
@@ -76,7 +77,7 @@ pub fn reverse(
     ensures answer { λ r. ⌜ now (answer .exit) ≡ outputAfter fractionBytes (reverse (now (table .entry)) (now (program .entry)) allowance (length (now (workspace .entry))) (length (now (answer .entry)))) (now (answer .entry)) ⌝ }
     ensures workspace { λ r. ⌜ now (workspace .exit) ≡ workspaceAfter (reverse (now (table .entry)) (now (program .entry)) allowance (length (now (workspace .entry))) (length (now (answer .entry)))) (now (workspace .entry)) ⌝ }
 {
-    let mut cells = [0u8; 4096];
+    let mut cells = [0u8; CELLS];
     let read = read_table(table, &mut cells);
     match read {
         TableRead::Refused(refusal) => Reversed::Refused(refusal),

@@ -8,6 +8,7 @@ ghost use Rattle.swaps.specs.Entry.{Applies, ReplaceMeans, ApplyMeans};
 use crate::held::carry;
 use crate::side::put_side;
 use crate::side::stands_at;
+use cells::layout::UNDEFINED_LENGTH;
 use cells::layout::cell_at;
 use engine::gap::Gap;
 use entries::entry::ChainEntry;
@@ -60,7 +61,7 @@ pub fn apply(cells: &[u8], size: u8, bytes: &mut [u8], gap: Gap, entry: ChainEnt
     let from = cell_at(b, a);
     let x = cells[to] as usize;
     let y = cells[from] as usize;
-    if x == 255 {
+    if x == UNDEFINED_LENGTH {
         return Applied::Breaks;
     }
     if gap.left + (bytes.len() - gap.right) < offset {

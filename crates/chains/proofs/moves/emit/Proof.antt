@@ -36,13 +36,13 @@ cast-y : tie.Need-cast-y
 cast-y c =
     omega (arith, c .shared-slice-known3 .given (c .before .before .cell-at2 .result))
 
-sub-offset : tie.Need-sub-offset
-sub-offset c =
+sub-start : tie.Need-sub-start
+sub-start c =
     let s = c .before .before .before .before .before .before .before .before in
     omega (arith, to-count (s .pre .2) (s .pre .3) (c .before .before .before .before .cell-at .result) (c .before .before .before .before .cell-at .ensures), passed-is (s .pre .2) (s .pre .3))
 
-sub-offset-2 : tie.Need-sub-offset-2
-sub-offset-2 c =
+sub-start-2 : tie.Need-sub-start-2
+sub-start-2 c =
     let s = c .before .before .before .before .before .before .before .before in
     omega (arith, to-count (s .pre .2) (s .pre .3) (c .before .before .before .before .cell-at .result) (c .before .before .before .before .cell-at .ensures), passed-is (s .pre .2) (s .pre .3))
 
@@ -64,8 +64,8 @@ sub-stacked c =
     let s = c .before .before .before .before .before .before .before .before .before .before in
     stacked-some (s .pre .2) (s .pre .3)
 
-cast-place : tie.Need-cast-place
-cast-place c =
+cast-offset : tie.Need-cast-offset
+cast-offset c =
     let s = c .before .before .before .before .before .before .before .before .before .before in
     omega (arith, passed-few (s .pre .2) (s .pre .3))
 
@@ -123,13 +123,13 @@ emit-spec =
     cast-x
     shared-slice-read-y
     cast-y
-    sub-offset
-    sub-offset-2
+    sub-start
+    sub-start-2
     add-passed
     add-left
     add-emitted
     sub-stacked
-    cast-place
+    cast-offset
     write-entry-requires
     push-inverse-requires
     same-length

@@ -1,0 +1,7 @@
+// The plain form of programs.
+
+// A back letter's byte is this much more than its number.
+pub const BACK: u8 = 128;
+
+// The most letters of a program that an image can count.
+pub const MOST_LETTERS: usize = 4095;
