@@ -47,7 +47,6 @@ use Rattle.services.specs.Compare.{toldAs, Ended, Judged, LoadedPair, Se
 use Rattle.services.specs.Chain.{Area, ListedAs, JoinsChecked, ListedChecks}
 use Rattle.services.specs.declared.compare.Judgement.{Judgement}
 use Rattle.services.specs.declared.compare.Judgement.the-variants.{Same, Different, Refused}
-use Rattle.images.proofs.Refusals.{told}
 use Rattle.services.proofs.Outcomes.{AsFound, still-refused}
 use Rattle.services.proofs.Reading.{pair-refused, pair-runs}
 use Rattle.services.proofs.Programs.{lettered-program}
@@ -60,9 +59,6 @@ NotSame (Same k r) = ⊥
 NotSame (Different k) = Unit {0}
 NotSame (Refused r) = Unit {0}
 
-refused-area : (T : Presentation) (u v : Positive) (area : List ℕ) (r : Refusal) → Area T u v area area (refusal r)
-refused-area T u v area r = subst (Area T u v area area) (sym (told r .is)) refl
-
 module _ (T : Presentation) (u v : Positive) (steps width : ℕ) (before : List ℕ) where
   pub lists-nothing : (j : Judgement) → NotSame j → Judged T u v steps width j → ListedAs T u v steps width before before (toldAs j)
   lists-nothing (Same k r) unlike p = absurd unlike
@@ -71,7 +67,7 @@ module _ (T : Presentation) (u v : Positive) (steps width : ℕ) (before : List 
   lists-nothing (Refused r) unlike p =
       record {
         verdict = sym (still-refused (comparison T u v steps width) r (sym (p .verdict)) (listable (T .size) (length before)));
-        area = refused-area T u v before r;
+        area = refl;
       }
 
   module _ (size k r : ℕ) (sized : T .size ≡ size) (p : Judged T u v steps width (Same k r)) where
@@ -216,9 +212,6 @@ module _ (table first second : List ℕ) (steps width area : ℕ) where
 
 -- the answer area of the service
 module _ (table first second before after : List ℕ) where
-  pub area-refused : (r : Refusal) → ChainArea table first second before before (refusal r)
-  area-refused r = subst (ChainArea table first second before before) (sym (told r .is)) refl
-
   pub area-listed : (T : Presentation) (u v : Positive) → Compares table first second T u v → (o : Outcome Verdict) → Area T u v before after o
       → ChainArea table first second before after o
   area-listed T u v c (answered (same-after k)) l = (T, u, v, c, l)

@@ -1,12 +1,11 @@
 -- A refusal as its line.
-use mathlib.Core.Path.{_≡_, sym, ap, _∙_}
+use mathlib.Core.Path.{_≡_, refl, sym, _∙_}
 use mathlib.Core.List.{List, [], _∷_}
 use Prim.Native.Nat.{ℕ}
 use lib.ListN.{length, take}
 use lib.Seq.{length-take-le}
 use Rattle.model.specs.Stated.{refusal}
 use Rattle.model.specs.declared.answers.Refusal.{Refusal}
-use Rattle.images.proofs.Refusals.{told}
 use Rattle.text.specs.Text.{refusedLabel, line, numbersText, outcomeText}
 use Rattle.text.specs.Put.{refusalNumbers}
 use Rattle.text.specs.Refusals.{Listed}
@@ -22,6 +21,4 @@ abbrev pub numbersOf : Refusal → List ℕ
 numbersOf r = refusalNumbers (refusal r)
 
 pub refused-line : (r : Refusal) → line refusedLabel (numbersText (refusalNumbers (refusal r))) ≡ outcomeText (refusal r)
-refused-line r =
-    let e = told r .is {A = List ℕ} in
-    ap (λ o. line refusedLabel (numbersText (refusalNumbers o))) e ∙ sym (ap outcomeText e)
+refused-line r = refl
