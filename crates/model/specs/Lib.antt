@@ -12,6 +12,7 @@ pub mod Plain
 pub mod Services
 pub mod Areas
 pub mod Stated
+pub mod Refusals
 pub mod Case
 pub mod Samples
 pub mod Sheet

@@ -1,5 +1,4 @@
 pub mod Text
 pub mod Put
-pub mod Refusals
 pub mod Render
 pub mod Cases
