@@ -5,7 +5,7 @@ ghost use Rattle.model.specs.Outcome.{answered};
 ghost use Rattle.model.specs.Services.{compare};
 ghost use Rattle.model.specs.Areas.{workspaceAfter};
 ghost use Rattle.model.specs.Stated.{compared};
-ghost use Rattle.loading.specs.Loading.{TwoForward, Forward};
+ghost use Rattle.loading.specs.Loading.{Forward};
 ghost use Rattle.comparing.specs.Compare.{judgement, toldAs, Judges, Meaning};
 use areas::bytes::wipe;
 use cells::layout::CELLS;

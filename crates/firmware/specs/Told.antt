@@ -1,29 +1,22 @@
 -- How an outcome is told in numbers to C: 0 for an answer, else the refusal's number, then four values.
-use mathlib.Core.List.{List, [], _∷_}
 use Prim.Native.Nat.{ℕ}
 use Rattle.model.specs.Outcome.{Outcome, answered, refused}
-use Rattle.model.specs.Stated.{Sizes, refusal, placeNumbers}
+use Rattle.model.specs.Stated.{Sizes}
+use Rattle.model.specs.Refusals.{numbersTold}
 use Rattle.model.specs.Services.{Verdict, same-after, different-after, Passage, joins, breaks, ends-elsewhere}
-use Rattle.model.specs.declared.answers.Place.{Place}
-use Rattle.model.specs.declared.answers.Refusal.{Refusal}
+use Rattle.model.specs.declared.refusals.RefusalNumbers.{RefusalNumbers}
 use Rattle.firmware.specs.declared.numbers.Numbers.{Numbers}
 
 abbrev numbers : ℕ → ℕ → ℕ → ℕ → ℕ → Numbers
 numbers n a b c d = record { code = n; first = a; second = b; third = c; fourth = d }
 
--- a refusal: what its place is (0 none or the programs, 1 a pair, 2 a triple), then the numbers of the place
-abbrev pub refusedTold : ℕ → List ℕ → Numbers
-refusedTold n [] = numbers n 0 0 0 0
-refusedTold n (a ∷ []) = numbers n 0 0 0 0
-refusedTold n (a ∷ b ∷ []) = numbers n 1 a b 0
-refusedTold n (a ∷ b ∷ c ∷ ps) = numbers n 2 a b c
-
-abbrev pub placeTold : ℕ → Place → Numbers
-placeTold n p = refusedTold n (placeNumbers p)
+-- a refusal: its number, what its place is, then the numbers of the place
+abbrev pub refusedTold : RefusalNumbers → Numbers
+refusedTold r = numbers (r .number) (r .place) (r .a) (r .b) (r .c)
 
 abbrev pub told : {A : Type 0} → (A → Numbers) → Outcome A → Numbers
 told tell (answered x) = tell x
-told tell (refused n ps) = refusedTold n ps
+told tell (refused n ps) = refusedTold (numbersTold n ps)
 
 -- reverse: the lengths of N and D, and the steps
 abbrev pub sizesTold : Sizes → Numbers
@@ -47,7 +40,3 @@ passageTold ends-elsewhere = numbers 0 2 0 0 0
 -- packing and unpacking: the bytes written
 abbrev pub bytesTold : ℕ → Numbers
 bytesTold k = numbers 0 k 0 0 0
-
--- a refusal, whatever the answer would have been
-abbrev pub refusalTold : Refusal → Numbers
-refusalTold r = told passedTold (refusal r)

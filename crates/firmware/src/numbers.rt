@@ -1,16 +1,14 @@
 // How an answer is told in numbers: 0 or the refusal's number, then four values.
 ghost use mathlib.Core.Path.{_≡_};
-ghost use Rattle.model.specs.Stated.{reversed, clearedAs, compared, checked, packedAs};
-ghost use Rattle.firmware.specs.Told.{refusalTold, placeTold, told, sizesTold, passedTold, verdictTold, passageTold, bytesTold};
+ghost use Rattle.model.specs.Stated.{refusal, reversed, clearedAs, compared, checked, packedAs};
+ghost use Rattle.firmware.specs.Told.{told, sizesTold, passedTold, verdictTold, passageTold, bytesTold};
 use model::answers::Checked;
 use model::answers::Cleared;
 use model::answers::Compared;
 use model::answers::Packed;
-use model::answers::Pair;
-use model::answers::Place;
 use model::answers::Refusal;
 use model::answers::Reversed;
-use model::answers::Triple;
+use model::refusals::refusal_numbers;
 
 pub struct Numbers {
     pub code: u8,
@@ -32,57 +30,17 @@ pub(crate) fn alone(code: u8) -> Numbers
     }
 }
 
-pub(crate) fn with_pair(code: u8, pair: Pair) -> Numbers
-    ensures { λ r. ⌜ r ≡ record { code = code; first = 1; second = pair .a; third = pair .b; fourth = 0 } ⌝ }
+// A refusal is told the same whatever the answer would have been.
+pub(crate) fn of_refusal(refused: Refusal) -> Numbers
+    ensures { λ r. ⌜ r ≡ told passedTold (refusal refused) ⌝ }
 {
+    let told = refusal_numbers(refused);
     Numbers {
-        code,
-        first: 1,
-        second: pair.a as u64,
-        third: pair.b as u64,
-        fourth: 0,
-    }
-}
-
-pub(crate) fn with_triple(code: u8, triple: Triple) -> Numbers
-    ensures { λ r. ⌜ r ≡ record { code = code; first = 2; second = triple .a; third = triple .b; fourth = triple .c } ⌝ }
-{
-    Numbers {
-        code,
-        first: 2,
-        second: triple.a as u64,
-        third: triple.b as u64,
-        fourth: triple.c as u64,
-    }
-}
-
-pub(crate) fn with_place(code: u8, place: Place) -> Numbers
-    ensures { λ r. ⌜ r ≡ placeTold code place ⌝ }
-{
-    match place {
-        Place::Programs => alone(code),
-        Place::Triple(triple) => with_triple(code, triple),
-    }
-}
-
-pub(crate) fn of_refusal(refusal: Refusal) -> Numbers
-    ensures { λ r. ⌜ r ≡ refusalTold refusal ⌝ }
-{
-    match refusal {
-        Refusal::TableEnds => alone(1),
-        Refusal::TableField => alone(2),
-        Refusal::TableTail => alone(3),
-        Refusal::ImageEnds => alone(4),
-        Refusal::ImageField => alone(5),
-        Refusal::ImageTail => alone(6),
-        Refusal::BackMove => alone(7),
-        Refusal::UnequalLengths(pair) => with_pair(8, pair),
-        Refusal::CubeFails(triple) => with_triple(9, triple),
-        Refusal::OpenPair(pair) => with_pair(10, pair),
-        Refusal::AllowanceUsed(place) => with_place(11, place),
-        Refusal::WorkspaceShort(place) => with_place(12, place),
-        Refusal::AnswerShort => alone(13),
-        Refusal::UnequalEnds => alone(14),
+        code: told.number,
+        first: told.place as u64,
+        second: told.a as u64,
+        third: told.b as u64,
+        fourth: told.c as u64,
     }
 }
 

@@ -1,6 +1,6 @@
 -- Reading refuses with small numbers only: 1 to 3 of a table, 4 to 6 of a program or chain, 7 of one that must be forward. So what is refused
 -- before the work begins leaves the workspace as found.
-use mathlib.Core.Path.{_≡_, sym, ap, subst, _∙_}
+use mathlib.Core.Path.{_≡_, ap, subst}
 use mathlib.Core.List.{List, []}
 use mathlib.Core.Bool.{Bool, true, false, not, cond}
 use Prim.Native.Nat.{ℕ, zero, suc, _+_, _≤_}
@@ -14,9 +14,8 @@ use Rattle.model.specs.Bits.{Read, bitsOf, field, finish, filling, letterWidth,
 use Rattle.model.specs.Images.{letterField, several, rowsOf, wordField, definedField, pairField, signedField, entryField, readTable, readProgram, readChain}
 use Rattle.model.specs.Services.{isForward, readForward}
 use Rattle.model.specs.Areas.{workspaceAfter}
-use Rattle.model.specs.Stated.{refusal}
+use Rattle.model.specs.Stated.{numbered, refusal}
 use Rattle.model.specs.declared.answers.Refusal.{Refusal}
-use Rattle.images.proofs.Refusals.{told}
 use Rattle.loading.specs.Loading.{readPrograms}
 
 -- a refusal, if it is one, has a number of at most k
@@ -125,11 +124,6 @@ images-early table first second =
 -- an early refusal leaves the workspace as found
 pub refusal-workspace : {A : Type 0} (B : Type 0) (r : Refusal) (o : Outcome A) (k : ℕ) → o ≡ refusal r → Early k o → k ≤ 8 → (area : List ℕ)
     → workspaceAfter {A = B} (refusal r) area ≡ area
-refusal-workspace {A} B r o k e h few area =
-    let t = told r in
-    let small : t .number ≤ k = subst (Early k) (e ∙ t .is {A = A}) h in
-    ap (λ q. workspaceAfter q area) (t .is {A = B}) ∙ ap (λ b. cond b area (replicate (length area) 0)) (le-leb (t .number) 8 (omega arith))
-
--- the workspace after a refusal does not depend on what the answer would have been
-pub refusal-same : (A B : Type 0) (r : Refusal) (area : List ℕ) → workspaceAfter {A = A} (refusal r) area ≡ workspaceAfter {A = B} (refusal r) area
-refusal-same A B r area = let t = told r in ap (λ o. workspaceAfter o area) (t .is {A = A}) ∙ sym (ap (λ o. workspaceAfter o area) (t .is {A = B}))
+refusal-workspace B r o k e h few area =
+    let small : numbered r .0 ≤ k = subst (Early k) e h in
+    ap (λ b. cond b area (replicate (length area) 0)) (le-leb (numbered r .0) 8 (omega arith))

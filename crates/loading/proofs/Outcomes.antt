@@ -6,18 +6,17 @@ use Rattle.model.specs.Outcome.{Outcome, answered, _>>=_, mapped}
 use Rattle.model.specs.Areas.{outputAfter, workspaceAfter}
 use Rattle.model.specs.Stated.{refusal}
 use Rattle.model.specs.declared.answers.Refusal.{Refusal}
-use Rattle.images.proofs.Refusals.{refusal-then, refusal-mapped, refusal-output}
 use Rattle.loading.proofs.Early.{Early, refusal-workspace}
 
 module _ {A : Type 0} (o : Outcome A) (r : Refusal) (e : o ≡ refusal r) where
   pub still-refused : {B : Type 0} (f : A → Outcome B) → (o >>= f) ≡ refusal r
-  still-refused f = ap (λ q. q >>= f) e ∙ refusal-then r f
+  still-refused f = ap (λ q. q >>= f) e
 
   pub refused-stated : {B : Type 0} (f : A → B) → refusal r ≡ mapped f o
-  refused-stated f = sym (ap (mapped f) e ∙ refusal-mapped r f)
+  refused-stated f = sym (ap (mapped f) e)
 
   pub refused-output : (bytes : A → List ℕ) (area : List ℕ) → area ≡ outputAfter bytes o area
-  refused-output bytes area = sym (ap (λ q. outputAfter bytes q area) e ∙ refusal-output r bytes area)
+  refused-output bytes area = sym (ap (λ q. outputAfter bytes q area) e)
 
   -- refused by a check that comes before the work
   pub refused-workspace : {C : Type 0} (first : Outcome C) (k : ℕ) → first ≡ refusal r → Early k first → k ≤ 8 → (area : List ℕ) → area ≡ workspaceAfter o area

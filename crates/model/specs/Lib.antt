@@ -12,3 +12,4 @@ pub mod Plain
 pub mod Services
 pub mod Areas
 pub mod Stated
+pub mod Refusals

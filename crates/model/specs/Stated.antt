@@ -30,23 +30,27 @@ abbrev pub placeNumbers : Place → List ℕ
 placeNumbers (Triple t) = t .a ∷ t .b ∷ t .c ∷ []
 placeNumbers Programs = []
 
--- "8 names the pair, 9 the triple, 10 the pair, the back move's number first; 11 and 12 also say whether a triple of the table or the two
--- programs were under way"
+-- a refusal's number and place numbers: "8 names the pair, 9 the triple, 10 the pair, the back move's number first; 11 and 12 also say whether
+-- a triple of the table or the two programs were under way"
+abbrev pub numbered : Refusal → ℕ × List ℕ
+numbered TableEnds = (1, [])
+numbered TableField = (2, [])
+numbered TableTail = (3, [])
+numbered ImageEnds = (4, [])
+numbered ImageField = (5, [])
+numbered ImageTail = (6, [])
+numbered BackMove = (7, [])
+numbered (UnequalLengths p) = (8, p .a ∷ p .b ∷ [])
+numbered (CubeFails t) = (9, t .a ∷ t .b ∷ t .c ∷ [])
+numbered (OpenPair p) = (10, p .a ∷ p .b ∷ [])
+numbered (AllowanceUsed p) = (11, placeNumbers p)
+numbered (WorkspaceShort p) = (12, placeNumbers p)
+numbered AnswerShort = (13, [])
+numbered UnequalEnds = (14, [])
+
+-- the outcome, whatever the answer would have been
 abbrev pub refusal : {A : Type 0} → Refusal → Outcome A
-refusal TableEnds = refused 1 []
-refusal TableField = refused 2 []
-refusal TableTail = refused 3 []
-refusal ImageEnds = refused 4 []
-refusal ImageField = refused 5 []
-refusal ImageTail = refused 6 []
-refusal BackMove = refused 7 []
-refusal (UnequalLengths p) = refused 8 (p .a ∷ p .b ∷ [])
-refusal (CubeFails t) = refused 9 (t .a ∷ t .b ∷ t .c ∷ [])
-refusal (OpenPair p) = refused 10 (p .a ∷ p .b ∷ [])
-refusal (AllowanceUsed p) = refused 11 (placeNumbers p)
-refusal (WorkspaceShort p) = refused 12 (placeNumbers p)
-refusal AnswerShort = refused 13 []
-refusal UnequalEnds = refused 14 []
+refusal r = refused (numbered r .0) (numbered r .1)
 
 -- 11 and 12 of the programs
 abbrev pub stopRefusal : StopAnswer → Refusal

@@ -1,5 +1,5 @@
 -- The two equations of a packing service's promise, from its outcome. Then the outcome of each service, from those of the readers.
-use mathlib.Core.Path.{_≡_, sym, ap, subst, _∙_}
+use mathlib.Core.Path.{_≡_, sym, ap, _∙_}
 use mathlib.Core.List.{List, [], _∷_}
 use Prim.Native.Nat.{ℕ, _+_, _≤_, _<_}
 use native.Mathlib.Omega.{arith}
@@ -19,7 +19,7 @@ use Rattle.model.specs.Images.{readTable, readProgram, programImage, tableImage
 use Rattle.model.specs.Plain.{plainProgram, readPlainProgram, readPlainTable, plainPair, plainTable}
 use Rattle.model.specs.Enumeration.{concatMap}
 use Rattle.model.specs.Services.{fitted, unpackProgram, packProgram, packTable, unpackTable}
-use Rattle.images.proofs.Refusals.{told, refused-on, refusal-mapped, refusal-output}
+use Rattle.images.proofs.Refusals.{refused-on}
 
 -- the promise: the result is the outcome's, the area is what the outcome leaves, and what is written reads back as the subject
 abbrev pub Kept : {A : Type 0} → Outcome A → (List ℕ → Outcome A) → Outcome (List ℕ) → List ℕ → Packed → List ℕ → Type 0
@@ -29,8 +29,8 @@ Kept subject read outcome before r after =
 module _ {A : Type 0} (subject : Outcome A) (read : List ℕ → Outcome A) (outcome : Outcome (List ℕ)) (area : List ℕ) where
   pub refused-keeps : (r : Refusal) → outcome ≡ refusal r → Kept subject read outcome area (Refused r) area
   refused-keeps r e = (
-    sym (refusal-mapped r length) ∙ ap (mapped length) (sym e),
-    (sym (refusal-output r (λ b. b) area) ∙ ap (λ o. outputAfter (λ b. b) o area) (sym e), subst (λ o. ReadsBack subject read o area) (sym (told r .is)) tt),
+    ap (mapped length) (sym e),
+    (ap (λ o. outputAfter (λ b. b) o area) (sym e), tt),
   )
 
   pub answered-writes : (bytes after : List ℕ) (k : ℕ) → outcome ≡ answered bytes → length bytes ≡ k → after ≡ begins bytes area → read bytes ≡ subject

@@ -1,5 +1,4 @@
 pub mod Putting
-pub mod Refused
 pub mod Reports
 pub mod Rendering
 pub mod Decimal

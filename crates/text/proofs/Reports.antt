@@ -11,23 +11,18 @@ use Rattle.model.specs.Outcome.{Outcome, answered, refused, _>>=_, mapped}
 use Rattle.model.specs.Images.{readTable, readProgram}
 use Rattle.model.specs.Services.{Fraction, reverse}
 use Rattle.model.specs.Areas.{begins}
-use Rattle.model.specs.Stated.{refusal, Sizes, sizes}
+use Rattle.model.specs.Stated.{refusal, sizes}
 use Rattle.model.specs.declared.answers.Refusal.{Refusal}
 use Rattle.model.proofs.Impossible.{impossible}
 use Rattle.model.specs.Range.{All, LetterInRange}
 use Rattle.engine.proofs.Letters.{letter-forward, letter-back}
-use Rattle.images.proofs.Refusals.{told, refusal-mapped}
 use Rattle.loading.proofs.Outcomes.{still-refused, goes-on}
 use Rattle.text.specs.Text.{letterText, wordText, bytesText, answerText, outcomeText, reading, report}
 
 -- the outcome whose sizes a refusal states
 mapped-refused : (o : Outcome Fraction) (r : Refusal) → refusal r ≡ mapped sizes o → o ≡ refusal r
-mapped-refused (answered f) r e =
-    let t = told r in
-    let u : refused (t .number) (t .places) ≡ answered (sizes f) = sym (t .is {A = Sizes}) ∙ e in impossible (cc)
-mapped-refused (refused k ps) r e =
-    let g : Sizes → Fraction = λ s. record { numerator = []; denominator = []; steps = 0 } in
-    ap (mapped g) (sym e) ∙ refusal-mapped r g
+mapped-refused (answered f) r e = impossible (cc)
+mapped-refused (refused k ps) r e = cc
 
 -- the fraction whose sizes an answer states
 pub record Sized (o : Outcome Fraction) (n d k : ℕ) : Type 0 where

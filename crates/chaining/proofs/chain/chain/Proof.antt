@@ -1,10 +1,10 @@
 -- `chaining::chain::chain` meets its contract.
-use mathlib.Core.Path.{sym, ap, subst, _∙_}
+use mathlib.Core.Path.{refl, sym, ap, subst, _∙_}
 use lib.ListN.{length}
 use Rattle.model.specs.Areas.{workspaceAfter}
 use Rattle.model.specs.Stated.{compared}
 use Rattle.loading.specs.Loading.{ProgramsDone}
-use Rattle.chaining.proofs.ChainService.{chain-refused, chain-runs, chain-means, area-refused, area-listed, listed-checks}
+use Rattle.chaining.proofs.ChainService.{chain-refused, chain-runs, chain-means, area-listed, listed-checks}
 use Rattle.cells.proofs.Rules.{blank-zeros}
 use borrow.Author.Needs.{needs}
 use Rattle.chaining.proofs.chain.chain.Statement.{statement}
@@ -39,9 +39,8 @@ returns c =
     let e = subst (ProgramsDone (a .table .now) (a .first .now) (a .second .now) (v .last .1 .1 .1 .0)) (c .before .read .given .1) (v .ensures) in
     let r = c .before .read .given .0 .0 in
     let o = chain-refused (a .table .now) (a .first .now) (a .second .now) (a .allowance) (length (a .workspace .now)) (length (a .answer .now)) r e in
-    let area = area-refused (a .table .now) (a .first .now) (a .second .now) (a .answer .now) (a .answer .now) r in
-    let checks = listed-checks (a .table .now) (a .first .now) (a .second .now) (a .allowance) (length (a .workspace .now)) (a .answer .now) (a .answer .now) _ (o .stated) area in
-    (o .stated, (o .workspace (a .workspace .now), (area, (checks, chain-means (a .table .now) (a .first .now) (a .second .now) (a .allowance) (length (a .workspace .now)) (length (a .answer .now)) _ (o .stated)))))
+    let checks = listed-checks (a .table .now) (a .first .now) (a .second .now) (a .allowance) (length (a .workspace .now)) (a .answer .now) (a .answer .now) _ (o .stated) refl in
+    (o .stated, (o .workspace (a .workspace .now), (refl, (checks, chain-means (a .table .now) (a .first .now) (a .second .now) (a .allowance) (length (a .workspace .now)) (length (a .answer .now)) _ (o .stated)))))
 
 same-length : tie.Need-same-length
 same-length c = search needs

@@ -5,12 +5,10 @@ use lib.ListN.{length, replicate, length-replicate}
 use Rattle.model.specs.Presentation.{Presentation}
 use Rattle.model.specs.Outcome.{answered}
 use Rattle.model.specs.Checks.{cleared}
-use Rattle.model.specs.Services.{Verdict}
 use Rattle.model.specs.Areas.{workspaceAfter}
 use Rattle.model.specs.Stated.{clearedAs}
 use Rattle.cells.specs.Stands.{Of}
 use Rattle.comparing.specs.Compare.{judgementAs, Judged}
-use Rattle.loading.proofs.Early.{refusal-same}
 use Rattle.comparing.proofs.Comparing.{comparison-refused, unequal-programs, equal-programs, judged-wipe}
 use borrow.Author.Needs.{needs}
 use Rattle.comparing.proofs.compare.compare_programs.Statement.{statement}
@@ -59,7 +57,7 @@ returns-2 c =
     let z = c .before .before .before .before .before .clear-cells in
     let r = c .before .clear .given .0 .0 in
     record {
-      workspace = z .ensures .1 ∙ (ap (λ x. workspaceAfter (clearedAs x) (s .args .workspace .now)) (c .before .clear .given .1) ∙ refusal-same (Unit {0}) Verdict r (s .args .workspace .now));
+      workspace = z .ensures .1 ∙ ap (λ x. workspaceAfter (clearedAs x) (s .args .workspace .now)) (c .before .clear .given .1);
       judged = λ T o u v eu ev. comparison-refused T u v (s .args .budget) (length (s .args .workspace .now)) r
           (subst (λ x. clearedAs x ≡ cleared T (s .args .budget) (length (s .args .workspace .now))) (c .before .clear .given .1) (z .ensures .0 T o));
     }

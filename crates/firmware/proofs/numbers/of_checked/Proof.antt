@@ -2,7 +2,6 @@
 use mathlib.Core.Path.{sym, ap, _∙_}
 use Rattle.model.specs.Stated.{checked}
 use Rattle.firmware.specs.Told.{told, passageTold}
-use Rattle.firmware.proofs.Telling.{refused-told}
 use borrow.Author.Needs.{needs}
 use Rattle.firmware.proofs.numbers.of_checked.Statement.{statement}
 use Rattle.firmware.proofs.numbers.of_checked.Tie as tie
@@ -32,7 +31,7 @@ counted-requires-3 : tie.Need-counted-requires-3
 counted-requires-3 c κs = search needs
 
 returns : tie.Need-returns
-returns c = c .of-refusal .ensures ∙ (refused-told passageTold (c .before .before .answer .given .0 .0) ∙ sym (ap (λ a. told passageTold (checked a)) (c .before .before .answer .given .1)))
+returns c = c .of-refusal .ensures ∙ sym (ap (λ a. told passageTold (checked a)) (c .before .before .answer .given .1))
 
 returns-2 : tie.Need-returns-2
 returns-2 c = c .counted .ensures ∙ sym (ap (λ a. told passageTold (checked a)) (c .before .enum-told .given .1))

@@ -2,7 +2,6 @@
 use mathlib.Core.Path.{sym, ap, _∙_}
 use Rattle.model.specs.Stated.{clearedAs}
 use Rattle.firmware.specs.Told.{told, passedTold}
-use Rattle.firmware.proofs.Telling.{refused-told}
 use borrow.Author.Needs.{needs}
 use Rattle.firmware.proofs.numbers.of_cleared.Statement.{statement}
 use Rattle.firmware.proofs.numbers.of_cleared.Tie as tie
@@ -20,7 +19,7 @@ alone-requires : tie.Need-alone-requires
 alone-requires c κs = search needs
 
 returns : tie.Need-returns
-returns c = c .of-refusal .ensures ∙ (refused-told passedTold (c .before .before .answer .given .0 .0) ∙ sym (ap (λ a. told passedTold (clearedAs a)) (c .before .before .answer .given .1)))
+returns c = c .of-refusal .ensures ∙ sym (ap (λ a. told passedTold (clearedAs a)) (c .before .before .answer .given .1))
 
 returns-2 : tie.Need-returns-2
 returns-2 c = c .alone .ensures ∙ sym (ap (λ a. told passedTold (clearedAs a)) (c .before .enum-told .given .1))

@@ -2,7 +2,6 @@
 use mathlib.Core.Path.{sym, ap, _∙_}
 use Rattle.model.specs.Stated.{packedAs}
 use Rattle.firmware.specs.Told.{told, bytesTold}
-use Rattle.firmware.proofs.Telling.{refused-told}
 use borrow.Author.Needs.{needs}
 use Rattle.firmware.proofs.numbers.of_packed.Statement.{statement}
 use Rattle.firmware.proofs.numbers.of_packed.Tie as tie
@@ -20,7 +19,7 @@ counted-requires : tie.Need-counted-requires
 counted-requires c κs = search needs
 
 returns : tie.Need-returns
-returns c = c .of-refusal .ensures ∙ (refused-told bytesTold (c .before .before .answer .given .0 .0) ∙ sym (ap (λ a. told bytesTold (packedAs a)) (c .before .before .answer .given .1)))
+returns c = c .of-refusal .ensures ∙ sym (ap (λ a. told bytesTold (packedAs a)) (c .before .before .answer .given .1))
 
 returns-2 : tie.Need-returns-2
 returns-2 c = c .counted .ensures ∙ sym (ap (λ a. told bytesTold (packedAs a)) (c .before .before .answer2 .given .1))

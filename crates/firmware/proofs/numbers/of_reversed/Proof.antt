@@ -2,7 +2,6 @@
 use mathlib.Core.Path.{sym, ap, _∙_}
 use Rattle.model.specs.Stated.{reversed}
 use Rattle.firmware.specs.Told.{told, sizesTold}
-use Rattle.firmware.proofs.Telling.{refused-told}
 use borrow.Author.Needs.{needs}
 use Rattle.firmware.proofs.numbers.of_reversed.Statement.{statement}
 use Rattle.firmware.proofs.numbers.of_reversed.Tie as tie
@@ -20,7 +19,7 @@ cast-t9 : tie.Need-cast-t9
 cast-t9 c = search needs
 
 returns : tie.Need-returns
-returns c = c .of-refusal .ensures ∙ (refused-told sizesTold (c .before .before .answer .given .0 .0) ∙ sym (ap (λ a. told sizesTold (reversed a)) (c .before .before .answer .given .1)))
+returns c = c .of-refusal .ensures ∙ sym (ap (λ a. told sizesTold (reversed a)) (c .before .before .answer .given .1))
 
 returns-2 : tie.Need-returns-2
 returns-2 c = sym (ap (λ a. told sizesTold (reversed a)) (c .before .answer2 .given .1))

@@ -1,0 +1,16 @@
+-- `model::refusals::with_place` meets its contract.
+use borrow.Author.Needs.{needs}
+use Rattle.model.proofs.refusals.with_place.Statement.{statement}
+use Rattle.model.proofs.refusals.with_place.Tie as tie
+
+-- for each arm what it knows of the place and what its call asks; then what each arm gives
+pub with-place-spec : {M : Type 1} → statement M
+with-place-spec =
+    tie.close
+    (tie.spec
+    (λ c. search needs)
+    (λ c κs. search needs)
+    (λ c. search needs)
+    (λ c κs. search needs)
+    (λ c. rw (c .before .enum-told .given .1) (c .alone .ensures))
+    (λ c. rw (c .before .before .place .given .1) (c .with-triple .ensures)))

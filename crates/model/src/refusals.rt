@@ -1,0 +1,88 @@
+// A refusal in numbers, as the bench reader and C are told it.
+ghost use mathlib.Core.List.{[], _∷_};
+ghost use Rattle.model.specs.Stated.{numbered, placeNumbers};
+ghost use Rattle.model.specs.Refusals.{RefusalTold};
+use crate::answers::Pair;
+use crate::answers::Place;
+use crate::answers::Refusal;
+use crate::answers::Triple;
+
+// `place` is what the place is: 0 none or the programs, 1 a pair, 2 a triple. `count` of `number`, `a`, `b` and `c` are the numbers to tell; the
+// others are 0.
+pub struct RefusalNumbers {
+    pub number: u8,
+    pub place: u8,
+    pub a: u8,
+    pub b: u8,
+    pub c: u8,
+    pub count: usize,
+}
+
+pub(crate) fn alone(number: u8) -> RefusalNumbers
+    ensures { λ r. ⌜ RefusalTold r number [] ⌝ }
+{
+    RefusalNumbers {
+        number,
+        place: 0,
+        a: 0,
+        b: 0,
+        c: 0,
+        count: 1,
+    }
+}
+
+pub(crate) fn with_pair(number: u8, pair: Pair) -> RefusalNumbers
+    ensures { λ r. ⌜ RefusalTold r number (pair .a ∷ pair .b ∷ []) ⌝ }
+{
+    RefusalNumbers {
+        number,
+        place: 1,
+        a: pair.a,
+        b: pair.b,
+        c: 0,
+        count: 3,
+    }
+}
+
+pub(crate) fn with_triple(number: u8, triple: Triple) -> RefusalNumbers
+    ensures { λ r. ⌜ RefusalTold r number (triple .a ∷ triple .b ∷ triple .c ∷ []) ⌝ }
+{
+    RefusalNumbers {
+        number,
+        place: 2,
+        a: triple.a,
+        b: triple.b,
+        c: triple.c,
+        count: 4,
+    }
+}
+
+pub(crate) fn with_place(number: u8, place: Place) -> RefusalNumbers
+    ensures { λ r. ⌜ RefusalTold r number (placeNumbers place) ⌝ }
+{
+    match place {
+        Place::Programs => alone(number),
+        Place::Triple(triple) => with_triple(number, triple),
+    }
+}
+
+pub fn refusal_numbers(refusal: Refusal) -> RefusalNumbers
+    ensures { λ r. ⌜ RefusalTold r (numbered refusal .0) (numbered refusal .1) ⌝ }
+{
+    match refusal {
+        Refusal::TableEnds => alone(1),
+        Refusal::TableField => alone(2),
+        Refusal::TableTail => alone(3),
+        Refusal::ImageEnds => alone(4),
+        Refusal::ImageField => alone(5),
+        Refusal::ImageTail => alone(6),
+        Refusal::BackMove => alone(7),
+        Refusal::UnequalLengths(pair) => with_pair(8, pair),
+        Refusal::CubeFails(triple) => with_triple(9, triple),
+        Refusal::OpenPair(pair) => with_pair(10, pair),
+        Refusal::AllowanceUsed(place) => with_place(11, place),
+        Refusal::WorkspaceShort(place) => with_place(12, place),
+        Refusal::AnswerShort => alone(13),
+        Refusal::UnequalEnds => alone(14),
+    }
+}
