@@ -1,18 +1,15 @@
 /*
- * Reversing, comparing and packing of braiding programs.
+ * Reversing, comparing and packing of braiding programs: the interface of libbraid.a. docs/SPECIFICATION.md says what each call does, bit for
+ * bit; section numbers below are its.
  *
- * Each call takes its images and areas as a pointer and a number of bytes, and writes to no other memory. The caller owns all of them. No two
- * areas or images of a call may overlap, and none may be changed by another thread during the call. There is no global state, so calls on
- * different areas may run at the same time. A pointer must not be null, also where its length is 0.
+ * What a caller must keep (8.2). Each pointer is not null, also where its length is 0. No two images, areas or values of one call overlap, and no
+ * other thread touches them during the call. Nothing is promised where this is broken, and no call checks it. A call writes the workspace, the
+ * answer area and the four values, each only as said below, and no other memory; it keeps nothing, so calls on different memory may run at the
+ * same time.
  *
- * The result is 0 for an answer, else the number of a refusal. Every call sets all four values:
- *
- *   reverse             length of the numerator, length of the denominator, steps, 0
- *   clear               0, 0, 0, 0
- *   compare, chain      0 same or 1 different, steps, 0, 0
- *   check               0 joins, 1 breaks or 2 ends at another program; the entry that breaks, else 0; 0; 0
- *   pack, unpack        bytes written, 0, 0, 0
- *   refused             what the place is: 0 none or the programs, 1 a pair, 2 a triple; then its numbers, 0 where there are fewer
+ * What linking needs. The archive is for 64-bit x86 (System V calling convention). It wants memcpy and memset and no other symbol, and has no
+ * writable data. Its code uses SSE2 and the red zone below the stack pointer: do not call it where either is forbidden, as in an interrupt
+ * handler without a stack of its own. A call takes at most BRAID_STACK bytes of stack.
  */
 #ifndef BRAID_H
 #define BRAID_H
@@ -24,102 +21,174 @@
 extern "C" {
 #endif
 
-enum braid_result {
-    BRAID_ANSWER = 0,
-    BRAID_TABLE_ENDS = 1,       /* the table, packed or plain, ends before its last field */
-    BRAID_TABLE_FIELD = 2,      /* a table field names no move, or in plain form a number is out of range */
-    BRAID_TABLE_TAIL = 3,       /* a filling bit of the table is set, or bytes follow it */
-    BRAID_IMAGE_ENDS = 4,       /* a program or chain ends before its last field, or more than 4,095 moves are to be packed */
-    BRAID_IMAGE_FIELD = 5,      /* a program or chain field, or a byte to be packed, names no move */
-    BRAID_IMAGE_TAIL = 6,       /* a filling bit of that image is set, or bytes follow it */
-    BRAID_BACK_MOVE = 7,        /* a program that must be forward has a back move */
-    BRAID_UNEQUAL_LENGTHS = 8,  /* a pair fails the length check */
-    BRAID_CUBE_FAILS = 9,       /* a triple fails the cube check */
-    BRAID_OPEN_PAIR = 10,       /* reverse met an open pair; the back move's number comes first */
-    BRAID_ALLOWANCE_USED = 11,  /* the allowance is used; the place is a triple of the table, or the programs */
-    BRAID_WORKSPACE_SHORT = 12, /* the workspace is too short; the place likewise */
-    BRAID_ANSWER_SHORT = 13,    /* the answer area is too short */
-    BRAID_UNEQUAL_ENDS = 14     /* a comparison's reversing finished with two words of unequal length */
+#define BRAID_VERSION_MAJOR 1
+#define BRAID_VERSION_MINOR 0
+
+/* A result must be looked at, and no pointer may be null; told to the compiler where it can be. */
+#if defined(__GNUC__) || defined(__clang__)
+#define BRAID_CALL __attribute__((warn_unused_result, nonnull))
+#else
+#define BRAID_CALL
+#endif
+
+/* LIMITS AND SIZES (1.3, 5.10) */
+
+enum {
+    BRAID_MOST_TABLE_MOVES = 16,    /* n, the moves of a table */
+    BRAID_MOST_COMPLETION = 15,     /* moves of a completion */
+    BRAID_MOST_MOVES = 4095,        /* moves of a program in an image or in plain form */
+    BRAID_MOST_ENTRIES = 65535,     /* entries of a chain */
+    BRAID_MOST_ALLOWANCE = 65535,   /* the largest allowance */
+    BRAID_MOST_TABLE_BYTES = 1936,  /* the longest table image */
+    BRAID_MOST_PLAIN_BYTES = 3841,  /* the longest plain table */
+    BRAID_MOST_PROGRAM_BYTES = 2561, /* the longest program image; a plain program has a byte a move */
+    BRAID_MOST_CHAIN_BYTES = 163840, /* the longest chain image */
+    BRAID_BACK = 128,               /* a back move's byte is its number and this */
+    BRAID_OPEN = 255,               /* stands for an open pair in a plain table */
+    BRAID_VALUES = 4,               /* values that every call sets */
+    BRAID_STACK = 13312             /* bytes of stack that suffice for any call */
 };
 
+/* Bits of a move field under a table of n moves (5.2). */
+static inline unsigned braid_move_bits(unsigned n)
+{
+    unsigned bits = 0;
+    for (n = n - 1; n > 0; n = n / 2) {
+        bits++;
+    }
+    return bits;
+}
+
+/* Bytes of a chain image of so many entries under a table of n moves (5.6): what braid_chain wants, with the steps as entries. */
+static inline size_t braid_chain_bytes(unsigned n, size_t entries)
+{
+    return (16 + entries * (12 + 2 * (size_t)braid_move_bits(n)) + 7) / 8;
+}
+
+/* RESULTS (section 7) */
+
+enum braid_result {
+    BRAID_ANSWER = 0,
+    BRAID_TABLE_ENDS = 1,
+    BRAID_TABLE_FIELD = 2,
+    BRAID_TABLE_TAIL = 3,
+    BRAID_IMAGE_ENDS = 4,
+    BRAID_IMAGE_FIELD = 5,
+    BRAID_IMAGE_TAIL = 6,
+    BRAID_BACK_MOVE = 7,
+    BRAID_UNEQUAL_LENGTHS = 8,
+    BRAID_CUBE_FAILS = 9,
+    BRAID_OPEN_PAIR = 10,
+    BRAID_ALLOWANCE_USED = 11,
+    BRAID_WORKSPACE_SHORT = 12,
+    BRAID_ANSWER_SHORT = 13,
+    BRAID_UNEQUAL_ENDS = 14
+};
+
+/* values[0] after compare and chain */
+enum braid_verdict { BRAID_SAME = 0, BRAID_DIFFERENT = 1 };
+
+/* values[0] after check */
+enum braid_passage { BRAID_JOINS = 0, BRAID_BREAKS = 1, BRAID_ENDS_ELSEWHERE = 2 };
+
+/* values[0] after a refusal: how many of values[1] to values[3] are the numbers of its place follows from it, 0, 2 or 3; the others are 0 */
+enum braid_place { BRAID_NO_PLACE = 0, BRAID_PAIR = 1, BRAID_TRIPLE = 2 };
+
+/* A result for people. */
+static inline const char *braid_text(uint8_t result)
+{
+    static const char *const texts[] = {
+        "answered",
+        "the table ends before its last field",
+        "a field of the table names no move, or a number of its plain form is out of range",
+        "a filling bit of the table is set, or bytes follow it",
+        "a program or chain ends before its last field, or has too many moves to be packed",
+        "a field of a program or chain, or a byte to be packed, names no move",
+        "a filling bit of a program or chain is set, or bytes follow it",
+        "a program that must be forward has a back move",
+        "the two completions of a pair have different lengths",
+        "a triple of the table breaks the cube rule",
+        "the reversing met an open pair",
+        "the allowance is used",
+        "the workspace is too short",
+        "the answer area is too short",
+        "a comparison ended with two words of different lengths"
+    };
+    return result < sizeof texts / sizeof *texts ? texts[result] : "no result of this library";
+}
+
 /*
- * What the parameters are in every call:
+ * THE CALLS (sections 6 and 8)
  *
- *   table, program, first, second, chain   images, as document 01 packs them; only read
- *   plain                                  a table or program unpacked, a byte a number; only read
- *   allowance                              the most steps of one reversing, 0 to 65,535
- *   workspace                              a byte holds a move; what it holds on entry plays no part. Refusals 1 to 8 leave it as found, after
- *                                          any other outcome it is all zero
- *   answer                                 gets the answer from its first byte on; bytes after the answer stay as found, and so do all after a
+ *   table, program, first, second, chain   images (5.4 to 5.6); only read
+ *   plain                                  a plain table or program (5.7, 5.8); only read
+ *   allowance                              the most steps of one reversing
+ *   workspace                              a byte holds a move; what it holds on entry plays no part. After refusals 1 to 8 it is as found, after
+ *                                          every other outcome all its bytes are zero
+ *   answer                                 begins with the answer's bytes after an answer; every other byte is as found, and so are all after a
  *                                          refusal
- *   values                                 set by every call, as listed above
+ *   values                                 all four are set by every call
  *
- * No call takes memory from a heap. As compiled for x86-64, packing and unpacking a table take 13 KiB of stack, every other call 6 KiB.
+ * A larger allowance, workspace or answer area changes no outcome but 11, 12 and 13. A workspace of 32,768 bytes is usual.
  */
 
 /*
- * Reverses a program. The answer area gets the numerator, then the denominator, a byte a move, both forward.
- * Values: length of the numerator, length of the denominator, steps. Refusals: 1 to 6, 10, 11, 12, 13.
+ * Reverses a program. Answer area: the numerator, then the denominator, a byte a move, both forward; one as long as the workspace always suffices.
+ * Values: length of the numerator, length of the denominator, steps, 0. Refusals: 1 to 6, 10 (back move's number first), 11, 12, 13.
  */
-uint8_t braid_reverse(const uint8_t *table, size_t table_length, const uint8_t *program, size_t program_length, uint16_t allowance,
-                      uint8_t *workspace, size_t workspace_length, uint8_t *answer, size_t answer_length, uint64_t values[4]);
+BRAID_CALL uint8_t braid_reverse(const uint8_t *table, size_t table_length, const uint8_t *program, size_t program_length, uint16_t allowance,
+                                 uint8_t *workspace, size_t workspace_length, uint8_t *answer, size_t answer_length, uint64_t *values);
 
 /*
  * The length check of a table, then its cube check.
- * Values: none. Refusals: 1 to 3, 8, 9, 11, 12.
+ * Values: 0, 0, 0, 0. Refusals: 1 to 3, 8, 9, 11, 12.
  */
-uint8_t braid_clear(const uint8_t *table, size_t table_length, uint16_t allowance, uint8_t *workspace, size_t workspace_length,
-                    uint64_t values[4]);
+BRAID_CALL uint8_t braid_clear(const uint8_t *table, size_t table_length, uint16_t allowance, uint8_t *workspace, size_t workspace_length,
+                               uint64_t *values);
 
 /*
- * Clears the table and compares two programs of forward moves under it: the same exactly if a chain of swaps joins them.
- * Values: 0 same or 1 different, steps. Refusals: 1 to 9, 11, 12, 14.
+ * Clears the table and compares two programs of forward moves under it: the same exactly if a chain of swaps joins them, unless stopped.
+ * Values: BRAID_SAME or BRAID_DIFFERENT, steps, 0, 0. Refusals: 1 to 9, 11, 12, 14 (which never comes).
  */
-uint8_t braid_compare(const uint8_t *table, size_t table_length, const uint8_t *first, size_t first_length, const uint8_t *second,
-                      size_t second_length, uint16_t allowance, uint8_t *workspace, size_t workspace_length, uint64_t values[4]);
+BRAID_CALL uint8_t braid_compare(const uint8_t *table, size_t table_length, const uint8_t *first, size_t first_length, const uint8_t *second,
+                                 size_t second_length, uint16_t allowance, uint8_t *workspace, size_t workspace_length, uint64_t *values);
 
 /*
- * As compare. After 'same' the answer area begins with the image of a chain from the first program to the second; its first 16 bits are the
- * number of its entries, at most the steps. After 'different' the area is as found.
- * Values: as compare. Refusals: as compare, and 13 after 'same' if the area is too short for as many entries as there were steps.
+ * As compare. After 'same' the answer area begins with the image of a chain from the first program to the second, at most as many entries as
+ * steps; its first 16 bits are their number e, so that it has braid_chain_bytes(n, e) bytes, and braid_check answers it with BRAID_JOINS. After
+ * 'different' the area is as found.
+ * Values: as compare. Refusals: as compare, and 13 after 'same' if the area is shorter than braid_chain_bytes(n, steps).
  */
-uint8_t braid_chain(const uint8_t *table, size_t table_length, const uint8_t *first, size_t first_length, const uint8_t *second,
-                    size_t second_length, uint16_t allowance, uint8_t *workspace, size_t workspace_length, uint8_t *answer,
-                    size_t answer_length, uint64_t values[4]);
+BRAID_CALL uint8_t braid_chain(const uint8_t *table, size_t table_length, const uint8_t *first, size_t first_length, const uint8_t *second,
+                               size_t second_length, uint16_t allowance, uint8_t *workspace, size_t workspace_length, uint8_t *answer,
+                               size_t answer_length, uint64_t *values);
 
 /*
- * Follows a chain, whoever made it, from the first program of forward moves; the table need not clear. The workspace holds the word on its way.
- * Values: 0 it joins the programs, 1 it breaks or 2 it ends at another program; the entry that breaks, from 0. Refusals: 1 to 7, 12.
+ * Follows a chain, whoever made it, from the first program of forward moves; the table need not clear. The workspace holds the word on its way; one
+ * as long as the first program suffices for a chain that braid_chain listed.
+ * Values: BRAID_JOINS, BRAID_BREAKS or BRAID_ENDS_ELSEWHERE; the entry that breaks, from 0, else 0; 0; 0. Refusals: 1 to 7, 12.
  */
-uint8_t braid_check(const uint8_t *table, size_t table_length, const uint8_t *first, size_t first_length, const uint8_t *second,
-                    size_t second_length, const uint8_t *chain, size_t chain_length, uint8_t *workspace, size_t workspace_length,
-                    uint64_t values[4]);
+BRAID_CALL uint8_t braid_check(const uint8_t *table, size_t table_length, const uint8_t *first, size_t first_length, const uint8_t *second,
+                               size_t second_length, const uint8_t *chain, size_t chain_length, uint8_t *workspace, size_t workspace_length,
+                               uint64_t *values);
 
 /*
- * The image of a plain table: at most 1,936 bytes.
- * Values: bytes written. Refusals: 1, 2, 3, 13.
+ * The image of a plain table, or the plain form of a table image. Values: bytes written, 0, 0, 0. Refusals: 1, 2, 3, 13.
  */
-uint8_t braid_pack_table(const uint8_t *plain, size_t plain_length, uint8_t *answer, size_t answer_length, uint64_t values[4]);
+BRAID_CALL uint8_t braid_pack_table(const uint8_t *plain, size_t plain_length, uint8_t *answer, size_t answer_length, uint64_t *values);
+BRAID_CALL uint8_t braid_unpack_table(const uint8_t *table, size_t table_length, uint8_t *answer, size_t answer_length, uint64_t *values);
 
 /*
- * The plain form of a table: at most 3,841 bytes.
- * Values: bytes written. Refusals: 1, 2, 3, 13.
+ * The image of a plain program under its table. Values: bytes written, 0, 0, 0. Refusals: 1 to 5, 13.
  */
-uint8_t braid_unpack_table(const uint8_t *table, size_t table_length, uint8_t *answer, size_t answer_length, uint64_t values[4]);
+BRAID_CALL uint8_t braid_pack_program(const uint8_t *table, size_t table_length, const uint8_t *plain, size_t plain_length, uint8_t *answer,
+                                      size_t answer_length, uint64_t *values);
 
 /*
- * The image of a plain program under its table: at most 2,561 bytes. A forward move is its number, a back move 128 more.
- * Values: bytes written. Refusals: 1 to 5, 13.
+ * The plain form of a program image under its table. Values: bytes written, 0, 0, 0. Refusals: 1 to 6, 13.
  */
-uint8_t braid_pack_program(const uint8_t *table, size_t table_length, const uint8_t *plain, size_t plain_length, uint8_t *answer,
-                           size_t answer_length, uint64_t values[4]);
-
-/*
- * The plain form of a program: a byte a move, at most 4,095.
- * Values: bytes written. Refusals: 1 to 6, 13.
- */
-uint8_t braid_unpack_program(const uint8_t *table, size_t table_length, const uint8_t *program, size_t program_length, uint8_t *answer,
-                             size_t answer_length, uint64_t values[4]);
+BRAID_CALL uint8_t braid_unpack_program(const uint8_t *table, size_t table_length, const uint8_t *program, size_t program_length,
+                                        uint8_t *answer, size_t answer_length, uint64_t *values);
 
 #ifdef __cplusplus
 }

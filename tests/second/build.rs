@@ -1,4 +1,4 @@
-//! Links the static library that `rt staticlib firmware` writes.
+//! Links the static library that `rt staticlib braid` writes.
 use std::env;
 use std::path::PathBuf;
 
@@ -6,6 +6,6 @@ fn main() {
     let package = PathBuf::from(env::var("CARGO_MANIFEST_DIR").unwrap());
     let library = package.join("../../target/staticlib");
     println!("cargo:rustc-link-search=native={}", library.display());
-    println!("cargo:rustc-link-lib=static=firmware");
-    println!("cargo:rerun-if-changed={}", library.join("libfirmware.a").display());
+    println!("cargo:rustc-link-lib=static=braid");
+    println!("cargo:rerun-if-changed={}", library.join("libbraid.a").display());
 }

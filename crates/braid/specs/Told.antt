@@ -1,0 +1,42 @@
+-- How an outcome is told in numbers to C: 0 for an answer, else the refusal's number, then four values.
+use Prim.Native.Nat.{ℕ}
+use Rattle.model.specs.Outcome.{Outcome, answered, refused}
+use Rattle.model.specs.Stated.{Sizes}
+use Rattle.model.specs.Refusals.{numbersTold}
+use Rattle.model.specs.Services.{Verdict, same-after, different-after, Passage, joins, breaks, ends-elsewhere}
+use Rattle.model.specs.declared.refusals.RefusalNumbers.{RefusalNumbers}
+use Rattle.braid.specs.declared.numbers.Numbers.{Numbers}
+
+abbrev numbers : ℕ → ℕ → ℕ → ℕ → ℕ → Numbers
+numbers n a b c d = record { code = n; first = a; second = b; third = c; fourth = d }
+
+-- a refusal: its number, what its place is, then the numbers of the place
+abbrev pub refusedTold : RefusalNumbers → Numbers
+refusedTold r = numbers (r .number) (r .place) (r .a) (r .b) (r .c)
+
+abbrev pub told : {A : Type 0} → (A → Numbers) → Outcome A → Numbers
+told tell (answered x) = tell x
+told tell (refused n ps) = refusedTold (numbersTold n ps)
+
+-- reverse: the lengths of N and D, and the steps
+abbrev pub sizesTold : Sizes → Numbers
+sizesTold s = numbers 0 (s .numerator) (s .denominator) (s .steps) 0
+
+-- clear
+abbrev pub passedTold : Unit {0} → Numbers
+passedTold x = numbers 0 0 0 0 0
+
+-- compare and chain: 0 same or 1 different, then the steps
+abbrev pub verdictTold : Verdict → Numbers
+verdictTold (same-after k) = numbers 0 0 k 0 0
+verdictTold (different-after k) = numbers 0 1 k 0 0
+
+-- check: 0 joins, 1 breaks with the entry's number, 2 ends at another program
+abbrev pub passageTold : Passage → Numbers
+passageTold joins = numbers 0 0 0 0 0
+passageTold (breaks k) = numbers 0 1 k 0 0
+passageTold ends-elsewhere = numbers 0 2 0 0 0
+
+-- packing and unpacking: the bytes written
+abbrev pub bytesTold : ℕ → Numbers
+bytesTold k = numbers 0 k 0 0 0

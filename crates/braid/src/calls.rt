@@ -1,0 +1,174 @@
+// One function for C for each service. An area is a pointer and a length; no two may overlap.
+ghost use lib.ListN.{length};
+ghost use mathlib.Core.Path.{_≡_};
+ghost use Rattle.model.specs.Outcome.{mapped, answered};
+ghost use Rattle.model.specs.Images.{readTable};
+ghost use Rattle.model.specs.Plain.{readPlainTable};
+ghost use Rattle.model.specs.Services.{reverse, clear, compare, chain, check, packTable, unpackTable, packProgram, unpackProgram, listable, programUnder, plainProgramUnder};
+ghost use Rattle.model.specs.Areas.{outputAfter, workspaceAfter, fractionBytes, ChainArea, ReadsBack};
+ghost use Rattle.model.specs.Stated.{sizes};
+ghost use Rattle.clearing.specs.Clear.{ClearMeaning};
+ghost use Rattle.comparing.specs.Compare.{Meaning};
+ghost use Rattle.chaining.specs.Chain.{ListedChecks};
+ghost use Rattle.checking.specs.Check.{CheckMeaning};
+ghost use Rattle.braid.specs.Told.{told, sizesTold, passedTold, verdictTold, passageTold, bytesTold};
+ghost use Rattle.braid.specs.Values.{Tells};
+use crate::numbers::Numbers;
+use crate::numbers::of_checked;
+use crate::numbers::of_cleared;
+use crate::numbers::of_compared;
+use crate::numbers::of_packed;
+use crate::numbers::of_reversed;
+use chaining::chain::chain;
+use checking::check::check;
+use clearing::clear::clear;
+use comparing::compare::compare;
+use packing::pack_program;
+use packing::pack_table;
+use packing::unpack_program;
+use packing::unpack_table;
+use reversal::reverse::reverse;
+
+// Sets all four values and gives the result.
+pub(crate) fn tell(numbers: Numbers, values: &mut [u64; 4]) -> u8
+    ensures { λ r. ⌜ Tells numbers r (now (values .exit)) ⌝ }
+{
+    *values = [numbers.first, numbers.second, numbers.third, numbers.fourth];
+    numbers.code
+}
+
+#[no_mangle]
+pub extern "C" fn braid_reverse(
+    table: &[u8],
+    program: &[u8],
+    allowance: u16,
+    workspace: &mut [u8],
+    answer: &mut [u8],
+    values: &mut [u64; 4],
+) -> u8
+    ensures told { λ r. ⌜ Tells (told sizesTold (mapped sizes (reverse (now (table .entry)) (now (program .entry)) allowance (length (now (workspace .entry))) (length (now (answer .entry)))))) r (now (values .exit)) ⌝ }
+    ensures answer { λ r. ⌜ now (answer .exit) ≡ outputAfter fractionBytes (reverse (now (table .entry)) (now (program .entry)) allowance (length (now (workspace .entry))) (length (now (answer .entry)))) (now (answer .entry)) ⌝ }
+    ensures workspace { λ r. ⌜ now (workspace .exit) ≡ workspaceAfter (reverse (now (table .entry)) (now (program .entry)) allowance (length (now (workspace .entry))) (length (now (answer .entry)))) (now (workspace .entry)) ⌝ }
+{
+    let reversed = reverse(table, program, allowance, workspace, answer);
+    tell(of_reversed(reversed), values)
+}
+
+#[no_mangle]
+pub extern "C" fn braid_clear(
+    table: &[u8],
+    allowance: u16,
+    workspace: &mut [u8],
+    values: &mut [u64; 4],
+) -> u8
+    ensures told { λ r. ⌜ Tells (told passedTold (clear (now (table .entry)) allowance (length (now (workspace .entry))))) r (now (values .exit)) ⌝ }
+    ensures workspace { λ r. ⌜ now (workspace .exit) ≡ workspaceAfter (clear (now (table .entry)) allowance (length (now (workspace .entry)))) (now (workspace .entry)) ⌝ }
+    ensures meaning { λ r. ⌜ ClearMeaning (now (table .entry)) (clear (now (table .entry)) allowance (length (now (workspace .entry)))) ⌝ }
+{
+    let cleared = clear(table, allowance, workspace);
+    tell(of_cleared(cleared), values)
+}
+
+#[no_mangle]
+pub extern "C" fn braid_compare(
+    table: &[u8],
+    first: &[u8],
+    second: &[u8],
+    allowance: u16,
+    workspace: &mut [u8],
+    values: &mut [u64; 4],
+) -> u8
+    ensures told { λ r. ⌜ Tells (told verdictTold (compare (now (table .entry)) (now (first .entry)) (now (second .entry)) allowance (length (now (workspace .entry))))) r (now (values .exit)) ⌝ }
+    ensures workspace { λ r. ⌜ now (workspace .exit) ≡ workspaceAfter (compare (now (table .entry)) (now (first .entry)) (now (second .entry)) allowance (length (now (workspace .entry)))) (now (workspace .entry)) ⌝ }
+    ensures meaning { λ r. ⌜ Meaning (now (table .entry)) (now (first .entry)) (now (second .entry)) allowance (length (now (workspace .entry))) (λ T v. answered v) (compare (now (table .entry)) (now (first .entry)) (now (second .entry)) allowance (length (now (workspace .entry)))) ⌝ }
+{
+    let compared = compare(table, first, second, allowance, workspace);
+    tell(of_compared(compared), values)
+}
+
+#[no_mangle]
+pub extern "C" fn braid_chain(
+    table: &[u8],
+    first: &[u8],
+    second: &[u8],
+    allowance: u16,
+    workspace: &mut [u8],
+    answer: &mut [u8],
+    values: &mut [u64; 4],
+) -> u8
+    ensures told { λ r. ⌜ Tells (told verdictTold (chain (now (table .entry)) (now (first .entry)) (now (second .entry)) allowance (length (now (workspace .entry))) (length (now (answer .entry))))) r (now (values .exit)) ⌝ }
+    ensures workspace { λ r. ⌜ now (workspace .exit) ≡ workspaceAfter (chain (now (table .entry)) (now (first .entry)) (now (second .entry)) allowance (length (now (workspace .entry))) (length (now (answer .entry)))) (now (workspace .entry)) ⌝ }
+    ensures area { λ r. ⌜ ChainArea (now (table .entry)) (now (first .entry)) (now (second .entry)) (now (answer .entry)) (now (answer .exit)) (chain (now (table .entry)) (now (first .entry)) (now (second .entry)) allowance (length (now (workspace .entry))) (length (now (answer .entry)))) ⌝ }
+    ensures checks { λ r. ⌜ ListedChecks (now (table .entry)) (now (first .entry)) (now (second .entry)) (now (answer .entry)) (now (answer .exit)) (chain (now (table .entry)) (now (first .entry)) (now (second .entry)) allowance (length (now (workspace .entry))) (length (now (answer .entry)))) ⌝ }
+    ensures meaning { λ r. ⌜ Meaning (now (table .entry)) (now (first .entry)) (now (second .entry)) allowance (length (now (workspace .entry))) (λ T v. listable (T .size) (length (now (answer .entry))) v) (chain (now (table .entry)) (now (first .entry)) (now (second .entry)) allowance (length (now (workspace .entry))) (length (now (answer .entry)))) ⌝ }
+{
+    let compared = chain(table, first, second, allowance, workspace, answer);
+    tell(of_compared(compared), values)
+}
+
+#[no_mangle]
+pub extern "C" fn braid_check(
+    table: &[u8],
+    first: &[u8],
+    second: &[u8],
+    entries: &[u8],
+    workspace: &mut [u8],
+    values: &mut [u64; 4],
+) -> u8
+    ensures told { λ r. ⌜ Tells (told passageTold (check (now (table .entry)) (now (first .entry)) (now (second .entry)) (now (entries .entry)) (length (now (workspace .entry))))) r (now (values .exit)) ⌝ }
+    ensures workspace { λ r. ⌜ now (workspace .exit) ≡ workspaceAfter (check (now (table .entry)) (now (first .entry)) (now (second .entry)) (now (entries .entry)) (length (now (workspace .entry)))) (now (workspace .entry)) ⌝ }
+    ensures meaning { λ r. ⌜ CheckMeaning (now (table .entry)) (now (first .entry)) (now (second .entry)) (now (entries .entry)) (length (now (workspace .entry))) (check (now (table .entry)) (now (first .entry)) (now (second .entry)) (now (entries .entry)) (length (now (workspace .entry)))) ⌝ }
+{
+    let checked = check(table, first, second, entries, workspace);
+    tell(of_checked(checked), values)
+}
+
+#[no_mangle]
+pub extern "C" fn braid_pack_table(plain: &[u8], answer: &mut [u8], values: &mut [u64; 4]) -> u8
+    ensures told { λ r. ⌜ Tells (told bytesTold (mapped length (packTable (now (plain .entry)) (length (now (answer .entry)))))) r (now (values .exit)) ⌝ }
+    ensures answer { λ r. ⌜ now (answer .exit) ≡ outputAfter (λ b. b) (packTable (now (plain .entry)) (length (now (answer .entry)))) (now (answer .entry)) ⌝ }
+    ensures readable { λ r. ⌜ ReadsBack (readPlainTable (now (plain .entry))) readTable (mapped length (packTable (now (plain .entry)) (length (now (answer .entry))))) (now (answer .exit)) ⌝ }
+{
+    let packed = pack_table::pack(plain, answer);
+    tell(of_packed(packed), values)
+}
+
+#[no_mangle]
+pub extern "C" fn braid_unpack_table(table: &[u8], answer: &mut [u8], values: &mut [u64; 4]) -> u8
+    ensures told { λ r. ⌜ Tells (told bytesTold (mapped length (unpackTable (now (table .entry)) (length (now (answer .entry)))))) r (now (values .exit)) ⌝ }
+    ensures answer { λ r. ⌜ now (answer .exit) ≡ outputAfter (λ b. b) (unpackTable (now (table .entry)) (length (now (answer .entry)))) (now (answer .entry)) ⌝ }
+    ensures readable { λ r. ⌜ ReadsBack (readTable (now (table .entry))) readPlainTable (mapped length (unpackTable (now (table .entry)) (length (now (answer .entry))))) (now (answer .exit)) ⌝ }
+{
+    let unpacked = unpack_table::unpack(table, answer);
+    tell(of_packed(unpacked), values)
+}
+
+#[no_mangle]
+pub extern "C" fn braid_pack_program(
+    table: &[u8],
+    plain: &[u8],
+    answer: &mut [u8],
+    values: &mut [u64; 4],
+) -> u8
+    ensures told { λ r. ⌜ Tells (told bytesTold (mapped length (packProgram (now (table .entry)) (now (plain .entry)) (length (now (answer .entry)))))) r (now (values .exit)) ⌝ }
+    ensures answer { λ r. ⌜ now (answer .exit) ≡ outputAfter (λ b. b) (packProgram (now (table .entry)) (now (plain .entry)) (length (now (answer .entry)))) (now (answer .entry)) ⌝ }
+    ensures readable { λ r. ⌜ ReadsBack (plainProgramUnder (now (table .entry)) (now (plain .entry))) (programUnder (now (table .entry))) (mapped length (packProgram (now (table .entry)) (now (plain .entry)) (length (now (answer .entry))))) (now (answer .exit)) ⌝ }
+{
+    let packed = pack_program::pack(table, plain, answer);
+    tell(of_packed(packed), values)
+}
+
+#[no_mangle]
+pub extern "C" fn braid_unpack_program(
+    table: &[u8],
+    program: &[u8],
+    answer: &mut [u8],
+    values: &mut [u64; 4],
+) -> u8
+    ensures told { λ r. ⌜ Tells (told bytesTold (mapped length (unpackProgram (now (table .entry)) (now (program .entry)) (length (now (answer .entry)))))) r (now (values .exit)) ⌝ }
+    ensures answer { λ r. ⌜ now (answer .exit) ≡ outputAfter (λ b. b) (unpackProgram (now (table .entry)) (now (program .entry)) (length (now (answer .entry)))) (now (answer .entry)) ⌝ }
+    ensures readable { λ r. ⌜ ReadsBack (programUnder (now (table .entry)) (now (program .entry))) (plainProgramUnder (now (table .entry))) (mapped length (unpackProgram (now (table .entry)) (now (program .entry)) (length (now (answer .entry))))) (now (answer .exit)) ⌝ }
+{
+    let unpacked = unpack_program::unpack(table, program, answer);
+    tell(of_packed(unpacked), values)
+}

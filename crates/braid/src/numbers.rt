@@ -1,0 +1,115 @@
+// How an answer is told in numbers: 0 or the refusal's number, then four values.
+ghost use mathlib.Core.Path.{_≡_};
+ghost use Rattle.model.specs.Stated.{refusal, reversed, clearedAs, compared, checked, packedAs};
+ghost use Rattle.braid.specs.Told.{told, sizesTold, passedTold, verdictTold, passageTold, bytesTold};
+use model::answers::Checked;
+use model::answers::Cleared;
+use model::answers::Compared;
+use model::answers::Packed;
+use model::answers::Refusal;
+use model::answers::Reversed;
+use model::refusals::refusal_numbers;
+
+pub struct Numbers {
+    pub code: u8,
+    pub first: u64,
+    pub second: u64,
+    pub third: u64,
+    pub fourth: u64,
+}
+
+pub(crate) fn alone(code: u8) -> Numbers
+    ensures { λ r. ⌜ r ≡ record { code = code; first = 0; second = 0; third = 0; fourth = 0 } ⌝ }
+{
+    Numbers {
+        code,
+        first: 0,
+        second: 0,
+        third: 0,
+        fourth: 0,
+    }
+}
+
+// A refusal is told the same whatever the answer would have been.
+pub(crate) fn of_refusal(refused: Refusal) -> Numbers
+    ensures { λ r. ⌜ r ≡ told passedTold (refusal refused) ⌝ }
+{
+    let told = refusal_numbers(refused);
+    Numbers {
+        code: told.number,
+        first: told.place as u64,
+        second: told.a as u64,
+        third: told.b as u64,
+        fourth: told.c as u64,
+    }
+}
+
+pub(crate) fn of_reversed(answer: Reversed) -> Numbers
+    ensures { λ r. ⌜ r ≡ told sizesTold (reversed answer) ⌝ }
+{
+    match answer {
+        Reversed::Refused(refusal) => of_refusal(refusal),
+        Reversed::Answer {
+            numerator,
+            denominator,
+            steps,
+        } => Numbers {
+            code: 0,
+            first: numerator as u64,
+            second: denominator as u64,
+            third: steps as u64,
+            fourth: 0,
+        },
+    }
+}
+
+pub(crate) fn of_cleared(answer: Cleared) -> Numbers
+    ensures { λ r. ⌜ r ≡ told passedTold (clearedAs answer) ⌝ }
+{
+    match answer {
+        Cleared::Refused(refusal) => of_refusal(refusal),
+        Cleared::Passed => alone(0),
+    }
+}
+
+pub(crate) fn counted(first: u64, second: u64) -> Numbers
+    ensures { λ r. ⌜ r ≡ record { code = 0; first = first; second = second; third = 0; fourth = 0 } ⌝ }
+{
+    Numbers {
+        code: 0,
+        first,
+        second,
+        third: 0,
+        fourth: 0,
+    }
+}
+
+pub(crate) fn of_compared(answer: Compared) -> Numbers
+    ensures { λ r. ⌜ r ≡ told verdictTold (compared answer) ⌝ }
+{
+    match answer {
+        Compared::Refused(refusal) => of_refusal(refusal),
+        Compared::Same { steps } => counted(0, steps as u64),
+        Compared::Different { steps } => counted(1, steps as u64),
+    }
+}
+
+pub(crate) fn of_checked(answer: Checked) -> Numbers
+    ensures { λ r. ⌜ r ≡ told passageTold (checked answer) ⌝ }
+{
+    match answer {
+        Checked::Refused(refusal) => of_refusal(refusal),
+        Checked::Joins => counted(0, 0),
+        Checked::Breaks { entry } => counted(1, entry as u64),
+        Checked::EndsElsewhere => counted(2, 0),
+    }
+}
+
+pub(crate) fn of_packed(answer: Packed) -> Numbers
+    ensures { λ r. ⌜ r ≡ told bytesTold (packedAs answer) ⌝ }
+{
+    match answer {
+        Packed::Refused(refusal) => of_refusal(refusal),
+        Packed::Written { bytes } => counted(bytes as u64, 0),
+    }
+}

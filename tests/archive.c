@@ -1,0 +1,152 @@
+/*
+ * What the header says of sizes and of stack, held against the library: each call runs on a stack of its own that is painted before, and the
+ * longest forms are packed. The last line is 'N passed, M failed'.
+ */
+#define _XOPEN_SOURCE 700
+#include "braid.h"
+
+#include <stdio.h>
+#include <string.h>
+#include <ucontext.h>
+
+enum { PAINT = 0xA5, STACK = 65536, AREA = 200000 };
+
+static uint8_t stack[STACK], workspace[AREA], answer[AREA], plain[AREA], table[AREA], program[AREA], chain[AREA];
+static uint64_t values[BRAID_VALUES];
+static size_t table_length, program_length, chain_length, plain_length;
+static uint8_t result;
+static int passed, failed;
+static ucontext_t here, there;
+
+static void hold(const char *name, int holds)
+{
+    if (holds) {
+        passed++;
+    } else {
+        failed++;
+        printf("failed: %s; result %d, values %llu %llu\n", name, result, (unsigned long long)values[0], (unsigned long long)values[1]);
+    }
+}
+
+/* Runs a call on the painted stack; the bytes that it used. */
+static size_t depth(void (*call)(void))
+{
+    size_t low = 0;
+    memset(stack, PAINT, sizeof stack);
+    getcontext(&there);
+    there.uc_stack.ss_sp = stack;
+    there.uc_stack.ss_size = sizeof stack;
+    there.uc_link = &here;
+    makecontext(&there, call, 0);
+    swapcontext(&here, &there);
+    while (low < sizeof stack && stack[low] == PAINT) {
+        low++;
+    }
+    return sizeof stack - low;
+}
+
+/* A plain table of n moves, each pair with two completions of so many moves. */
+static void fill_table(uint8_t n, uint8_t moves)
+{
+    unsigned pair, i;
+    plain_length = 0;
+    plain[plain_length++] = n;
+    for (pair = 0; pair < n * (n - 1u) / 2; pair++) {
+        for (i = 0; i < 2; i++) {
+            plain[plain_length++] = moves;
+            memset(plain + plain_length, 1, moves);
+            plain_length += moves;
+        }
+    }
+}
+
+static void pack_table(void) { result = braid_pack_table(plain, plain_length, table, AREA, values); }
+static void unpack_table(void) { result = braid_unpack_table(table, table_length, answer, AREA, values); }
+static void pack_program(void) { result = braid_pack_program(table, table_length, plain, plain_length, program, AREA, values); }
+static void unpack_program(void) { result = braid_unpack_program(table, table_length, program, program_length, answer, AREA, values); }
+static void reverse(void) { result = braid_reverse(table, table_length, program, program_length, 65535, workspace, AREA, answer, AREA, values); }
+static void clear(void) { result = braid_clear(table, table_length, 65535, workspace, AREA, values); }
+static void compare(void)
+{
+    result = braid_compare(table, table_length, program, program_length, answer, program_length, 65535, workspace, AREA, values);
+}
+static void list(void)
+{
+    result = braid_chain(table, table_length, program, program_length, answer, program_length, 65535, workspace, AREA, chain, chain_length, values);
+}
+static void check(void)
+{
+    result = braid_check(table, table_length, program, program_length, answer, program_length, chain, chain_length, workspace, 3, values);
+}
+
+/* The call answers, and its stack suffices. */
+static void answers(const char *name, void (*call)(void))
+{
+    size_t used = depth(call);
+    printf("%s: %u bytes of stack\n", name, (unsigned)used);
+    hold(name, result == BRAID_ANSWER && used <= BRAID_STACK);
+}
+
+static void longest_forms(void)
+{
+    fill_table(BRAID_MOST_TABLE_MOVES, BRAID_MOST_COMPLETION);
+    answers("pack the longest table", pack_table);
+    table_length = (size_t)values[0];
+    hold("the longest table image", table_length == BRAID_MOST_TABLE_BYTES && plain_length == BRAID_MOST_PLAIN_BYTES);
+    answers("unpack it", unpack_table);
+    hold("its plain form", values[0] == BRAID_MOST_PLAIN_BYTES && memcmp(answer, plain, plain_length) == 0);
+    memset(plain, BRAID_MOST_TABLE_MOVES + BRAID_BACK, AREA);
+    plain_length = BRAID_MOST_MOVES;
+    answers("pack the longest program", pack_program);
+    program_length = (size_t)values[0];
+    hold("the longest program image", program_length == BRAID_MOST_PROGRAM_BYTES);
+    answers("unpack it", unpack_program);
+    hold("its plain form", values[0] == BRAID_MOST_MOVES && memcmp(answer, plain, BRAID_MOST_MOVES) == 0);
+    plain_length = BRAID_MOST_MOVES + 1;
+    pack_program();
+    hold("a move too many", result == BRAID_IMAGE_ENDS);
+    fill_table(BRAID_MOST_TABLE_MOVES + 1, 0);
+    pack_table();
+    hold("a table with a move too many", result == BRAID_TABLE_FIELD);
+    fill_table(2, BRAID_MOST_COMPLETION + 1);
+    pack_table();
+    hold("a completion with a move too many", result == BRAID_TABLE_FIELD);
+    plain[0] = 2;
+    plain[1] = BRAID_OPEN;
+    plain_length = 2;
+    pack_table();
+    hold("an open pair", result == BRAID_ANSWER && values[0] == 1 && table[0] == 0x10);
+}
+
+static void engine(void)
+{
+    static const uint8_t braid3[] = {0x29, 0x21, 0x0C, 0x61, 0x25, 0x24, 0xC0}, one[] = {0x00, 0x30, 0x40}, two[] = {0x00, 0x32, 0x08};
+    size_t needed = braid_chain_bytes(3, 5);
+    memcpy(table, braid3, table_length = sizeof braid3);
+    memcpy(program, one, program_length = sizeof one);
+    answers("clear", clear);
+    answers("reverse", reverse);
+    memcpy(answer, two, sizeof two);
+    answers("compare", compare);
+    hold("same after 5 steps", values[0] == BRAID_SAME && values[1] == 5);
+    chain_length = needed;
+    answers("chain", list);
+    chain_length = needed - 1;
+    list();
+    hold("an area one byte too short for as many entries as steps", result == BRAID_ANSWER_SHORT && values[0] == BRAID_NO_PLACE);
+    chain_length = braid_chain_bytes(3, (size_t)chain[0] * 256 + chain[1]);
+    answers("check", check);
+    hold("joins", values[0] == BRAID_JOINS);
+    hold("bytes of the longest chain", braid_chain_bytes(BRAID_MOST_TABLE_MOVES, BRAID_MOST_ENTRIES) == BRAID_MOST_CHAIN_BYTES);
+    hold("a move field's bits", braid_move_bits(1) == 0 && braid_move_bits(2) == 1 && braid_move_bits(9) == 4 && braid_move_bits(16) == 4);
+    hold("the largest allowance", (uint16_t)BRAID_MOST_ALLOWANCE == BRAID_MOST_ALLOWANCE && (uint16_t)(BRAID_MOST_ALLOWANCE + 1) == 0);
+    hold("texts", strcmp(braid_text(BRAID_OPEN_PAIR), "the reversing met an open pair") == 0 && braid_text(200) != NULL);
+}
+
+int main(void)
+{
+    longest_forms();
+    engine();
+    printf("%d passed, %d failed\n", passed, failed);
+    return failed != 0;
+}
