@@ -1,6 +1,6 @@
 #!/bin/sh
-# The C interface: the example of README as C, then the bench sheet as C and as C++, all compiled with the strictest warnings as errors.
-# The last line is 'N passed, M failed' over both runs of the sheet.
+# The C interface: the example of README as C, then tests/sheet.c as C and as C++, all compiled with the strictest warnings as errors.
+# The last line is 'N passed, M failed' over both of its runs.
 cd "$(dirname "$0")/.." || exit 1
 sh tests/library.sh || exit 1
 strict="-Wall -Wextra -Werror -pedantic -Iinclude"
@@ -8,7 +8,7 @@ library=target/staticlib/libfirmware.a
 passed=0
 failed=0
 
-# sheet LANGUAGE PROGRAM: runs the sheet and adds what its closing line says. A run without one, or with a status that it does not explain,
+# sheet LANGUAGE PROGRAM: runs the cases and adds what its closing line says. A run without one, or with a status that it does not explain,
 # counts as one more failure.
 sheet() {
     language=$1
