@@ -1,6 +1,6 @@
 #!/bin/sh
 # The C interface: what the archive wants of a linker, the example of README and a program that joins two programs, the header's sizes and stack, then
-# the bench sheet as C and as C++, all compiled with the strictest warnings as errors. The last line is 'N passed, M failed' over all of it.
+# the sheet of cases as C and as C++, all compiled with the strictest warnings as errors. The last line is 'N passed, M failed' over all of it.
 cd "$(dirname "$0")/.." || exit 1
 sh tests/library.sh || exit 1
 strict="-Wall -Wextra -Werror -pedantic -Iinclude"

@@ -1,5 +1,5 @@
 /*
- * The bench sheet of document 01 through the C interface, in code that is both C and C++. The last line is 'N passed, M failed'.
+ * Cases of specification 10, and a few more, through the C interface, in code that is both C and C++. The last line is 'N passed, M failed'.
  */
 #include "braid.h"
 
@@ -132,7 +132,7 @@ static void packing(void)
          "0 0 0 0", 0, nothing, 0);
 }
 
-/* Reverses a program with the sheet's areas. */
+/* Reverses a program with areas of 32,768 bytes. */
 static uint8_t reversed(const uint8_t *table, size_t table_length, const uint8_t *program, size_t program_length, uint16_t allowance)
 {
     return braid_reverse(table, table_length, program, program_length, allowance, ALL_OF(workspace), ALL_OF(answer), values);
@@ -154,7 +154,7 @@ static void reversing(void)
          nothing, 0);
 }
 
-/* Compares two programs with the sheet's allowance and workspace. */
+/* Compares two programs with an allowance of 65,535 and a workspace of 32,768 bytes. */
 static uint8_t compared(const uint8_t *table, size_t table_length, const uint8_t *first, size_t first_length, const uint8_t *second,
                         size_t second_length)
 {

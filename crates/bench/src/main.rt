@@ -1,4 +1,4 @@
-// Runs the cases of the bench sheet that are not among the thirteen proved of the definitions, one line for each.
+// Runs two cases of specification 10 that Sheet.antt of the model has not, one line for each: case 2, allowance 5; and that case 14 stops.
 ghost use mathlib.Core.Path.{_≡_};
 ghost use lib.ListN.{length};
 use clearing::clear::clear;
@@ -17,7 +17,7 @@ fn is_stop(refusal: Refusal) -> bool {
     }
 }
 
-// Three letters, C(a,b) = b a for every pair: whether clearing stops.
+// Table E, C(a,b) = b a throughout: whether clearing stops.
 fn endless_stops(allowance: u16, workspace: &mut [u8]) -> bool
     ensures { λ r. ⌜ length (now (workspace .exit)) ≡ length (now (workspace .entry)) ⌝ }
 {
@@ -40,7 +40,7 @@ fn endless_always_stops(workspace: &mut [u8]) -> bool {
     endless_stops(65535, workspace)
 }
 
-// The bench sheet's first program at allowance 5.
+// The program of case 1 at allowance 5.
 fn five_finish(workspace: &mut [u8], answer: &mut [u8]) -> bool {
     let reversed = reverse(
         b"\x29\x21\x0C\x61\x25\x24\xC0",

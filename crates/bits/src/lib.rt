@@ -4,7 +4,7 @@ ghost use lib.ListN.{length, take, drop, getD};
 ghost use Rattle.model.specs.Bits.{bitsOf, number, letterWidth};
 ghost use Rattle.bits.specs.Fields.{Inside, Written};
 
-// The width of a letter's field: the number of binary digits of n - 1.
+// The width of a letter's field (specification 5.2): eight, less the leading zeros of n - 1.
 pub fn letter_width(n: u8) -> u8
     requires { ⌜ (1 ≤ n) × (n ≤ 16) ⌝ }
     ensures { λ r. ⌜ r ≡ letterWidth n ⌝ }

@@ -1,4 +1,4 @@
--- How an outcome is told in numbers to C: 0 for an answer, else the refusal's number, then four values.
+-- Specification 8.3, how an outcome is told in numbers to C: 0 for an answer, else the refusal's number, then four values.
 use Prim.Native.Nat.{ℕ}
 use Rattle.model.specs.Outcome.{Outcome, answered, refused}
 use Rattle.model.specs.Stated.{Sizes}

@@ -178,7 +178,7 @@ module _ (table first second : List ℕ) (steps width area : ℕ) where
       subst (DemandThree T u v steps width (listable (T .size) area)) (sym (e ∙ chain-runs T u v c))
       (demand-three-told T u v steps width (listable (T .size) area) (shown (T .size)))
 
-  -- only a comparison that said "same" is told so
+  -- only a comparison that said `same` is told so
   same-told : (T : Presentation) (u v : Positive) → Compares table first second T u v → (k : ℕ) → answered (same-after k) ≡ chain table first second steps width area
       → comparison T u v steps width ≡ answered (same-after k)
   same-told T u v c k e =

@@ -1,4 +1,4 @@
-// Chain: as compare; where the verdict is `same`, a chain from the first program to the second is listed in the answer area.
+// Chain (specification 6.6): as compare; where the verdict is `same`, a chain of swaps is listed in the answer area.
 ghost use mathlib.Core.Path.{_≡_};
 ghost use lib.ListN.{length};
 ghost use Rattle.model.specs.Services.{chain, listable};

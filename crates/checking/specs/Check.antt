@@ -33,7 +33,7 @@ pub record Checks (cells : List ℕ) (size : ℕ) (first second entries before a
 
 -- what the outcome says of the programs and the chain in the images
 pub record CheckMeaning (table first second entries : List ℕ) (width : ℕ) (outcome : Outcome Passage) : Type 0 where
-  -- "joins" only for programs that a chain of swaps joins
+  -- `joins` only for programs that a chain of swaps joins
   pub joins-joined : outcome ≡ answered joins → (T : Presentation) (u v : Positive) → Compares table first second T u v → Joined T u v
   -- each outcome exactly where the entries lead as it says
   pub exactly : (T : Presentation) (u v : Positive) → Compares table first second T u v → (es : List Entry) → readChain (T .size) entries ≡ answered es

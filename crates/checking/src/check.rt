@@ -1,4 +1,4 @@
-// Check a chain between two forward programs, whoever made it. It needs no cleared table.
+// Check a chain (specification 6.7), which may come from anywhere; the table need not clear.
 ghost use mathlib.Core.Path.{_≡_};
 ghost use lib.ListN.{length};
 ghost use Rattle.model.specs.Services.{check};

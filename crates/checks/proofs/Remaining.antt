@@ -1,4 +1,4 @@
--- The pairs and triples that are left from a place on, in document 01's order.
+-- The pairs and triples that are left from a place on, in the order of specification 4.1.
 use mathlib.Core.Path.{_≡_, refl, sym, ap, ap₂, _∙_}
 use mathlib.Core.List.{List, [], _∷_, _++_, map, append-assoc}
 use mathlib.Core.Bool.{Bool, true, false, _||_, cond}

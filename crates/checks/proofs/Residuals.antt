@@ -56,7 +56,7 @@ module _ (T : Presentation) (u v : Positive) (steps : ℕ) (bytes : List ℕ) wh
       subst (λ d. Works (T .size) (ofEnding d) bytes (fromEnding r)) w
       (record { answer = ap fromEnding (p .answer) ∙ q .answer; stores = q .stores })
 
-  -- a starting word longer than the workspace
+  -- the two words together do not fit
   pub under-long : length bytes < length u + length v → Works (T .size) (under T steps (length bytes) u v) bytes (Halted Room)
   unfolding under
   under-long h =

@@ -79,7 +79,7 @@ module _ (T : Presentation) (steps width a b c : ℕ) where
   unfolding cubeAt
   at-triple = refl
 
-  -- "If a, b is open, both are undefined without more work."
+  -- specification 4.4: where the pair a, b is open the triple passes, and nothing is reversed
   pub open-holds : complete T a b ≡ undefined → Holds ≡ cubeAnswer (cubeAt T steps width triple)
   open-holds e = sym (ap cubeAnswer (at-triple ∙ ap (λ p. whereDefined p rest) e))
 

@@ -57,7 +57,7 @@ pub fn missing_side(right: Residue) -> CubeVerdict
     }
 }
 
-// Whether the inverse of L, then R, reverses to the empty word; L stands at the workspace's start and R after it.
+// Whether the inverse of L, with R behind it, ends empty; L stands at the workspace's start and R after it.
 pub fn agree(cells: &[u8], bytes: &mut [u8], left: usize, right: usize, budget: u16) -> CubeVerdict
     requires { ⌜ Ends (now cells) (now bytes) left right ⌝ }
     ensures length { λ r. ⌜ length (now (bytes .exit)) ≡ length (now (bytes .entry)) ⌝ }
@@ -95,7 +95,7 @@ pub fn right_side(
     side(cells, &mut bytes[kept..], a, b, c, budget)
 }
 
-// The cube rule at one triple. While R is worked out, L keeps its bytes at the workspace's start.
+// One triple of the cube check (specification 4.4). L stays at the workspace's start, and R is worked out behind it.
 pub fn cube_at(cells: &[u8], bytes: &mut [u8], a: u8, b: u8, c: u8, budget: u16) -> CubeVerdict
     requires { ⌜ Ready (now cells) (positive (a ∷ b ∷ c ∷ [])) ⌝ }
     ensures length { λ r. ⌜ length (now (bytes .exit)) ≡ length (now (bytes .entry)) ⌝ }

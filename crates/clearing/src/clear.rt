@@ -1,4 +1,4 @@
-// Clear: the length check, then the cube check.
+// Clear (specification 6.3): both checks of a table, that of lengths first.
 ghost use mathlib.Core.Path.{_≡_};
 ghost use lib.ListN.{length};
 ghost use Rattle.model.specs.Services.{clear};

@@ -149,7 +149,7 @@ module _ (table first second : List ℕ) (steps width : ℕ) where
   unfolding compare
   compare-runs = programs-run table first second judges
 
-  -- demand 3, of the outcome
+  -- what a verdict means, of the outcome
   pub compare-means : (o : Outcome Verdict) → o ≡ compare table first second steps width → Meaning table first second steps width (λ T v. answered v) o
   compare-means o e T u v c = subst (DemandThree T u v steps width answered) (sym (e ∙ compare-runs T u v c)) (demand-three T u v steps width)
 

@@ -60,7 +60,7 @@ pub record Judges (cells : List ℕ) (size : ℕ) (first second : List ℕ) (bud
   pub judged : (T : Presentation) → Of cells size T → (u v : Positive) → readForward size first ≡ answered u → readForward size second ≡ answered v
       → Judged T u v budget (length before) r
 
--- DEMAND 3, of the programs in the images; `after` is how the service tells a verdict under a table
+-- WHAT A VERDICT MEANS (specification 6.5), of the programs in the images; `after` is how the service tells a verdict under a table
 abbrev pub Meaning : List ℕ → List ℕ → List ℕ → ℕ → ℕ → (Presentation → Verdict → Outcome Verdict) → Outcome Verdict → Type 0
 Meaning table first second steps width after outcome =
     (T : Presentation) (u v : Positive) → Compares table first second T u v → DemandThree T u v steps width (after T) outcome

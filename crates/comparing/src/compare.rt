@@ -1,4 +1,4 @@
-// Compare: two programs of forward letters under a table that clears within the call.
+// Compare (specification 6.4): two programs of forward letters under a table that must clear first.
 ghost use mathlib.Core.Path.{_≡_};
 ghost use lib.ListN.{length};
 ghost use Rattle.model.specs.Outcome.{answered};

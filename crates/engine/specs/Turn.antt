@@ -35,7 +35,7 @@ pub record Steps (T : Presentation) (word : Word) (bytes : List ℕ) (left right
   pub taken : next T word ≡ step a b (wordAt bytes left right)
   pub lettered : Lettered (T .size) (wordAt bytes left right)
 
--- the next word is longer than the workspace
+-- the next word does not fit
 pub record Outgrows (T : Presentation) (word : Word) (width : ℕ) : Type 0 where
   pub a : ℕ
   pub b : ℕ

@@ -13,8 +13,8 @@ pub const COUNT_BITS: usize = 16;
 
 pub const OFFSET_BITS: usize = 12;
 
-// At the offset, a with C(a,b) gives way to b with C(b,a). While a chain is listed, an entry may stand for a face that is not done, with the
-// number of its letters left as the offset.
+// An entry (specification 2.3): which side of the relation of a, b is exchanged, and where. While a chain is listed, an entry may stand for a
+// face that is not done, with the number of its letters left as the offset.
 pub struct ChainEntry {
     pub offset: u16,
     pub a: u8,

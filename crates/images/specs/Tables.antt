@@ -20,7 +20,7 @@ use Rattle.images.specs.declared.tables.TablePart.the-variants.{Next, En
 use Rattle.images.specs.declared.tables.TableRead.{TableRead}
 use Rattle.images.specs.declared.tables.TableRead.the-variants.{Table, Refused}
 
--- the position after a part of at most `most` fields, none of them past the limit
+-- the position after a part: at most `most` further on, and not past the limit
 pub record After (limit at most next : ℕ) : Type 0 where
   pub inside : next ≤ limit
   pub near : next ≤ at + most

@@ -50,7 +50,7 @@ pub fn next_entry(image: &[u8], at: usize, size: u8, width: usize) -> EntryField
     }
 }
 
-// Refusals 4 and 5, the first met, then 6; nothing is written.
+// Refusal 4 or 5, whichever is come to first, then 6 (specification 5.3); nothing is written.
 pub fn read_chain(image: &[u8], size: u8) -> ChainRead
     requires { ⌜ (1 ≤ size) × (size ≤ 16) ⌝ }
     ensures { λ r. ⌜ ChainDone (now (image .entry)) size r ⌝ }

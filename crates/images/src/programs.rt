@@ -53,7 +53,7 @@ pub fn next_signed(image: &[u8], at: usize, size: u8, width: usize) -> SignedFie
     }
 }
 
-// Refusals 4 and 5, the first met, then 6; nothing is written.
+// Refusal 4 or 5, whichever is come to first, then 6 (specification 5.3); nothing is written.
 pub fn read_program(image: &[u8], size: u8) -> ProgramRead
     requires { ⌜ (1 ≤ size) × (size ≤ 16) ⌝ }
     ensures { λ r. ⌜ ProgramDone (now (image .entry)) size r ⌝ }

@@ -127,7 +127,7 @@ pub fn read_row(
     TablePart::Next(next)
 }
 
-// Refusals 1 and 2, the first met, then 3. After an answer the cells stand for the table.
+// Refusal 1 or 2, whichever is come to first, then 3 (specification 5.3). After an answer the cells stand for the table.
 pub fn read_table(image: &[u8], cells: &mut [u8]) -> TableRead
     requires { ⌜ Blank (now cells) ⌝ }
     ensures length { λ r. ⌜ length (now (cells .exit)) ≡ length (now (cells .entry)) ⌝ }

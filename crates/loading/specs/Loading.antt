@@ -46,7 +46,7 @@ pub record Images : Type 0 where
   pub first : Positive
   pub second : Positive
 
--- "A first program passes 4 to 7 before the second"
+-- specification 6.4: all tests of the first program come before those of the second
 unfoldable pub readPrograms : List ℕ → List ℕ → List ℕ → Outcome Images
 readPrograms table first second =
     readTable table >>= λ T.

@@ -1,4 +1,4 @@
--- A table of cases under one statement: what a definition computes, and what document 01 says that it is.
+-- A table of cases under one statement: what a definition computes, and what the specification says that it is.
 use mathlib.Core.List.{List, [], _∷_}
 use mathlib.Core.Path.{_≡_}
 

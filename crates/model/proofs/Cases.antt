@@ -1,5 +1,5 @@
--- Further cases, computed as the sheet's are: the order of the endings and of the checks, each refusal of each kind of image, and the lent
--- areas.
+-- Further sample cases, many of them of specification 10, computed as those in Sheet.antt are: the order of the endings and of the checks, each
+-- refusal of each kind of image, and the lent areas.
 use mathlib.Core.List.{List, [], _∷_}
 use mathlib.Core.Path.{refl}
 use Prim.Native.Nat.{ℕ}
@@ -33,7 +33,7 @@ endings =
     -- its longest word has 9 letters
     (reverse braidBytes firstBytes 65535 9 32768 gives answered firstAnswer) ∷
     (reverse braidBytes firstBytes 65535 8 32768 gives refused 12 []) ∷
-    -- (iv) on the starting word, before all else
+    -- a starting word that is too long is (iv), whatever else holds of it
     (reverse braidBytes firstBytes 0 4 32768 gives refused 12 []) ∷
     (reverse braidBytes (pattern 3 (1 ∷ 2 ∷ [])) 65535 1 32768 gives refused 12 []) ∷
     -- (i) before (iii): a word that is finished takes no step
@@ -59,7 +59,7 @@ abbrev pub triples : List {1} Case
 triples =
     -- braid tables pass
     (clear braidBytes 65535 32768 gives answered tt) ∷
-    -- with n below 3 there are no triples
+    -- two letters make no triple
     (clear (image open2) 0 0 gives answered tt) ∷
     -- R alone is defined
     (clear (image (three (complement [] []) undefined (complement (3 ∷ []) (2 ∷ [])))) 65535 32768 gives refused 9 (1 ∷ 2 ∷ 3 ∷ [])) ∷
@@ -83,7 +83,7 @@ triples =
     -- a table whose reversings never end
     (clear (image endless3) 60 32768 gives refused 11 (1 ∷ 2 ∷ 3 ∷ [])) ∷
     (clear (image endless3) 60 20 gives refused 12 (1 ∷ 2 ∷ 3 ∷ [])) ∷
-    -- the length check precedes the cube check
+    -- 8 comes before the first triple is looked at
     (clear (image (three (complement (2 ∷ []) (3 ∷ [])) (complement [] []) (complement (1 ∷ 1 ∷ []) []))) 0 0 gives refused 8 (2 ∷ 3 ∷ [])) ∷ []
 
 -- Table images and plain tables: refusals 1, 2 and 3, in both orders of 1 and 2.
@@ -156,7 +156,7 @@ programs =
     (packProgram braidBytes (128 ∷ []) 99 gives refused 5 []) ∷
     (packProgram braidBytes (1 ∷ 4 ∷ []) 99 gives refused 5 []) ∷
     (packProgram braidBytes (132 ∷ []) 99 gives refused 5 []) ∷
-    -- plain, 4: the count is tested before the letters
+    -- plain, 4: too many bytes, whatever they name
     (packProgram (0x00 ∷ []) (replicate 4096 0) 9999 gives refused 4 []) ∷
     (packProgram (0x00 ∷ []) (replicate 4095 0) 9999 gives refused 5 []) ∷
     -- packed and unpacked
@@ -174,7 +174,7 @@ programs =
 -- Compare and chain: unequal lengths, stops, and the area of a chain.
 abbrev pub comparisons : List {1} Case
 comparisons =
-    -- unequal lengths are different with 0 steps, after the table clears
+    -- programs of different lengths: 0 steps, but only after the table clears
     (compare braidBytes (pattern 3 (1 ∷ [])) (pattern 3 []) 65535 32768 gives answered (different-after 0)) ∷
     (compare (image broken3) (pattern 3 (1 ∷ [])) (pattern 3 []) 65535 32768 gives refused 9 (1 ∷ 2 ∷ 3 ∷ [])) ∷
     -- 11 and 12 of the programs come with no numbers
@@ -198,13 +198,13 @@ chains =
     -- 5, and 5 met before the end
     (check braidBytes (pattern 3 (1 ∷ [])) (pattern 3 (1 ∷ [])) (0x00 ∷ 0x01 ∷ 0x00 ∷ 0x0c ∷ []) 9 gives refused 5 []) ∷
     (check braidBytes (pattern 3 (1 ∷ [])) (pattern 3 (1 ∷ [])) (0x00 ∷ 0x02 ∷ 0x00 ∷ 0x0c ∷ []) 9 gives refused 5 []) ∷
-    -- 6: a filling bit, and a byte that follows
+    -- 6: a byte that follows, zero or not
     (check braidBytes (pattern 3 (1 ∷ [])) (pattern 3 (1 ∷ [])) (0x00 ∷ 0x00 ∷ 0x00 ∷ []) 9 gives refused 6 []) ∷
     (check (image open2) (pattern 2 []) (pattern 2 []) (0x00 ∷ 0x01 ∷ 0x00 ∷ 0x00 ∷ 0x01 ∷ []) 9 gives refused 6 []) ∷
     -- an empty chain joins a program to itself
     (check braidBytes (pattern 3 (1 ∷ 2 ∷ [])) (pattern 3 (1 ∷ 2 ∷ [])) (chainImage 3 []) 2 gives answered joins) ∷
     (check braidBytes (pattern 3 (1 ∷ 2 ∷ [])) (pattern 3 (2 ∷ 1 ∷ [])) (chainImage 3 []) 2 gives answered ends-elsewhere) ∷
-    -- an entry with a = b, an open pair, no fit, an offset past the end
+    -- entries that do not fit: equal letters, an open pair, another side at the offset, an offset past the end
     (check braidBytes (pattern 3 (1 ∷ [])) (pattern 3 (1 ∷ [])) (chainImage 3 (entry 0 1 1 ∷ [])) 9 gives answered (breaks 0)) ∷
     (check (image open2) (pattern 2 (1 ∷ [])) (pattern 2 (1 ∷ [])) (chainImage 2 (entry 0 1 2 ∷ [])) 9 gives answered (breaks 0)) ∷
     (check braidBytes (pattern 3 (1 ∷ 2 ∷ 1 ∷ [])) (pattern 3 (2 ∷ 1 ∷ 2 ∷ [])) (chainImage 3 (entry 0 1 2 ∷ entry 0 1 2 ∷ [])) 9 gives answered (breaks 1)) ∷
@@ -213,7 +213,7 @@ chains =
     -- inside a word, and back again
     (check braidBytes (pattern 3 (3 ∷ 1 ∷ 3 ∷ [])) (pattern 3 (3 ∷ 3 ∷ 1 ∷ [])) (chainImage 3 (entry 1 1 3 ∷ [])) 3 gives answered joins) ∷
     (check braidBytes (pattern 3 (1 ∷ 2 ∷ 1 ∷ [])) (pattern 3 (1 ∷ 2 ∷ 1 ∷ [])) (chainImage 3 (entry 0 1 2 ∷ entry 0 2 1 ∷ [])) 3 gives answered joins) ∷
-    -- 12: the first program, or the result of an entry that fits; the table need not clear
+    -- 12: the first program is too long, or the word after an entry; the table need not clear
     (check braidBytes (pattern 3 (1 ∷ 2 ∷ 1 ∷ [])) (pattern 3 (2 ∷ 1 ∷ 2 ∷ [])) (chainImage 3 []) 2 gives refused 12 []) ∷
     (check (image unequal2) (pattern 2 (2 ∷ 2 ∷ [])) (pattern 2 (1 ∷ 2 ∷ 1 ∷ [])) (chainImage 2 (entry 0 2 1 ∷ [])) 2 gives refused 12 []) ∷
     (check (image unequal2) (pattern 2 (2 ∷ 2 ∷ [])) (pattern 2 (1 ∷ 2 ∷ 1 ∷ [])) (chainImage 2 (entry 0 2 1 ∷ [])) 3 gives answered joins) ∷ []

@@ -1,5 +1,5 @@
 -- The laws of `complete`, which gives both right complements of two letters at once: equal letters, the pair the other way round, and which
--- pairs are undefined. They are what document 002, section 1, asks of a right complement, with the arguments in the order of document 004.
+-- pairs are undefined. They are what [D1] section 1 asks of a right complement, with the arguments in the order of [D2].
 use mathlib.Core.Path.{_≡_, refl, sym, ap, _∙_}
 use mathlib.Core.Logic.{_≢_}
 use mathlib.Core.List.{[]}

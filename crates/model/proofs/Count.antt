@@ -1,5 +1,5 @@
 -- Laws of `count`, which adds one for a step on two different letters and nothing for one on a letter and itself.
--- They let runs, diagrams and derivations be counted part by part (document 01, "With a = b both vanish, and that is a step too").
+-- They let runs, diagrams and derivations be counted part by part. The steps themselves count both kinds (specification 3.3).
 use mathlib.Core.Path.{_≡_, refl}
 use mathlib.Core.Bool.{Bool, true, false, cond}
 use Prim.Native.Nat.{ℕ, suc, _+_, _≤_}

@@ -1,5 +1,5 @@
--- How `reversing` ends, told by leftmost steps: each of document 01's four endings, (i) to (iv), is met exactly where `Ends` puts it, and exactly
--- one is met. So more budget and more room change no ending but a stop: with document 002's Lemma 1.1 what a finished word gives is its own.
+-- How `reversing` ends, told by leftmost steps: each ending of specification 3.2, (i) to (iv), is met exactly where `Ends` puts it, and exactly
+-- one is met. So more budget and more room change no ending but a stop: with [D1] Lemma 1.1 what a finished word gives is its own.
 use mathlib.Core.Path.{_≡_, refl, sym, ap, ap₂, subst, _∙_}
 use mathlib.Core.Logic.{_≢_, _↔_}
 use mathlib.Core.List.{_++_}

@@ -1,5 +1,5 @@
 -- What an entry of a derivation does: it applies to a word exactly where it is a relation step on two different letters at that offset.
--- So an entry that applies has its offset inside the word (document 01, "Images": "An entry with a = b, an open pair or no fit breaks the chain").
+-- So an entry that applies has its offset inside the word; one that does not apply is an entry that does not fit (specification 2.3).
 use mathlib.Core.Path.{_≡_, refl, sym, ap, ap₂, _∙_}
 use mathlib.Core.Logic.{_≢_}
 use mathlib.Core.List.{[], _∷_, _++_}

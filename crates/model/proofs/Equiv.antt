@@ -1,5 +1,5 @@
 -- Equivalence of positive words under the relations a C(a,b) = b C(b,a), with how many of its steps are on two different letters.
--- It is a congruence (document 002, section 1), and keeps a weight of letters where relations do: the norm that 002's Lemma 1.4 asks for.
+-- It is a congruence ([D1] section 1), and keeps a weight of letters where relations do: the norm that [D1] Lemma 1.4 asks for.
 use mathlib.Core.Path.{_≡_, refl, sym, ap, _∙_}
 use mathlib.Core.List.{[], _∷_, _++_, append-assoc}
 use Prim.Native.Nat.{ℕ, _+_}

@@ -1,5 +1,5 @@
 -- The model's `Joined`, told by entries, is equivalence under the relations: both ways, and with as many entries as steps on two different letters.
--- So it is an equivalence relation and a congruence (document 002, section 1), and keeps weights and lengths where relations do.
+-- So it is an equivalence relation and a congruence ([D1] section 1), and keeps weights and lengths where relations do.
 use mathlib.Core.Path.{_≡_, refl, sym, ap, _∙_}
 use mathlib.Core.Logic.{_↔_}
 use mathlib.Core.List.{List, [], _∷_, _++_}

@@ -1,5 +1,5 @@
 -- Runs of leftmost steps, with the number of their steps on two different letters: they compose, and of a run to a word without a next step
--- every other run from the same word is a beginning. That is document 002's Lemma 1.1 for the leftmost strategy.
+-- every other run from the same word is a beginning. That is [D1] Lemma 1.1 for the leftmost strategy.
 use mathlib.Core.Path.{_≡_, refl, sym, ap, _∙_}
 use mathlib.Core.Logic.{_≢_}
 use mathlib.Core.List.{_++_}

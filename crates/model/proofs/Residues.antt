@@ -1,5 +1,4 @@
--- Residuals u\v: there is at most one, that of two letters is their complement, and a reversing of the checks works it out. Document 01,
--- "Reversing".
+-- Residuals u\v: there is at most one, that of two letters is their complement, and a reversing of the checks works it out. Specification 3.5.
 use mathlib.Core.Path.{_≡_, refl, subst, _∙_}
 use mathlib.Core.List.{[], _∷_, _++_, append-nil}
 use Prim.Native.Nat.{ℕ}

@@ -1,5 +1,5 @@
 -- The laws of the function `reversing`, one for each case: a word too long, one without a site, one at an undefined pair, one with no step left,
--- and one that takes a step. The rest is told by these five; they restate document 01, "Reversing", (i) to (iv).
+-- and one that takes a step. The rest is told by these five; they restate specification 3.2, (i) to (iv).
 use mathlib.Core.Path.{_≡_, refl, ap, _∙_}
 use mathlib.Core.Bool.{Bool, true, false, cond}
 use Prim.Native.Nat.{ℕ, zero, suc, _≤_, _<_}

@@ -1,11 +1,11 @@
--- The tables and programs of the bench sheet and of the further cases.
+-- The tables and programs of the cases of specification 10, tables by its letters, and of the further sample cases.
 use mathlib.Core.List.{List, [], _∷_}
 use Prim.Native.Nat.{ℕ}
 use Rattle.model.specs.Word.{forward, back, Word, Positive, positive}
 use Rattle.model.specs.Presentation.{Presentation, Complement, undefined, complement}
 use Rattle.model.specs.Images.{tableImage, programImage}
 
--- "Braid table" of 3 letters: "C(i,j) is j for |i − j| ≥ 2, and j i for |i − j| = 1"
+-- table B, the braid table of 3 letters (specification 2.4)
 abbrev pub braid3 : Presentation
 braid3 =
     record {
@@ -15,10 +15,11 @@ braid3 =
           (complement (3 ∷ 2 ∷ []) (2 ∷ 3 ∷ []) ∷ []) ∷ [] ∷ [];
     }
 
+-- table S
 abbrev pub braid1 : Presentation
 braid1 = record { size = 1; rows = [] ∷ [] }
 
--- "n = 2, pair open"
+-- table O
 abbrev pub open2 : Presentation
 open2 = record { size = 2; rows = (undefined ∷ []) ∷ [] ∷ [] }
 
@@ -26,15 +27,15 @@ open2 = record { size = 2; rows = (undefined ∷ []) ∷ [] ∷ [] }
 abbrev pub three : Complement → Complement → Complement → Presentation
 three p q r = record { size = 3; rows = (p ∷ q ∷ []) ∷ (r ∷ []) ∷ [] ∷ [] }
 
--- "n = 3, relations 1 2 = 2 1, 1 3 = 3 1, 2 1 = 3 1"
+-- table K, which breaks the cube rule
 abbrev pub broken3 : Presentation
 broken3 = three (complement (2 ∷ []) (1 ∷ [])) (complement (3 ∷ []) (1 ∷ [])) (complement (1 ∷ []) (1 ∷ []))
 
--- "n = 2, C(1,2) = 2 1, C(2,1) = 2"
+-- table U, whose completions differ in length
 abbrev pub unequal2 : Presentation
 unequal2 = record { size = 2; rows = (complement (2 ∷ 1 ∷ []) (2 ∷ []) ∷ []) ∷ [] ∷ [] }
 
--- "n = 3, C(a,b) = b a for every pair"
+-- table E, C(a,b) = b a throughout
 abbrev pub endless3 : Presentation
 endless3 =
     three (complement (2 ∷ 1 ∷ []) (1 ∷ 2 ∷ [])) (complement (3 ∷ 1 ∷ []) (1 ∷ 3 ∷ [])) (complement (3 ∷ 2 ∷ []) (2 ∷ 3 ∷ []))
@@ -49,17 +50,17 @@ log n w = programImage n w
 abbrev pub pattern : ℕ → Positive → List ℕ
 pattern n u = programImage n (positive u)
 
--- the image of the braid table of 3 letters, as the bench sheet writes it
+-- the image of table B, as specification 10 has it
 abbrev pub braidBytes : List ℕ
 braidBytes = 0x29 ∷ 0x21 ∷ 0x0c ∷ 0x61 ∷ 0x25 ∷ 0x24 ∷ 0xc0 ∷ []
 
--- "Program -3 1 -2 1 2", and its image as the bench sheet writes it
+-- the program of case 1, and its image as specification 10 has it
 abbrev pub first : Word
 first = back 3 ∷ forward 1 ∷ back 2 ∷ forward 1 ∷ forward 2 ∷ []
 
 abbrev pub firstBytes : List ℕ
 firstBytes = 0x00 ∷ 0x5c ∷ 0x28 ∷ 0x20 ∷ []
 
--- "-2 -3 -1 1 1 2 3"
+-- the program of case 5
 abbrev pub second : Word
 second = back 2 ∷ back 3 ∷ back 1 ∷ forward 1 ∷ forward 1 ∷ forward 2 ∷ forward 3 ∷ []

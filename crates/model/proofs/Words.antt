@@ -1,5 +1,5 @@
 -- Laws of signed words: inverses of positive words, and where the leftmost site is. A word without a site is N followed by the inverse of D,
--- in one way: document 002, section 1, "R-irreducible words are exactly the words of the form uv^-1".
+-- in one way: specification 3.3, and [D1] section 1 on R-irreducible words.
 use mathlib.Core.Path.{_≡_, refl, sym, ap, _∙_}
 use mathlib.Core.List.{[], _∷_, _++_, map, reverse, append-nil, reverse-cons, reverse-append, reverse-reverse, map-append}
 use Prim.Native.Nat.{ℕ}

@@ -1,4 +1,4 @@
--- Document 01, "The two checks of a table": the length check and the cube check.
+-- Specification 4.2 to 4.6: the length check, the cube rule and the cube check.
 use mathlib.Core.List.{List, [], _∷_, _++_}
 use mathlib.Core.Bool.{Bool, true, cond}
 use Prim.Native.Nat.{ℕ, _-_}
@@ -10,17 +10,17 @@ use Rattle.model.specs.Reversing.{Stop, budget, room, Ending, finished, 
 use Rattle.model.specs.Enumeration.{Two, Three, pairs, triples}
 use Rattle.model.specs.Outcome.{Outcome, answered, refused, _>>=_}
 
--- "Length: C(a,b) and C(b,a) are equally long for every pair that isn't open."
+-- 4.2: the two completions of a pair have the same length, unless it is open
 abbrev pub balanced : Complement → Bool
 balanced undefined = true
 balanced (complement x y) = eqb (length x) (length y)
 
--- refusal 8 names the first pair that fails
+-- 4.2: refusal 8 names the first pair that fails
 abbrev pub lengthCheck : Presentation → List Two → Outcome (Unit {0})
 lengthCheck T [] = answered tt
 lengthCheck T (p ∷ ps) = cond (balanced (complete T (p .a) (p .b))) (lengthCheck T ps) (refused 8 (p .a ∷ p .b ∷ []))
 
--- (a\b)\(a\c) is l, stops left aside
+-- 4.3: (a\b)\(a\c) is l, with no limit on steps and lengths
 pub record Side (T : Presentation) (a b c : ℕ) (l : Positive) : Type 0 where
   pub x : Positive
   pub x′ : Positive
@@ -31,13 +31,12 @@ pub record Side (T : Presentation) (a b c : ℕ) (l : Positive) : Type 0 where
   pub to-c : Residual T (a ∷ []) (c ∷ []) y y′
   pub outer : Residual T x y l l′
 
--- "let L = (a\b)\(a\c) and R = (b\a)\(b\c). Either both are undefined, or both are defined and the undoing of L, then R, reverses to the
--- empty word."
+-- 4.3: neither L = (a\b)\(a\c) nor R = (b\a)\(b\c) is defined; or each is, and the undoing of L, followed by R, ends empty
 pub data CubeRule (T : Presentation) (a b c : ℕ) : Type 0 where
   both-undefined : ((l : Positive) → Side T a b c l → ⊥) → ((r : Positive) → Side T b a c r → ⊥) → CubeRule T a b c
   both-defined : (l r : Positive) → Side T a b c l → Side T b a c r → EndsEmpty T (negative l ++ positive r) → CubeRule T a b c
 
--- u\v as it is worked out: a word, or that it meets an undefined pair, or that its reversing is stopped
+-- 3.5: u\v as it is worked out: a word, or that it meets an undefined pair, or that its reversing is stopped
 pub data Residue : Type 0 where
   residue : Positive → Residue
   missing : Residue
@@ -48,19 +47,19 @@ ofEnding (finished n d k r) = residue n
 ofEnding (open-pair a b k) = missing
 ofEnding (stopped s) = halted s
 
--- work that goes on from a word
+-- 4.4: work that goes on from a word
 abbrev pub andThen : Residue → (Positive → Residue) → Residue
 andThen (residue x) f = f x
 andThen missing f = missing
 andThen (halted s) f = halted s
 
--- what one triple shows
+-- 4.6: what comes of one triple
 pub data CubeVerdict : Type 0 where
   holds : CubeVerdict
   fails : CubeVerdict
   halts : Stop → CubeVerdict
 
--- whether a reversing ends empty; one that meets an undefined pair does not
+-- 4.6: whether a reversing ends empty; one that meets an undefined pair does not
 abbrev pub empties : Ending → CubeVerdict
 empties (finished [] [] k r) = holds
 empties (finished [] (x ∷ d) k r) = fails
@@ -68,63 +67,62 @@ empties (finished (x ∷ n) d k r) = fails
 empties (open-pair a b k) = fails
 empties (stopped s) = halts s
 
--- L is undefined: R has to be
+-- 4.6, L is undefined: R has to be
 abbrev pub bothMissing : Residue → CubeVerdict
 bothMissing (residue r) = fails
 bothMissing missing = holds
 bothMissing (halted s) = halts s
 
--- L is defined: R has to be, and `compared` says whether the two agree
+-- 4.6, L is defined: R has to be, and `compared` says whether the two agree
 abbrev pub bothThere : (Positive → CubeVerdict) → Residue → CubeVerdict
 bothThere compared (residue r) = compared r
 bothThere compared missing = fails
 bothThere compared (halted s) = halts s
 
--- "If a, b is open, both are undefined without more work."
+-- 4.4: where the pair a, b is open the triple passes, and nothing is reversed
 abbrev pub whereDefined : Complement → CubeVerdict → CubeVerdict
 whereDefined undefined v = holds
 whereDefined (complement x y) v = v
 
--- refusals 11 and 12
+-- 7.1: 11 for (iii), 12 for (iv)
 abbrev pub stopNumber : Stop → ℕ
 stopNumber budget = 11
 stopNumber room = 12
 
--- refusal 9 names the triple that breaks the rule; a stop names the triple under way
+-- 4.6: refusal 9 names the triple that breaks the rule; a stop names the triple under way
 abbrev pub reported : Three → CubeVerdict → Outcome (Unit {0}) → Outcome (Unit {0})
 reported t holds rest = rest
 reported t fails rest = refused 9 (t .a ∷ t .b ∷ t .c ∷ [])
 reported t (halts s) rest = refused (stopNumber s) (t .a ∷ t .b ∷ t .c ∷ [])
 
 module _ (T : Presentation) (steps : ℕ) where
-  -- "The allowance counts for each reversing anew."
+  -- 4.5: u\v by one reversing, which has the whole budget
   unfoldable pub under : ℕ → Positive → Positive → Residue
   under width u v = ofEnding (reversing T steps width (negative u ++ positive v))
 
-  -- (a\b)\(a\c): "the inner complements first and left to right"
+  -- 4.4: (a\b)\(a\c) by reversings 1, 2 and 3; with a and b exchanged by 4, 5 and 6
   unfoldable pub side : ℕ → ℕ → ℕ → ℕ → Residue
   side width a b c =
       andThen (under width (a ∷ []) (b ∷ [])) (λ x.
       andThen (under width (a ∷ []) (c ∷ [])) (λ y.
       under width x y))
 
-  -- "L is worked out before R": what is left to do once L is. "While R is worked out, L keeps its bytes of the workspace, and (iv) counts
-  -- them too; nothing else is kept beside the word being reversed."
+  -- 4.4, 4.5: what is left to do once L is known. In working out R the room is less by a byte for each letter of L; reversing 7 has all of it
   unfoldable pub against : ℕ → ℕ → ℕ → ℕ → Residue → CubeVerdict
   against width a b c (residue l) =
       bothThere (λ r. empties (reversing T steps width (negative l ++ positive r))) (side (width - length l) b a c)
   against width a b c missing = bothMissing (side width b a c)
   against width a b c (halted s) = halts s
 
-  -- one triple
+  -- 4.4: one triple
   unfoldable pub cubeAt : ℕ → Three → CubeVerdict
   cubeAt width t = whereDefined (complete T (t .a) (t .b)) (against width (t .a) (t .b) (t .c) (side width (t .a) (t .b) (t .c)))
 
-  -- "the first triple that breaks the rule is the one reported"
+  -- 4.6: the triples one by one; the first that fails or stops ends the check
   abbrev pub cubeCheck : ℕ → List Three → Outcome (Unit {0})
   cubeCheck width [] = answered tt
   cubeCheck width (t ∷ ts) = reported t (cubeAt width t) (cubeCheck width ts)
 
--- "Clear: the length check, then the cube check."
+-- 4: a table clears if both checks pass; the one of lengths is made first
 unfoldable pub cleared : Presentation → ℕ → ℕ → Outcome (Unit {0})
 cleared T steps width = lengthCheck T (pairs (T .size)) >>= λ ok. cubeCheck T steps width (triples (T .size))

@@ -1,4 +1,4 @@
--- The pairs and triples of letters in document 01's order.
+-- Specification 4.1: the pairs and triples of letters in their order.
 use mathlib.Core.List.{List, [], _∷_, _++_, map}
 use mathlib.Core.Bool.{_||_, cond}
 use Prim.Native.Nat.{ℕ, zero, suc, _-_}
@@ -22,7 +22,7 @@ pub record Three : Type 0 where
   pub b : ℕ
   pub c : ℕ
 
--- "Pairs are taken in order of a, then b": those with a < b
+-- 4.1: the pairs with a < b, by a and then by b
 abbrev pub pairs : ℕ → List Two
 pairs n = concatMap (λ a. map (λ b. record { a = a; b = b }) (range (suc a) (n - a))) (range 1 n)
 
@@ -31,6 +31,6 @@ abbrev pub others : ℕ → ℕ → List ℕ → List ℕ
 others a b [] = []
 others a b (c ∷ cs) = cond (eqb c a || eqb c b) (others a b cs) (c ∷ others a b cs)
 
--- "Triples go in order of a, then b, then c": different letters with a < b
+-- 4.1: the triples of different letters with a < b and any c, by a, by b and then by c
 abbrev pub triples : ℕ → List Three
 triples n = concatMap (λ p. map (λ c. record { a = p .a; b = p .b; c = c }) (others (p .a) (p .b) (range 1 n))) (pairs n)

@@ -1,4 +1,4 @@
--- Document 01, "Images": table, program and chain images, written and read. Reading refuses by document 01's numbers.
+-- Specification 5.4 to 5.6: table, program and chain images, written and read. Reading refuses by the numbers of 5.3.
 use mathlib.Core.List.{List, [], _∷_, _++_}
 use mathlib.Core.Bool.{cond}
 use Prim.Native.Nat.{ℕ, zero, suc, _+_, _-_, _*_}
@@ -11,7 +11,7 @@ use Rattle.model.specs.Enumeration.{concatMap}
 use Rattle.model.specs.Outcome.{Outcome, answered, _>>=_, unless}
 use Rattle.model.specs.Bits.{Read, field, digits, bitsOf, pack, letterWidth, finish}
 
--- FIELD WIDTHS: of a table's number of letters and of a word's length, of a program's count, of a chain's count and of an entry's offset
+-- FIELD WIDTHS (5.4 to 5.6): of a table's number of letters and of a word's length, of a program's count, of a chain's count and of an entry's offset
 
 abbrev pub sizeWidth : ℕ
 sizeWidth = 4
@@ -30,33 +30,33 @@ offsetWidth = 12
 
 -- WRITING
 
--- "a move field holds the number less 1"
+-- 5.2: a letter's field, one less than its number
 abbrev pub letterBits : ℕ → ℕ → List ℕ
 letterBits n a = digits (letterWidth n) (a - 1)
 
--- "the length of C(a,b) in 4 bits, its moves"
+-- 5.4: a completion: its length, then its letters
 abbrev pub wordBits : ℕ → Positive → List ℕ
 wordBits n x = digits lengthWidth (length x) ++ concatMap (letterBits n) x
 
--- "for each pair a < b in order one bit, 0 for open; after a 1, the length of C(a,b) in 4 bits, its moves, then the same for C(b,a)"
+-- 5.4: a pair: 0 if it is open, else 1 and both completions
 abbrev pub pairBits : ℕ → Complement → List ℕ
 pairBits n undefined = 0 ∷ []
 pairBits n (complement x y) = 1 ∷ (wordBits n x ++ wordBits n y)
 
--- "Table: n − 1 in 4 bits; for each pair .."
+-- 5.4: a table: n − 1, then its pairs in order
 unfoldable pub tableImage : Presentation → List ℕ
 tableImage T = pack (digits sizeWidth (T .size - 1) ++ concatMap (concatMap (pairBits (T .size))) (T .rows))
 
--- "for each move a bit, 1 for back, and a move field"
+-- 5.5: a letter of a program: its sign, 1 if it is a back letter, then its field
 abbrev pub signedBits : ℕ → Letter → List ℕ
 signedBits n (forward a) = 0 ∷ letterBits n a
 signedBits n (back a) = 1 ∷ letterBits n a
 
--- "Program: the count in 12 bits; for each move .."
+-- 5.5: a program: how many letters it has, then these
 unfoldable pub programImage : ℕ → Word → List ℕ
 programImage n w = pack (digits countWidth (length w) ++ concatMap (signedBits n) w)
 
--- "each entry an offset in 12 bits and fields a, b", after "the count in 16 bits"
+-- 5.6: how many bits an entry has, where entry number `index` begins, and an entry: its offset, then a and b
 abbrev pub entryWidth : ℕ → ℕ
 entryWidth n = offsetWidth + 2 * letterWidth n
 
@@ -66,13 +66,13 @@ entryPosition n index = chainCountWidth + index * entryWidth n
 abbrev pub entryBits : ℕ → Entry → List ℕ
 entryBits n e = digits offsetWidth (e .offset) ++ (letterBits n (e .a) ++ letterBits n (e .b))
 
--- "Chain: the count in 16 bits; each entry .."
+-- 5.6: a chain: how many entries it has, then these
 unfoldable pub chainImage : ℕ → List Entry → List ℕ
 chainImage n es = pack (digits chainCountWidth (length es) ++ concatMap (entryBits n) es)
 
 -- READING
 
--- a move field; `wrong` is the refusal where it names no letter
+-- 5.3: a letter's field; `wrong` is the refusal where it names no letter
 abbrev pub letterField : ℕ → ℕ → ℕ → List ℕ → Outcome (Read ℕ)
 letterField early wrong n bits =
     field early (letterWidth n) bits >>= λ r.
@@ -100,7 +100,7 @@ pairField n bits =
     field 1 1 bits >>= λ bit.
     cond (eqb (bit .value) 0) (answered (record { value = undefined; rest = bit .rest })) (definedField n (bit .rest))
 
--- the rows of the pairs in order: the first of k - 1 pairs, the next of k - 2, .. down to none
+-- 5.4: the rows of the pairs in order: the first of k - 1 pairs, the next of k - 2, .. down to none
 abbrev pub rowsOf : {A : Type 0} → (List ℕ → Outcome (Read A)) → ℕ → List ℕ → Outcome (Read (List (List A)))
 rowsOf reader zero input = answered (record { value = []; rest = input })
 rowsOf reader (suc k) input =
@@ -108,7 +108,7 @@ rowsOf reader (suc k) input =
     rowsOf reader k (row .rest) >>= λ rs.
     answered (record { value = row .value ∷ rs .value; rest = rs .rest })
 
--- refusals 1 and 2, "the first met in reading counts", then 3
+-- 5.3, 5.4: refusal 1 or 2, whichever the reading comes to first, then 3
 unfoldable pub readTable : List ℕ → Outcome Presentation
 readTable bytes =
     field 1 sizeWidth (bitsOf bytes) >>= λ head.
@@ -124,7 +124,7 @@ signedField n bits =
     letterField 4 5 n (sign .rest) >>= λ a.
     answered (record { value = signed (sign .value) (a .value); rest = a .rest })
 
--- refusals 4 and 5, the first met, then 6, of a program image under a table of n letters
+-- 5.3, 5.5: refusal 4 or 5, whichever the reading comes to first, then 6, of a program image under a table of n letters
 unfoldable pub readProgram : ℕ → List ℕ → Outcome Word
 readProgram n bytes =
     field 4 countWidth (bitsOf bytes) >>= λ k.
@@ -138,7 +138,7 @@ entryField n bits =
     letterField 4 5 n (a .rest) >>= λ b.
     answered (record { value = record { offset = at .value; a = a .value; b = b .value }; rest = b .rest })
 
--- refusals 4 and 5, the first met, then 6, of a chain image
+-- 5.3, 5.6: refusal 4 or 5, whichever the reading comes to first, then 6, of a chain image under a table of n letters
 unfoldable pub readChain : ℕ → List ℕ → Outcome (List Entry)
 readChain n bytes =
     field 4 chainCountWidth (bitsOf bytes) >>= λ k.

@@ -1,4 +1,4 @@
--- What a service gives: an answer, or a refusal by document 01's number with its place numbers ("Refusals, in checking order").
+-- Specification 7, what a service gives: an answer, or a refusal by its number (7.1) with its place numbers (7.3).
 use mathlib.Core.List.{List, []}
 use mathlib.Core.Bool.{Bool, true, false}
 use Prim.Native.Nat.{ℕ}
@@ -7,13 +7,13 @@ pub data Outcome (A : Type 0) : Type 0 where
   answered : A → Outcome A
   refused : ℕ → List ℕ → Outcome A
 
--- the checks in their order: the first refusal stands
+-- 7.2: the tests in their order: the first refusal stands
 infixl 10 _>>=_
 abbrev pub _>>=_ : {A B : Type 0} → Outcome A → (A → Outcome B) → Outcome B
 answered x >>= f = f x
 refused n ps >>= f = refused n ps
 
--- a refusal where the test holds, else the answer
+-- 7.1: a refusal without place numbers where the test holds, else the answer
 abbrev pub unless : {A : Type 0} → Bool → ℕ → A → Outcome A
 unless true n x = refused n []
 unless false n x = answered x

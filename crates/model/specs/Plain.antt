@@ -1,5 +1,4 @@
--- The plain forms. Document 01, "Images": "Unpacked table: a byte n; for each pair 255 if open, else a length byte and moves, twice." An
--- unpacked program is a byte a letter.
+-- Specification 5.7 and 5.8: the plain forms of a table and of a program, which is a byte a letter.
 use mathlib.Core.List.{List, [], _∷_, _++_, map}
 use mathlib.Core.Bool.{Bool, not, _&&_, _||_, cond}
 use Prim.Native.Nat.{ℕ, _%_}
@@ -12,14 +11,14 @@ use Rattle.model.specs.Outcome.{Outcome, answered, refused, _>>=_, unles
 use Rattle.model.specs.Bits.{Read}
 use Rattle.model.specs.Images.{several, rowsOf}
 
--- the byte of an open pair, and the most letters of a program
+-- the byte of an open pair (5.7), and the most letters of a program (1.3)
 abbrev pub openByte : ℕ
 openByte = 255
 
 abbrev pub mostLetters : ℕ
 mostLetters = 4095
 
--- WRITING
+-- WRITING (5.7, 5.8)
 
 abbrev pub plainWord : Positive → List ℕ
 plainWord x = length x ∷ x
@@ -36,20 +35,20 @@ plainProgram w = map byte w
 
 -- READING
 
--- refusal 1: "The table, packed or plain, ends before its last field."
+-- 5.7: a byte of a plain table; refusal 1 where none is left
 abbrev pub nextByte : List ℕ → Outcome (Read ℕ)
 nextByte [] = refused 1 []
 nextByte (x ∷ xs) = answered (record { value = x; rest = xs })
 
--- refusal 2: "A table field names no move, or in plain form n or a length is out of range"
+-- 5.7: a letter of a word; refusal 2 where its byte is not 1 to n
 abbrev pub plainLetter : ℕ → List ℕ → Outcome (Read ℕ)
 plainLetter n input = nextByte input >>= λ r. unless (ltb (r .value) 1 || ltb n (r .value)) 2 r
 
--- a word whose length byte was read
+-- 5.7: a word whose length byte was read; refusal 2 where that is above 15
 abbrev pub plainLetters : ℕ → ℕ → List ℕ → Outcome (Read Positive)
 plainLetters n k input = unless (ltb 15 k) 2 k >>= λ k. several (plainLetter n) k input
 
--- a pair that is not open, and whose first length byte was read
+-- 5.7: a pair that is not open, and whose first length byte was read
 abbrev pub plainDefined : ℕ → ℕ → List ℕ → Outcome (Read Complement)
 plainDefined n k input =
     plainLetters n k input >>= λ x.
@@ -62,7 +61,7 @@ plainPairAt n input =
     nextByte input >>= λ k.
     cond (eqb (k .value) openByte) (answered (record { value = undefined; rest = k .rest })) (plainDefined n (k .value) (k .rest))
 
--- refusals 1 and 2, the first met, then 3: "bytes follow it"
+-- 5.7: refusal 1 or 2, whichever the reading comes to first, then 3 where bytes are left; also 2 where n is not 1 to 16
 unfoldable pub readPlainTable : List ℕ → Outcome Presentation
 readPlainTable bytes =
     nextByte bytes >>= λ n.
@@ -70,11 +69,11 @@ readPlainTable bytes =
     rowsOf (plainPairAt (n .value)) (n .value) (n .rest) >>= λ rs.
     unless (ltb 0 (length (rs .rest))) 3 (record { size = n .value; rows = rs .value })
 
--- a byte that names a letter, forward or back
+-- 5.8: a byte that names a letter, forward or back
 abbrev pub namesLetter : ℕ → ℕ → Bool
 namesLetter n x = leb 1 (x % backByte) && leb (x % backByte) n
 
--- refusal 5: "a byte to be packed, names no move"
+-- 5.8: refusal 5 at a byte that names no letter
 abbrev pub plainLettersSigned : ℕ → List ℕ → Outcome Word
 plainLettersSigned n [] = answered []
 plainLettersSigned n (x ∷ xs) =
@@ -82,6 +81,6 @@ plainLettersSigned n (x ∷ xs) =
     plainLettersSigned n xs >>= λ w.
     answered (a ∷ w)
 
--- refusal 4: "more than 4,095 moves are to be packed"; "the count to be packed is tested before the moves"
+-- 5.8: refusal 4 where there are more than 4,095 bytes, before any of them is looked at
 unfoldable pub readPlainProgram : ℕ → List ℕ → Outcome Word
 readPlainProgram n bytes = unless (ltb mostLetters (length bytes)) 4 bytes >>= plainLettersSigned n

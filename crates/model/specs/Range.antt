@@ -1,4 +1,4 @@
--- What is in range: bytes, and the words, programs, tables and chains that an image can hold. Document 01, "Moves, tables, programs".
+-- Specification 1.3, what is in range: bytes, and the words, programs, tables and chains that an image can hold.
 use mathlib.Core.List.{List, [], _∷_}
 use mathlib.Core.Path.{_≡_}
 use Prim.Native.Nat.{ℕ, zero, suc, _^_, _≤_, _<_}
@@ -17,7 +17,7 @@ All P (x ∷ xs) = P x × All P xs
 abbrev pub AreBytes : List ℕ → Type 0
 AreBytes xs = (i : ℕ) → getD xs i 0 < 256
 
--- "moves, numbered 1 to n"
+-- 2.1: the numbers of n letters go from 1 to n
 pub record InRange (n a : ℕ) : Type 0 where
   pub low : 1 ≤ a
   pub high : a ≤ n
@@ -29,16 +29,16 @@ numberOf (back a) = a
 abbrev pub LetterInRange : ℕ → Letter → Type 0
 LetterInRange n x = InRange n (numberOf x)
 
--- every letter of a word is one of n
+-- 2.1: every letter of a word is one of n
 abbrev pub Lettered : ℕ → Word → Type 0
 Lettered n w = All (LetterInRange n) w
 
--- "A program is 0 to 4,095 moves"
+-- 1.3: a program, of at most 4,095 letters
 pub record ProgramInRange (n : ℕ) (w : Word) : Type 0 where
   pub short : length w < 2 ^ countWidth
   pub letters : Lettered n w
 
--- "words of forward moves, each 0 to 15 long"
+-- 1.3: a completion, of at most 15 letters
 pub record WordInRange (n : ℕ) (x : Positive) : Type 0 where
   pub short : length x < 2 ^ lengthWidth
   pub letters : All (InRange n) x
@@ -47,19 +47,20 @@ abbrev pub PairInRange : ℕ → Complement → Type 0
 PairInRange n undefined = Unit {0}
 PairInRange n (complement x y) = WordInRange n x × WordInRange n y
 
--- k rows, the first of k - 1 pairs, the next of k - 2, .. down to none
+-- 2.2: k rows, the first of k - 1 pairs, the next of k - 2, .. down to none
 abbrev pub Rows : {A : Type 0} → (A → Type 0) → ℕ → List (List A) → Type 0
 Rows P zero [] = Unit {0}
 Rows P zero (row ∷ rows) = ⊥
 Rows P (suc k) [] = ⊥
 Rows P (suc k) (row ∷ rows) = (length row ≡ k) × All P row × Rows P k rows
 
--- "A table has n moves, numbered 1 to n, n from 1 to 16"
+-- 1.3: a table, of 1 to 16 letters
 pub record TableInRange (T : Presentation) : Type 0 where
   pub some : 1 ≤ T .size
   pub few : T .size ≤ 16
   pub pairs : Rows (PairInRange (T .size)) (T .size) (T .rows)
 
+-- 1.3: an entry, with an offset of at most 4,095, and a chain, of at most 65,535 entries
 pub record EntryInRange (n : ℕ) (e : Entry) : Type 0 where
   pub offset-small : e .offset < 2 ^ offsetWidth
   pub a-names : InRange n (e .a)

@@ -1,5 +1,4 @@
--- Document 01, "Services" and "Refusals, in checking order": what each service answers, for every table, program, budget of steps and area
--- length.
+-- Specification 6 and 7.2: what each service answers, for every table, program, budget of steps and area length.
 use mathlib.Core.List.{List, [], _∷_, _++_}
 use mathlib.Core.Bool.{Bool, true, false, not, cond}
 use mathlib.Core.Option.{Option, none, some}
@@ -16,15 +15,15 @@ use Rattle.model.specs.Bits.{bytesFor}
 use Rattle.model.specs.Images.{entryPosition, readTable, readProgram, readChain, tableImage, programImage}
 use Rattle.model.specs.Plain.{plainTable, plainProgram, readPlainTable, readPlainProgram}
 
--- REVERSE
+-- REVERSE (6.2)
 
 pub record Fraction : Type 0 where
   pub numerator : Positive
   pub denominator : Positive
   pub steps : ℕ
 
--- what reverse makes of an ending: 13 where the answer area is shorter than N and D together; 10 "names .. the pair, the back move's number
--- first"; 11 and 12 with no place numbers
+-- 6.2: what reverse makes of an ending: 13 where the answer area is shorter than N and D together; 10 with the back letter's number before
+-- the forward letter's; 11 and 12 with no place numbers
 abbrev pub fractionOf : ℕ → Ending → Outcome Fraction
 fractionOf area (finished n d k r) = unless (ltb area (length n + length d)) 13 (record { numerator = n; denominator = d; steps = k })
 fractionOf area (open-pair a b k) = refused 10 (a ∷ b ∷ [])
@@ -36,47 +35,46 @@ reverse table program steps width area =
     readProgram (T .size) program >>= λ w.
     fractionOf area (reversing T steps width w)
 
--- CLEAR
+-- CLEAR (6.3)
 
 unfoldable pub clear : List ℕ → ℕ → ℕ → Outcome (Unit {0})
 clear table steps width = readTable table >>= λ T. cleared T steps width
 
--- COMPARE
+-- COMPARE (6.4)
 
 abbrev pub isForward : Word → Bool
 isForward [] = true
 isForward (forward a ∷ w) = isForward w
 isForward (back a ∷ w) = false
 
--- refusal 7: "A program that must be forward has a back move."
+-- 6.4: a program is read; refusal 7 where one of its letters is a back letter
 unfoldable pub readForward : ℕ → List ℕ → Outcome Positive
 readForward n bytes = readProgram n bytes >>= λ w. unless (not (isForward w)) 7 (forwards w)
 
--- "The result has the steps."
+-- 6.4: a verdict, with the steps
 pub data Verdict : Type 0 where
   same-after : ℕ → Verdict
   different-after : ℕ → Verdict
 
--- "Empty: same. A finished word that isn't empty ..: different."
+-- 6.4: same if N and D are empty, else different
 abbrev pub judged : Positive → Positive → ℕ → Verdict
 judged [] [] k = same-after k
 judged [] (x ∷ d) k = different-after k
 judged (x ∷ n) d k = different-after k
 
--- ".. or an open pair: different." Refusal 14: "A comparison's reversing finished with N and D of unequal length."
+-- 6.4: what an ending comes to: refusal 14 where N and D have different lengths; after an open pair different
 abbrev pub verdictOf : Ending → Outcome Verdict
 verdictOf (finished n d k r) = unless (not (eqb (length n) (length d))) 14 (judged n d k)
 verdictOf (open-pair a b k) = answered (different-after k)
 verdictOf (stopped s) = refused (stopNumber s) []
 
--- two positive words under a table that was read: "clears the table; programs of unequal length are different with 0 steps; else the first's
--- undoing, then the second, is reversed."
+-- 6.4: two positive words under a table that was read and must clear; if their lengths differ, different after 0 steps; else they are reversed
 unfoldable pub comparison : Presentation → Positive → Positive → ℕ → ℕ → Outcome Verdict
 comparison T u v steps width =
     cleared T steps width >>= λ ok.
     cond (eqb (length u) (length v)) (verdictOf (reversing T steps width (negative u ++ positive v))) (answered (different-after 0))
 
--- "A first program passes 4 to 7 before the second"
+-- 6.4: all tests of the first program come before those of the second
 unfoldable pub compare : List ℕ → List ℕ → List ℕ → ℕ → ℕ → Outcome Verdict
 compare table first second steps width =
     readTable table >>= λ T.
@@ -84,18 +82,18 @@ compare table first second steps width =
     readForward (T .size) second >>= λ v.
     comparison T u v steps width
 
--- CHAIN
+-- CHAIN (6.6)
 
--- the bytes of a chain image with so many entries
+-- 5.10: the bytes of a chain image with so many entries
 abbrev pub chainBytes : ℕ → ℕ → ℕ
 chainBytes n entries = bytesFor (entryPosition n entries)
 
--- refusal 13: "for a chain, only after 'same', shorter than an image with as many entries as there were steps"
+-- 6.6: refusal 13 after same, where the answer area is shorter than a chain image with an entry for each step
 abbrev pub listable : ℕ → ℕ → Verdict → Outcome Verdict
 listable n area (same-after k) = unless (ltb area (chainBytes n k)) 13 (same-after k)
 listable n area (different-after k) = answered (different-after k)
 
--- "Chain: as compare"; the chain itself stands in the answer area (Areas.antt)
+-- 6.6: as compare; the chain itself stands in the answer area (Areas.antt)
 unfoldable pub chain : List ℕ → List ℕ → List ℕ → ℕ → ℕ → ℕ → Outcome Verdict
 chain table first second steps width area =
     readTable table >>= λ T.
@@ -103,29 +101,29 @@ chain table first second steps width area =
     readForward (T .size) second >>= λ v.
     comparison T u v steps width >>= listable (T .size) area
 
--- CHECK A CHAIN
+-- CHECK A CHAIN (6.7)
 
--- "joins; breaks at entry k (from 0); or ends at another program"
+-- 6.7: the three answers; an entry that breaks has its number, counted from 0
 pub data Passage : Type 0 where
   joins : Passage
   breaks : ℕ → Passage
   ends-elsewhere : Passage
 
--- what the entry numbered k comes to; refusal 12: "the result of an entry that fits is longer than it"
+-- 6.7: what the entry numbered k comes to: it breaks the chain; refusal 12 where the new word is longer than the workspace; else it goes on
 abbrev pub followedBy : ℕ → ℕ → (Positive → Outcome Passage) → Option Positive → Outcome Passage
 followedBy width k go none = answered (breaks k)
 followedBy width k go (some w) = cond (ltb width (length w)) (refused 12 []) (go w)
 
--- from the word u, with the entries from number k on still to come
+-- 6.7: from the word u, with the entries from number k on still to come
 unfoldable pub followed : Presentation → ℕ → ℕ → Positive → List Entry → Positive → Outcome Passage
 followed T width k u [] v = answered (cond (equal u v) joins ends-elsewhere)
 followed T width k u (e ∷ es) v = followedBy width k (λ w. followed T width (suc k) w es v) (applied T u e)
 
--- a chain from u to v; refusal 12: "the first program .. is longer than it"
+-- 6.7: a chain from u to v; refusal 12 where u is longer than the workspace
 abbrev pub passage : Presentation → ℕ → Positive → List Entry → Positive → Outcome Passage
 passage T width u es v = cond (ltb width (length u)) (refused 12 []) (followed T width 0 u es v)
 
--- the programs before the chain image. "It needs no cleared table."
+-- 6.7: the programs are read before the chain image, and the table need not clear
 unfoldable pub check : List ℕ → List ℕ → List ℕ → List ℕ → ℕ → Outcome Passage
 check table first second entries width =
     readTable table >>= λ T.
@@ -134,9 +132,9 @@ check table first second entries width =
     readChain (T .size) entries >>= λ es.
     passage T width u es v
 
--- PACK AND UNPACK
+-- PACK AND UNPACK (6.8)
 
--- refusal 13 where the answer area is shorter than the bytes
+-- 6.8: refusal 13 where the answer area is shorter than the bytes
 abbrev pub fitted : ℕ → List ℕ → Outcome (List ℕ)
 fitted area bytes = unless (ltb area (length bytes)) 13 bytes
 
@@ -146,7 +144,7 @@ packTable plain area = readPlainTable plain >>= λ T. fitted area (tableImage T)
 unfoldable pub unpackTable : List ℕ → ℕ → Outcome (List ℕ)
 unpackTable table area = readTable table >>= λ T. fitted area (plainTable T)
 
--- "a program always comes with its table's image": the program that an image, or a plain form, holds under it
+-- 6.8: the program that an image, or a plain form, holds under a table image
 abbrev pub programUnder : List ℕ → List ℕ → Outcome Word
 programUnder table program = readTable table >>= λ T. readProgram (T .size) program
 

@@ -1,5 +1,5 @@
--- Document 01's numbers and values for each case of the answers in src/answers.rt. A promise says that what is stated of the answer is the
--- service's outcome.
+-- Specification 7.1, 7.3 and the answers of 6: numbers and values for each case of src/answers.rt. A promise says that what is stated of the
+-- answer is the service's outcome.
 use mathlib.Core.List.{List, [], _∷_}
 use Prim.Native.Nat.{ℕ}
 use lib.ListN.{length}
@@ -25,13 +25,12 @@ use Rattle.model.specs.Reversing.{Stop, budget, room, Ending, finished, 
 use Rattle.model.specs.Outcome.{Outcome, answered, refused}
 use Rattle.model.specs.Services.{Fraction, Verdict, same-after, different-after, Passage, joins, breaks, ends-elsewhere}
 
--- "a triple comes with its three numbers, the programs .. with none"
+-- 7.3: the place numbers of 11 and 12: those of the triple that was under way, or none if the programs were
 abbrev pub placeNumbers : Place → List ℕ
 placeNumbers (Triple t) = t .a ∷ t .b ∷ t .c ∷ []
 placeNumbers Programs = []
 
--- a refusal's number and place numbers: "8 names the pair, 9 the triple, 10 the pair, the back move's number first; 11 and 12 also say whether
--- a triple of the table or the two programs were under way"
+-- 7.1, 7.3: a refusal's number and place numbers; of 10, `a` is the back letter's
 abbrev pub numbered : Refusal → ℕ × List ℕ
 numbered TableEnds = (1, [])
 numbered TableField = (2, [])
@@ -48,16 +47,16 @@ numbered (WorkspaceShort p) = (12, placeNumbers p)
 numbered AnswerShort = (13, [])
 numbered UnequalEnds = (14, [])
 
--- the outcome, whatever the answer would have been
+-- 7.1: the outcome, whatever the answer would have been
 abbrev pub refusal : {A : Type 0} → Refusal → Outcome A
 refusal r = refused (numbered r .0) (numbered r .1)
 
--- 11 and 12 of the programs
+-- 7.3: 11 and 12 of the programs
 abbrev pub stopRefusal : StopAnswer → Refusal
 stopRefusal Budget = AllowanceUsed Programs
 stopRefusal Room = WorkspaceShort Programs
 
--- Reverse: "their lengths and the steps in the result"
+-- 6.2: the answer of reverse: the lengths of N and D, and the steps
 pub record Sizes : Type 0 where
   pub numerator : ℕ
   pub denominator : ℕ
@@ -70,28 +69,30 @@ abbrev pub reversed : Reversed → Outcome Sizes
 reversed (Answer n d k) = answered (record { numerator = n; denominator = d; steps = k })
 reversed (ReverseRefused r) = refusal r
 
+-- 6.3: clear
 abbrev pub clearedAs : Cleared → Outcome (Unit {0})
 clearedAs Passed = answered tt
 clearedAs (ClearRefused r) = refusal r
 
--- Compare and chain
+-- 6.4, 6.6: compare and chain
 abbrev pub compared : Compared → Outcome Verdict
 compared (Same k) = answered (same-after k)
 compared (Different k) = answered (different-after k)
 compared (CompareRefused r) = refusal r
 
+-- 6.7: check
 abbrev pub checked : Checked → Outcome Passage
 checked Joins = answered joins
 checked (Breaks k) = answered (breaks k)
 checked EndsElsewhere = answered ends-elsewhere
 checked (CheckRefused r) = refusal r
 
--- packing and unpacking: the number of bytes written
+-- 6.8: packing and unpacking: the number of bytes written
 abbrev pub packedAs : Packed → Outcome ℕ
 packedAs (Written k) = answered k
 packedAs (PackRefused r) = refusal r
 
--- how a reversing ends, by lengths: the answer that each ending of the model has
+-- 3.2: how a reversing ends, by lengths: the answer that each ending of the model has
 abbrev pub stopAnswer : Stop → StopAnswer
 stopAnswer budget = Budget
 stopAnswer room = Room

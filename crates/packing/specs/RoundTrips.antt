@@ -1,4 +1,4 @@
--- Packing and unpacking undo each other. Document 01, "Services" and "Images".
+-- Specification 6.9: packing and unpacking undo each other.
 use mathlib.Core.List.{List}
 use mathlib.Core.Path.{_≡_}
 use Prim.Native.Nat.{ℕ, _≤_}

@@ -1,4 +1,4 @@
-// The packing services of document 01: tables and programs between their plain form and their image.
+// The packing services (specification 6.8): tables and programs between their plain form and their image.
 pub mod pack_program;
 pub mod pack_table;
 pub mod unpack_program;

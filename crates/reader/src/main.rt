@@ -1,9 +1,9 @@
-// The bench reader: what a table image and a program image come to, by document 01's bench sheet.
+// The bench reader (specification 9): what a table image and a program image come to.
 use libc::STDOUT_FILENO;
 ghost use Rattle.io.specs.Counts.{Counts};
 
 // Reads the start of the file that an argument names, and gives how many bytes. A file that cannot be read, or no such argument, counts as
-// empty. No image has more than 2,561 bytes, so a longer file is refused however much more it has.
+// empty. No table or program image has more than 2,561 bytes, so a longer file is refused however much more it has.
 fn read_named(argument: usize, image: &mut [u8]) -> usize
     ensures { λ r. ⌜ Counts r (now (image .exit)) ⌝ }
 {

@@ -1,4 +1,4 @@
--- What the services write into the lent areas.
+-- What reverse writes into the answer area.
 use mathlib.Core.List.{List, _++_}
 use mathlib.Core.Path.{_≡_}
 use Prim.Native.Nat.{ℕ, _+_}

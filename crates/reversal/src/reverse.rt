@@ -1,4 +1,4 @@
-// Reverse: N, then D, in the answer area.
+// Reverse (specification 6.2): N, then D, in the answer area.
 ghost use mathlib.Core.Path.{_≡_};
 ghost use lib.ListN.{length};
 ghost use Rattle.model.specs.Outcome.{mapped};

@@ -12,7 +12,7 @@ pub record Placed (bytes : List ℕ) (left right : ℕ) : Type 0 where
   pub ordered : left ≤ right
   pub inside : right ≤ length bytes
 
--- the gap stands before `to` and `right′`, and the word is as it was
+-- the gap stands between `to` and `right′`, and the word is as it was
 pub record Carried (before : List ℕ) (left right to : ℕ) (after : List ℕ) (right′ : ℕ) : Type 0 where
   pub same-length : length after ≡ length before
   pub placed : Placed after to right′

@@ -1,4 +1,4 @@
--- The bench sheet's five lines, and the other shapes that a report has, computed.
+-- The report of the example (specification 9.3), and the other shapes that a report has, computed.
 use mathlib.Core.List.{List, [], _∷_, _++_}
 use mathlib.Core.Path.{refl}
 use Rattle.model.specs.Word.{forward, back}
@@ -25,7 +25,7 @@ numbers-hold = (refl, (refl, (refl, (refl, (refl, tt)))))
 
 abbrev pub reports : List {1} Case
 reports =
-    -- the bench sheet's program
+    -- the example
     (report braidBytes firstBytes gives
     -- moves 3
     109 ∷ 111 ∷ 118 ∷ 101 ∷ 115 ∷ 32 ∷ 51 ∷ 10 ∷

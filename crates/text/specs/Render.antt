@@ -7,7 +7,7 @@ use Rattle.images.specs.Programs.{Accepted}
 use Rattle.images.specs.Tables.{SizeOf}
 use Rattle.text.specs.Text.{report}
 
--- the bench's areas, and an output area that has room for the longest report
+-- the reader's areas (specification 9.2), and an output area that has room for the longest report
 pub record Areas (workspace answer out : List ℕ) : Type 0 where
   pub workspace-length : length workspace ≡ 32768
   pub answer-length : length answer ≡ 32768

@@ -1,4 +1,4 @@
--- The bench reader's output, byte for byte. Document 01, "Bench sheet".
+-- Specification 9.2 to 9.4: the bench reader's output, byte for byte.
 use mathlib.Core.List.{List, [], _∷_, _++_}
 use mathlib.Core.Bool.{cond}
 use Prim.Native.Nat.{ℕ, _+_, _/_, _%_}
@@ -43,22 +43,22 @@ refusedLabel = 114 ∷ 101 ∷ 102 ∷ 117 ∷ 115 ∷ 101 ∷ 100 ∷ []
 
 -- NUMBERS AND WORDS
 
--- the digit of a power of ten; none where the number is below that power, so that no zero leads
+-- 9.3: the digit of a power of ten; none where the number is below that power, so that no zero leads
 abbrev pub digit : ℕ → ℕ → List ℕ
 digit power x = cond (ltb x power) [] ((zeroDigit + (x / power) % 10) ∷ [])
 
--- a number of at most five digits, in decimal
+-- 9.3: a number of at most five digits, in decimal
 unfoldable pub number : ℕ → List ℕ
 number x = digit 10000 x ++ (digit 1000 x ++ (digit 100 x ++ (digit 10 x ++ ((zeroDigit + x % 10) ∷ []))))
 
--- one space before each number
+-- 9.3: one space before each number
 abbrev pub spacedNumber : ℕ → List ℕ
 spacedNumber a = space ∷ number a
 
 unfoldable pub numbersText : List ℕ → List ℕ
 numbersText ns = concatMap spacedNumber ns
 
--- "each forward (written 3) or back (written -3)"
+-- 9.3: one space before each move, and a minus before the number of a back one
 abbrev pub letterText : Letter → List ℕ
 letterText (forward a) = spacedNumber a
 letterText (back a) = space ∷ minus ∷ number a
@@ -66,13 +66,13 @@ letterText (back a) = space ∷ minus ∷ number a
 unfoldable pub wordText : Word → List ℕ
 wordText w = concatMap letterText w
 
--- the same of a word in bytes
+-- 9.3: the same of a word in bytes
 unfoldable pub bytesText : List ℕ → List ℕ
 bytesText bytes = concatMap (λ x. letterText (letter x)) bytes
 
 -- LINES
 
--- "an empty word leaves the label alone on its line"
+-- 9.3: a label, what follows it, which is nothing for an empty word, and a newline
 abbrev pub line : List ℕ → List ℕ → List ℕ
 line label text = label ++ (text ++ (newline ∷ []))
 
@@ -84,12 +84,12 @@ answerText n program numerator denominator steps =
     ++ (line denominatorLabel (numbersText denominator)
     ++ line stepsLabel (spacedNumber steps))))
 
--- "After a refusal it prints one line, `refused`, the number, then its place numbers if any, with one space between; nothing else."
+-- 9.3, 9.4: the lines of an answer, or the line of a refusal: its number and its place numbers
 abbrev pub outcomeText : Outcome (List ℕ) → List ℕ
 outcomeText (answered text) = text
 outcomeText (refused n places) = line refusedLabel (numbersText (n ∷ places))
 
--- "its allowance is 65,535, its workspace and answer area 32,768 bytes each"
+-- 9.2: the program reversed with the reader's allowance and areas
 abbrev pub reading : List ℕ → List ℕ → Outcome (List ℕ)
 reading table program =
     readTable table >>= λ T.
@@ -97,6 +97,6 @@ reading table program =
     reverse table program 65535 32768 32768 >>= λ f.
     answered (answerText (T .size) (wordText w) (f .numerator) (f .denominator) (f .steps))
 
--- what the reader prints of a table image and a program image
+-- 9.2: what the reader writes of a table image and a program image
 unfoldable pub report : List ℕ → List ℕ → List ℕ
 report table program = outcomeText (reading table program)

@@ -1,5 +1,5 @@
--- What the two checks of a table show: each reversing, each side and each triple, and from the lists of pairs and triples all of them. A
--- triple passes only where the cube rule holds and fails only where it does not. Document 01, "The two checks of a table"; a triple's rule is the cube property of document 004.
+-- What the checks of specification 4 show: each reversing, each side and each triple, and from the lists of pairs and triples all of them. A
+-- triple passes only where the cube rule holds and fails only where it does not. A triple's rule is the cube property of [D2].
 use mathlib.Core.Path.{_≡_, refl, ap, subst₂}
 use mathlib.Core.Logic.{_≢_}
 use mathlib.Core.List.{List, [], _∷_, _++_, List·Memᴰ, List·Memᴰ·head, List·Memᴰ·tail}
@@ -222,6 +222,6 @@ module _ (T : Presentation) (steps width : ℕ) where
           let nine : n ≡ 9 = cc in
           absurd (omega arith)
 
-  -- refusal 9 exactly for its fault
+  -- a table passes only where all triples obey the rule, and 9 comes only with the first that breaks it
   pub cube-exactly : CubeMeaning T (cleared T steps width)
   cube-exactly = record { passed = checked-triples T steps width; broken = checked-broken }

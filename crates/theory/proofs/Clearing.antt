@@ -1,5 +1,5 @@
 -- A table that `cleared` passes, at any budget and room, is homogeneous and satisfies the cube rule on all different letters in every order.
--- So it satisfies the condition on letters from which completeness follows (document 001, Prop. 4.4; document 004, Prop. 6.1).
+-- So it satisfies the condition on letters from which completeness follows ([D3] Prop. 4.4; [D2] Prop. 6.1).
 use mathlib.Core.Path.{_≡_, refl, sym, ap, _∙_}
 use mathlib.Core.Logic.{_≢_}
 use mathlib.Core.List.{[]}

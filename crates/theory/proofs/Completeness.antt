@@ -1,5 +1,5 @@
 -- Where the cube condition holds on letters and relations keep weight, equivalent words reverse to the empty word: by induction on the weight
--- of a diagram, as document 002 proves Lemma 1.4 from coherence, and documents 001 (Prop. 4.4) and 004 (Prop. 6.1) restate it.
+-- of a diagram, as [D1] proves Lemma 1.4 from coherence, and [D3] (Prop. 4.4) and [D2] (Prop. 6.1) restate it.
 use mathlib.Core.Path.{_≡_, refl, sym, ap, _∙_}
 use mathlib.Core.Logic.{_≢_}
 use mathlib.Core.List.{[], _∷_, _++_, append-nil}

@@ -1,5 +1,5 @@
--- From a reversing of u's inverse, then v, that ends empty follows, constructively, a list of entries that leads from u to v: document 002's
--- Lemma 1.2 (ii), with the steps counted. It has exactly as many entries as the reversing had steps on two different letters.
+-- From a reversing of u's inverse, then v, that ends empty follows, constructively, a list of entries that leads from u to v: [D1]
+-- Lemma 1.2 (ii), with the steps counted. It has one entry for each step on two different letters, and no other.
 use mathlib.Core.Path.{_≡_, _∙_}
 use mathlib.Core.List.{List, [], _∷_, _++_}
 use Prim.Native.Nat.{ℕ, _≤_, _<_}

@@ -1,5 +1,5 @@
 -- Reversing diagrams: `Grid f u v n d k` says that the inverse of u, then v, is reversed to n, then the inverse of d, in k steps.
--- They compose and split (document 002, Lemma 1.3), turn, are determined by u and v (1.1), and u n is equivalent to v d (1.2).
+-- They compose and split ([D1] Lemma 1.3), turn, are determined by u and v (1.1), and u n is equivalent to v d (1.2).
 use mathlib.Core.Path.{_≡_, refl, sym, ap, _∙_, subst₂}
 use mathlib.Core.List.{[], _∷_, _++_, append-assoc, append-nil}
 use Prim.Native.Nat.{ℕ, suc, _+_}

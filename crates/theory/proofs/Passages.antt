@@ -1,4 +1,4 @@
--- Checking a chain answers just what `Passes` says (document 01, "Services"); and of a table that clears, a chain whose first word fits is
+-- Checking a chain answers just what `Passes` says (specification 6.7); and of a table that clears, a chain whose first word fits is
 -- followed to its end.
 use mathlib.Core.Path.{_≡_, refl, sym, ap, ap₂, subst, _∙_}
 use mathlib.Core.Logic.{_≢_, _↔_}

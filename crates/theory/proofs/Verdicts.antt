@@ -1,5 +1,5 @@
--- Demand 3 of the model's `comparison`, for every presentation, positive words u and v, budget and room; and of every way to tell its verdict.
--- Reversing decides equivalence under a table that clears (document 001, Prop. 4.4; document 004, Prop. 6.1); the parts are proved in Comparison.antt.
+-- Specification 6.5 of the model's `comparison`, for every presentation, positive words, budget and room; and of every way to tell its verdict.
+-- Reversing decides equivalence under a table that clears ([D3] Prop. 4.4; [D2] Prop. 6.1); the parts are proved in Comparison.antt.
 use mathlib.Core.Path.{_≡_, ap}
 use Prim.Native.Nat.{ℕ}
 use Rattle.model.specs.Word.{Positive}

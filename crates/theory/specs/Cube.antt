@@ -1,4 +1,4 @@
--- What the cube check says of the cube rule. Document 01, "The two checks of a table": refusal 9 comes exactly for its fault.
+-- Specification 4.6: what the outcome of the cube check says of the cube rule.
 use mathlib.Core.List.{List, [], _∷_, _++_}
 use mathlib.Core.Path.{_≡_}
 use Prim.Native.Nat.{ℕ}
@@ -18,7 +18,7 @@ Says T t holds = Obeys T t
 Says T t fails = Obeys T t → ⊥
 Says T t (halts s) = Unit {0}
 
--- "the first triple that breaks the rule is the one reported", by its numbers
+-- the first of the triples at which the rule does not hold, by its numbers
 pub record FirstBroken (T : Presentation) (ts : List Three) (numbers : List ℕ) : Type 0 where
   pub before : List Three
   pub triple : Three

@@ -1,4 +1,4 @@
--- What checking a chain answers. Document 01, "Services": "joins; breaks at entry k (from 0); or ends at another program".
+-- Specification 6.7: what checking a chain answers, each outcome by what the entries do.
 use mathlib.Core.List.{List, [], _∷_, _++_}
 use mathlib.Core.Logic.{_≢_}
 use mathlib.Core.Option.{none, some}

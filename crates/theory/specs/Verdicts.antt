@@ -1,4 +1,4 @@
--- Demand 3, whole, as one statement: what the outcome of a comparison says of the two words. Document 01, "Services".
+-- Specification 6.5, whole, as one statement: what the outcome of a comparison says of the two words.
 use mathlib.Core.List.{[], _++_}
 use mathlib.Core.Path.{_≡_}
 use Prim.Native.Nat.{ℕ}
@@ -18,14 +18,14 @@ pub data Settled (tell : Verdict → Outcome Verdict) : Outcome Verdict → Type
 
 -- `tell` is how the service tells a verdict: chain may refuse one with 13
 pub record DemandThree (T : Presentation) (u v : Positive) (steps width : ℕ) (tell : Verdict → Outcome Verdict) (outcome : Outcome Verdict) : Type 0 where
-  -- "same" only if a chain of swaps joins the two words
+  -- `same` only if a chain of swaps joins the two words
   pub same-joined : (k : ℕ) → outcome ≡ answered (same-after k) → Joined T u v
-  -- "different" only if none does
+  -- `different` only if none does
   pub different-apart : (k : ℕ) → outcome ≡ answered (different-after k) → Joined T u v → ⊥
-  -- after the two checks, unless stopped, it is one or the other: never 14
+  -- under a table that clears it is a verdict, as the service tells it, or a stop: never 14
   pub verdict-or-stop : cleared T steps width ≡ answered tt → Settled tell outcome
   -- joined words have a reversing that ends empty,
   pub ends-empty : cleared T steps width ≡ answered tt → Joined T u v → EndsEmpty T (negative u ++ positive v)
-  -- and where allowance and workspace cover it, the answer is "same" with its steps
+  -- and where allowance and workspace cover it, the answer is `same` with its steps
   pub answers-same : cleared T steps width ≡ answered tt → Joined T u v → (k : ℕ) (run : Finishes T (negative u ++ positive v) [] [] k)
       → CoversSteps steps run → CoversRoom width run → outcome ≡ tell (same-after k)

@@ -1,4 +1,4 @@
-//! Images: fields of bits, most significant first, the last byte filled with zero bits.
+//! Images (specification 5.1 to 5.6): fields of bits, the highest first, and zero bits up to the last byte's end.
 use crate::outcome::Refusal;
 use crate::table::Table;
 use crate::word::Word;
@@ -74,7 +74,7 @@ impl<'a> Fields<'a> {
     }
 }
 
-/// The number of binary digits of n - 1; none for n = 1.
+/// The width of a move field (specification 5.2).
 pub fn width(moves: u8) -> usize {
     match moves {
         1 => 0,

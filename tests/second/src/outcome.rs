@@ -1,4 +1,4 @@
-//! Refusals, as document 01 numbers and places them.
+//! Refusals, as specification 7 numbers and places them.
 
 #[derive(Clone, Copy, Debug, PartialEq)]
 pub enum Place {

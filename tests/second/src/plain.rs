@@ -62,7 +62,7 @@ pub fn read_plain_table(bytes: &[u8]) -> Result<Table, Refusal> {
     Ok(table)
 }
 
-/// A program's moves from their bytes: the count is tested before the moves.
+/// A program's moves from their bytes (specification 5.8): their number is tested first.
 pub fn read_plain_program(bytes: &[u8], moves: u8) -> Result<Word, Refusal> {
     if bytes.len() > 4095 {
         return Err(Refusal::plain(4));

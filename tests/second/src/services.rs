@@ -1,4 +1,4 @@
-//! The services of document 01. Areas come in only by their lengths; what would be written is in the result.
+//! The services of specification 6. Areas come in only by their lengths; what would be written is in the result.
 use crate::chain::follow;
 use crate::image::*;
 use crate::outcome::{Passage, Place, Refusal, Verdict};

@@ -4,7 +4,7 @@ use crate::word::Word;
 #[derive(Clone, Debug, PartialEq)]
 pub struct Table {
     pub moves: u8,
-    /// The pairs in order of a, then b.
+    /// The pairs in the order of specification 4.1.
     pub pairs: Vec<Option<(Word, Word)>>,
 }
 

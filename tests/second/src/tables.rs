@@ -151,7 +151,7 @@ pub fn any(random: &mut Random) -> Table {
         4 => arbitrary(random, moves, longest, 50, true),
         5 => arbitrary(random, moves, longest, 0, false),
         6 => arbitrary(random, moves, longest, 90, false),
-        // C(a,b) = b a for every pair: endless.
+        // C(a,b) = b a throughout: endless.
         _ => Table::from_pairs(moves, |a, b| Some((vec![b as i8, a as i8], vec![a as i8, b as i8]))),
     }
 }

@@ -1,8 +1,8 @@
-//! Moves and words. A forward move is its number, a back move the number negated.
+//! Moves and words (specification 2.1). A back move is its number negated.
 
 pub type Word = Vec<i8>;
 
-/// The moves in opposite order with opposite signs.
+/// The undoing: the last move first, each sign turned.
 pub fn undoing(word: &[i8]) -> Word {
     word.iter().rev().map(|m| -m).collect()
 }

@@ -1,4 +1,4 @@
-//! Document 01's bench sheet, of the second implementation.
+//! Cases of specification 10, of the second implementation.
 use second::image::{chain_image, program_image, read_program, read_table, table_image, Entry};
 use second::outcome::{Passage, Place, Refusal, Verdict};
 use second::plain::{plain_table, read_plain_table};

@@ -95,7 +95,6 @@ add-at c = omega (arith, near (c .before .before .before .before))
 add-at-2 : tie.Need-add-at-2 Inv-loop μ-loop
 add-at-2 c = omega (arith, near (c .before .before .before .before), narrow (c .before .before .before .before .before))
 
--- src
 add-at-3 : tie.Need-add-at-3 Inv-loop μ-loop
 add-at-3 c = omega (arith, near (c .before .before .before .before), narrow (c .before .before .before .before .before))
 
