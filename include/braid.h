@@ -147,15 +147,15 @@ BRAID_CALL uint8_t braid_clear(const uint8_t *table, size_t table_length, uint16
                                uint64_t *values);
 
 /*
- * Clears the table and compares two programs of forward moves under it: the same exactly if a chain of swaps joins them, unless stopped.
+ * Clears the table and compares two programs of forward moves under it. A verdict is right (6.5): same if a chain joins them, else different.
  * Values: BRAID_SAME or BRAID_DIFFERENT, steps, 0, 0. Refusals: 1 to 9, 11, 12, 14 (which never comes).
  */
 BRAID_CALL uint8_t braid_compare(const uint8_t *table, size_t table_length, const uint8_t *first, size_t first_length, const uint8_t *second,
                                  size_t second_length, uint16_t allowance, uint8_t *workspace, size_t workspace_length, uint64_t *values);
 
 /*
- * As compare. After 'same' the answer area begins with the image of a chain from the first program to the second, at most as many entries as
- * steps; its first 16 bits are their number e, so that it has braid_chain_bytes(n, e) bytes, and braid_check answers it with BRAID_JOINS. After
+ * As compare. After 'same' the answer area begins with the image of a chain that turns the first program into the second, in no more entries
+ * than steps; its first 16 bits are their number e, so that it has braid_chain_bytes(n, e) bytes, and braid_check answers it with BRAID_JOINS. After
  * 'different' the area is as found.
  * Values: as compare. Refusals: as compare, and 13 after 'same' if the area is shorter than braid_chain_bytes(n, steps).
  */
@@ -164,7 +164,7 @@ BRAID_CALL uint8_t braid_chain(const uint8_t *table, size_t table_length, const 
                                size_t answer_length, uint64_t *values);
 
 /*
- * Follows a chain, whoever made it, from the first program of forward moves; the table need not clear. The workspace holds the word on its way; one
+ * Follows a given chain from the first program of forward moves; the table need not clear. The workspace holds the word on its way; one
  * as long as the first program suffices for a chain that braid_chain listed.
  * Values: BRAID_JOINS, BRAID_BREAKS or BRAID_ENDS_ELSEWHERE; the entry that breaks, from 0, else 0; 0; 0. Refusals: 1 to 7, 12.
  */
