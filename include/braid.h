@@ -99,10 +99,10 @@ static inline const char *braid_text(uint8_t result)
 {
     static const char *const texts[] = {
         "answered",
-        "the table ends before its last field",
+        "the table's bytes end too early",
         "a field of the table stands for no move, or a number of its plain form is out of range",
         "after the last field of the table comes a bit that is set, or a byte",
-        "a program or chain ends before its last field, or has too many moves to be packed",
+        "the bytes of a program or chain end too early, or a plain program has too many moves",
         "a field of a program or chain, or a byte of a plain program, stands for no move",
         "after the last field of a program or chain comes a bit that is set, or a byte",
         "there is a back move in a program where none may be",

@@ -36,7 +36,7 @@ head -c 4096 "$work/long.program" > "$work/full.program"
 : > "$work/nothing"
 
 five='moves 3\nprogram -3 1 -2 1 2\nnumerator 1 1 2 3\ndenominator 1 3 2\nsteps 5\n'
-expect "the bench sheet's program" "$five" $samples/braid3.table $samples/first.program
+expect "the program of specification 2.4" "$five" $samples/braid3.table $samples/first.program
 expect "a second program with a denominator" \
     'moves 3\nprogram -2 -3 -1 1 1 2 3\nnumerator 1 2 3\ndenominator 2 1\nsteps 7\n' \
     $samples/braid3.table $samples/second.program

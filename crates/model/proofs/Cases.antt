@@ -198,7 +198,8 @@ chains =
     -- 5, and 5 met before the end
     (check braidBytes (pattern 3 (1 ∷ [])) (pattern 3 (1 ∷ [])) (0x00 ∷ 0x01 ∷ 0x00 ∷ 0x0c ∷ []) 9 gives refused 5 []) ∷
     (check braidBytes (pattern 3 (1 ∷ [])) (pattern 3 (1 ∷ [])) (0x00 ∷ 0x02 ∷ 0x00 ∷ 0x0c ∷ []) 9 gives refused 5 []) ∷
-    -- 6: a byte that follows, zero or not
+    -- 6: a filling bit that is set, and a byte that follows, zero or not
+    (check (image open2) (pattern 2 []) (pattern 2 []) (0x00 ∷ 0x01 ∷ 0x00 ∷ 0x01 ∷ []) 9 gives refused 6 []) ∷
     (check braidBytes (pattern 3 (1 ∷ [])) (pattern 3 (1 ∷ [])) (0x00 ∷ 0x00 ∷ 0x00 ∷ []) 9 gives refused 6 []) ∷
     (check (image open2) (pattern 2 []) (pattern 2 []) (0x00 ∷ 0x01 ∷ 0x00 ∷ 0x00 ∷ 0x01 ∷ []) 9 gives refused 6 []) ∷
     -- an empty chain joins a program to itself
@@ -252,6 +253,6 @@ further-holds =
       tables-hold = (refl, (refl, (refl, (refl, (refl, (refl, (refl, (refl, (refl, (refl, (refl, (refl, (refl, (refl, (refl, (refl, (refl, (refl, (refl, (refl, (refl, (refl, (refl, (refl, (refl, (refl, tt))))))))))))))))))))))))));
       programs-hold = (refl, (refl, (refl, (refl, (refl, (refl, (refl, (refl, (refl, (refl, (refl, (refl, (refl, (refl, (refl, (refl, (refl, (refl, (refl, (refl, (refl, (refl, (refl, (refl, tt))))))))))))))))))))))));
       comparisons-hold = (refl, (refl, (refl, (refl, (refl, (refl, (refl, (refl, tt))))))));
-      chains-hold = (refl, (refl, (refl, (refl, (refl, (refl, (refl, (refl, (refl, (refl, (refl, (refl, (refl, (refl, (refl, (refl, (refl, (refl, (refl, tt)))))))))))))))))));
+      chains-hold = (refl, (refl, (refl, (refl, (refl, (refl, (refl, (refl, (refl, (refl, (refl, (refl, (refl, (refl, (refl, (refl, (refl, (refl, (refl, (refl, tt))))))))))))))))))));
       areas-hold = (refl, (refl, (refl, (refl, (refl, (refl, (refl, (refl, tt))))))));
     }
