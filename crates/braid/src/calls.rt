@@ -8,6 +8,7 @@ ghost use Rattle.model.specs.Services.{reverse, clear, compare, chain, check, p
 ghost use Rattle.model.specs.Areas.{outputAfter, workspaceAfter, fractionBytes, ChainArea, ReadsBack};
 ghost use Rattle.model.specs.Stated.{sizes};
 ghost use Rattle.clearing.specs.Clear.{ClearMeaning};
+ghost use Rattle.reversal.specs.Reverse.{ReverseMeaning};
 ghost use Rattle.comparing.specs.Compare.{Meaning};
 ghost use Rattle.chaining.specs.Chain.{ListedChecks};
 ghost use Rattle.checking.specs.Check.{CheckMeaning};
@@ -49,6 +50,7 @@ pub extern "C" fn braid_reverse(
     ensures told { λ r. ⌜ Tells (told sizesTold (mapped sizes (reverse (now (table .entry)) (now (program .entry)) allowance (length (now (workspace .entry))) (length (now (answer .entry)))))) r (now (values .exit)) ⌝ }
     ensures answer { λ r. ⌜ now (answer .exit) ≡ outputAfter fractionBytes (reverse (now (table .entry)) (now (program .entry)) allowance (length (now (workspace .entry))) (length (now (answer .entry)))) (now (answer .entry)) ⌝ }
     ensures workspace { λ r. ⌜ now (workspace .exit) ≡ workspaceAfter (reverse (now (table .entry)) (now (program .entry)) allowance (length (now (workspace .entry))) (length (now (answer .entry)))) (now (workspace .entry)) ⌝ }
+    ensures meaning { λ r. ⌜ ReverseMeaning (now (table .entry)) (now (program .entry)) (reverse (now (table .entry)) (now (program .entry)) allowance (length (now (workspace .entry))) (length (now (answer .entry)))) ⌝ }
 {
     let reversed = reverse(table, program, allowance, workspace, answer);
     tell(of_reversed(reversed), values)

@@ -47,7 +47,7 @@ module _ (T : Presentation) where
       let h = fraction-nowhere n d in
       impossible (cc)
 
-  open-stuck : (w : Word) {p s : Word} {a b : ℕ} → site w ≡ at p a b s → complete T a b ≡ undefined → Stuck T w
+  pub open-stuck : (w : Word) {p s : Word} {a b : ℕ} → site w ≡ at p a b s → complete T a b ≡ undefined → Stuck T w
   open-stuck w {a} {b} e h p s a′ b′ x y e′ c =
       let same : complete T a′ b′ ≡ complete T a b = cc in
       impossible (cc)

@@ -1,5 +1,5 @@
 -- The outcome of reverse, after each check.
-use mathlib.Core.Path.{_≡_, _∙_}
+use mathlib.Core.Path.{_≡_, sym, subst, _∙_}
 use mathlib.Core.List.{List}
 use Prim.Native.Nat.{ℕ}
 use Rattle.model.specs.Word.{Word}
@@ -10,7 +10,10 @@ use Rattle.model.specs.Images.{readTable, readProgram}
 use Rattle.model.specs.Services.{fractionOf, reverse}
 use Rattle.model.specs.Stated.{refusal}
 use Rattle.model.specs.declared.answers.Refusal.{Refusal}
+use Rattle.theory.specs.Orders.{OrderMeaning}
+use Rattle.theory.proofs.Orders.{order-meaning}
 use Rattle.loading.proofs.Outcomes.{still-refused, goes-on}
+use Rattle.reversal.specs.Reverse.{ReverseMeaning}
 
 module _ (table program : List ℕ) (steps width area : ℕ) where
   pub reverse-no-table : (r : Refusal) → readTable table ≡ refusal r → reverse table program steps width area ≡ refusal r
@@ -29,3 +32,6 @@ module _ (table program : List ℕ) (steps width area : ℕ) where
     reverse-runs w f =
         goes-on (readTable table) T e (λ T. readProgram (T .size) program >>= λ w. fractionOf area (reversing T steps width w))
         ∙ goes-on (readProgram (T .size) program) w f (λ w. fractionOf area (reversing T steps width w))
+
+  pub reverse-says : ReverseMeaning table program (reverse table program steps width area)
+  reverse-says T e w f = subst (OrderMeaning T w) (sym (reverse-runs T e w f)) (order-meaning T steps width area w)

@@ -6,14 +6,15 @@ use lib.ListN.{length, replicate}
 use Rattle.model.specs.Word.{Word}
 use Rattle.model.specs.Presentation.{Presentation}
 use Rattle.model.specs.Reversing.{reversing}
-use Rattle.model.specs.Outcome.{answered, mapped}
-use Rattle.model.specs.Images.{readProgram}
-use Rattle.model.specs.Services.{fractionOf}
+use Rattle.model.specs.Outcome.{Outcome, answered, mapped}
+use Rattle.model.specs.Images.{readTable, readProgram}
+use Rattle.model.specs.Services.{Fraction, fractionOf}
 use Rattle.model.specs.Areas.{fractionBytes, outputAfter}
 use Rattle.model.specs.Stated.{sizes, reversed}
 use Rattle.model.specs.declared.answers.Ending.{Ending}
 use Rattle.model.specs.declared.answers.Ending.the-variants.{Finished, Undefined, Stopped}
 use Rattle.model.specs.declared.answers.Reversed.{Reversed}
+use Rattle.theory.specs.Orders.{OrderMeaning}
 use Rattle.engine.specs.Run.{Reverses}
 use Rattle.cells.specs.Stands.{Of}
 
@@ -37,3 +38,8 @@ pub record ProgramAnswered (cells : List ℕ) (size : ℕ) (program : List ℕ) 
   pub wiped : workspace′ ≡ replicate (length workspace) 0
   pub answers : (T : Presentation) → Of cells size T → (w : Word) → readProgram size program ≡ answered w
       → Answers T w budget (length workspace) before after r
+
+-- what the outcome says of every order of steps, of the table and the program in the images
+abbrev pub ReverseMeaning : List ℕ → List ℕ → Outcome Fraction → Type 0
+ReverseMeaning table program outcome =
+    (T : Presentation) → readTable table ≡ answered T → (w : Word) → readProgram (T .size) program ≡ answered w → OrderMeaning T w outcome

@@ -6,7 +6,7 @@ ghost use Rattle.model.specs.Services.{reverse};
 ghost use Rattle.model.specs.Areas.{fractionBytes, outputAfter, workspaceAfter};
 ghost use Rattle.model.specs.Stated.{sizes, reversed};
 ghost use Rattle.loading.specs.Loading.{ProgramRuns};
-ghost use Rattle.reversal.specs.Reverse.{Finishable, AnswerOf, ProgramAnswered};
+ghost use Rattle.reversal.specs.Reverse.{Finishable, AnswerOf, ProgramAnswered, ReverseMeaning};
 use crate::fraction::write_fraction;
 use areas::bytes::wipe;
 use cells::layout::CELLS;
@@ -76,6 +76,7 @@ pub fn reverse(
     ensures stated { λ r. ⌜ reversed r ≡ mapped sizes (reverse (now (table .entry)) (now (program .entry)) allowance (length (now (workspace .entry))) (length (now (answer .entry)))) ⌝ }
     ensures answer { λ r. ⌜ now (answer .exit) ≡ outputAfter fractionBytes (reverse (now (table .entry)) (now (program .entry)) allowance (length (now (workspace .entry))) (length (now (answer .entry)))) (now (answer .entry)) ⌝ }
     ensures workspace { λ r. ⌜ now (workspace .exit) ≡ workspaceAfter (reverse (now (table .entry)) (now (program .entry)) allowance (length (now (workspace .entry))) (length (now (answer .entry)))) (now (workspace .entry)) ⌝ }
+    ensures meaning { λ r. ⌜ ReverseMeaning (now (table .entry)) (now (program .entry)) (reverse (now (table .entry)) (now (program .entry)) allowance (length (now (workspace .entry))) (length (now (answer .entry)))) ⌝ }
 {
     let mut cells = [0u8; CELLS];
     let read = read_table(table, &mut cells);

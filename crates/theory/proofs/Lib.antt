@@ -1,4 +1,6 @@
 pub mod Reduction
+pub mod Descent
+pub mod Orders
 pub mod Grid
 pub mod Diagram
 pub mod Completeness

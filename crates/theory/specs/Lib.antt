@@ -1,3 +1,4 @@
 pub mod Cube
+pub mod Orders
 pub mod Passages
 pub mod Verdicts

@@ -12,7 +12,7 @@ use Rattle.images.specs.Tables.{TableDone}
 use Rattle.loading.proofs.Early.{table-early, program-early}
 use Rattle.loading.proofs.Outcomes.{refused-stated, refused-output, refused-workspace}
 use Rattle.reversal.proofs.Answers.{zero-after}
-use Rattle.reversal.proofs.ReverseService.{reverse-no-table, reverse-no-program, reverse-runs}
+use Rattle.reversal.proofs.ReverseService.{reverse-no-table, reverse-no-program, reverse-runs, reverse-says}
 use Rattle.cells.proofs.Rules.{blank-zeros}
 use borrow.Author.Needs.{needs}
 use Rattle.reversal.proofs.reverse.reverse.Statement.{statement}
@@ -61,7 +61,7 @@ returns c =
     let r = c .before .read .given .0 .0 in
     let e = subst (TableDone (s .args .table .now) (v .last .1 .0)) (c .before .read .given .1) (v .ensures .1) in
     let o = reverse-no-table (s .args .table .now) (s .args .program .now) (s .args .allowance) (length (s .args .workspace .now)) (length (s .args .answer .now)) r e in
-    (refused-stated _ r o sizes, (refused-output _ r o fractionBytes (s .args .answer .now), refused-workspace _ r o (readTable (s .args .table .now)) 3 e (table-early (s .args .table .now)) (omega arith) (s .args .workspace .now)))
+    (refused-stated _ r o sizes, (refused-output _ r o fractionBytes (s .args .answer .now), (refused-workspace _ r o (readTable (s .args .table .now)) 3 e (table-early (s .args .table .now)) (omega arith) (s .args .workspace .now), reverse-says (s .args .table .now) (s .args .program .now) (s .args .allowance) (length (s .args .workspace .now)) (length (s .args .answer .now)))))
 
 returns-2 : tie.Need-returns-2
 returns-2 c =
@@ -72,7 +72,7 @@ returns-2 c =
     let q : readProgram (c .before .before .before .before .before .read2 .given .0 .0) (s .args .program .now) ≡ refusal r = subst (ProgramDone (s .args .program .now) (c .before .before .before .before .before .read2 .given .0 .0)) (c .before .accepted .given .1) (c .before .before .before .read-program .ensures) in
     let e : readProgram (t .table .size) (s .args .program .now) ≡ refusal r = ap (λ n. readProgram n (s .args .program .now)) (t .of .sized) ∙ q in
     let o = reverse-no-program (s .args .table .now) (s .args .program .now) (s .args .allowance) (length (s .args .workspace .now)) (length (s .args .answer .now)) (t .table) (t .read) r e in
-    (refused-stated _ r o sizes, (refused-output _ r o fractionBytes (s .args .answer .now), refused-workspace _ r o (readProgram (t .table .size) (s .args .program .now)) 6 e (program-early (t .table .size) (s .args .program .now)) (omega arith) (s .args .workspace .now)))
+    (refused-stated _ r o sizes, (refused-output _ r o fractionBytes (s .args .answer .now), (refused-workspace _ r o (readProgram (t .table .size) (s .args .program .now)) 6 e (program-early (t .table .size) (s .args .program .now)) (omega arith) (s .args .workspace .now), reverse-says (s .args .table .now) (s .args .program .now) (s .args .allowance) (length (s .args .workspace .now)) (length (s .args .answer .now)))))
 
 same-length : tie.Need-same-length
 same-length c = search needs
@@ -93,7 +93,10 @@ returns-3 c =
       a .result ∙ sym (ap (mapped sizes) o),
       (
         a .area ∙ sym (ap (λ x. outputAfter fractionBytes x (s .args .answer .now)) o),
-        z .wiped ∙ sym (ap (λ x. workspaceAfter x (s .args .workspace .now)) o ∙ zero-after (length (s .args .answer .now)) (reversing (t .table) (s .args .allowance) (length (s .args .workspace .now)) (q .word)) (s .args .workspace .now)),
+        (
+          z .wiped ∙ sym (ap (λ x. workspaceAfter x (s .args .workspace .now)) o ∙ zero-after (length (s .args .answer .now)) (reversing (t .table) (s .args .allowance) (length (s .args .workspace .now)) (q .word)) (s .args .workspace .now)),
+          reverse-says (s .args .table .now) (s .args .program .now) (s .args .allowance) (length (s .args .workspace .now)) (length (s .args .answer .now)),
+        ),
       ),
     )
 
