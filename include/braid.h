@@ -2,10 +2,13 @@
  * Reversing, comparing and packing of braiding programs: the interface of libbraid.a. docs/SPECIFICATION.md says what each call does, bit for
  * bit; section numbers below are its.
  *
- * What a caller must keep (8.2). Each pointer is not null, also where its length is 0. No two images, areas or values of one call overlap, and no
- * other thread touches them during the call. Nothing is promised where this is broken, and no call checks it. A call writes the workspace, the
- * answer area and the four values, each only as said below, and no other memory; it keeps nothing, so calls on different memory may run at the
- * same time.
+ * What a caller must keep (8.2). Each pointer is not null, also where its length is 0 (as an empty vector's may be), and points to memory of that
+ * length which may be read, that of areas and values also written; values points to four aligned numbers. No two images, areas or values of one call
+ * overlap: first and second are two places, also for equal programs. During the call no other thread writes to the images, or touches areas and values.
+ * Nothing is promised where this is broken, and no call checks it. A call writes the workspace, the answer area and the four values, each only as
+ * said below, and no other memory; it keeps nothing, so calls with different areas and values may run at the same time, also on the same images.
+ *
+ * The language is C99 or later, or C++. An allowance is 16 bits: a larger number is cut by the compiler before the call sees it.
  *
  * What linking needs. The archive is for 64-bit x86 (System V calling convention). It wants memcpy and memset and no other symbol, and has no
  * writable data. Its code uses SSE2 and the red zone below the stack pointer: do not call it where either is forbidden, as in an interrupt
@@ -59,6 +62,12 @@ static inline unsigned braid_move_bits(unsigned n)
     return bits;
 }
 
+/* n, the number of moves of a table, from its image, which has at least one byte (5.4). */
+static inline unsigned braid_table_moves(const uint8_t *table)
+{
+    return (table[0] >> 4) + 1u;
+}
+
 /* Bytes of a chain image of so many entries under a table of n moves (5.6): what braid_chain wants, with the steps as entries. */
 static inline size_t braid_chain_bytes(unsigned n, size_t entries)
 {
@@ -85,13 +94,13 @@ enum braid_result {
     BRAID_UNEQUAL_ENDS = 14
 };
 
-/* values[0] after compare and chain */
+/* What values[0] means follows from call and result. An answer of compare or chain: */
 enum braid_verdict { BRAID_SAME = 0, BRAID_DIFFERENT = 1 };
 
-/* values[0] after check */
+/* An answer of check: */
 enum braid_passage { BRAID_JOINS = 0, BRAID_BREAKS = 1, BRAID_ENDS_ELSEWHERE = 2 };
 
-/* values[0] after a refusal: how many of values[1] to values[3] are the numbers of its place follows from it, 0, 2 or 3; the others are 0 */
+/* A refusal: whether it names no place, a pair (its numbers in values[1] and values[2]) or a triple (in values[1] to values[3]); the others are 0 */
 enum braid_place { BRAID_NO_PLACE = 0, BRAID_PAIR = 1, BRAID_TRIPLE = 2 };
 
 /* A result for people. */
@@ -157,7 +166,8 @@ BRAID_CALL uint8_t braid_compare(const uint8_t *table, size_t table_length, cons
  * As compare. After 'same' the answer area begins with the image of a chain that turns the first program into the second, in no more entries
  * than steps; its first 16 bits are their number e, so that it has braid_chain_bytes(n, e) bytes, and braid_check answers it with BRAID_JOINS. After
  * 'different' the area is as found.
- * Values: as compare. Refusals: as compare, and 13 after 'same' if the area is shorter than braid_chain_bytes(n, steps).
+ * Values: as compare. Refusals: as compare, and 13 after 'same' if the area is shorter than braid_chain_bytes(n, steps). braid_compare gives the steps
+ * beforehand; braid_chain_bytes(n, allowance) always suffices, and n is braid_table_moves(table).
  */
 BRAID_CALL uint8_t braid_chain(const uint8_t *table, size_t table_length, const uint8_t *first, size_t first_length, const uint8_t *second,
                                size_t second_length, uint16_t allowance, uint8_t *workspace, size_t workspace_length, uint8_t *answer,

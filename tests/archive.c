@@ -138,6 +138,7 @@ static void engine(void)
     answers("check", check);
     hold("joins", values[0] == BRAID_JOINS);
     hold("bytes of the longest chain", braid_chain_bytes(BRAID_MOST_TABLE_MOVES, BRAID_MOST_ENTRIES) == BRAID_MOST_CHAIN_BYTES);
+    hold("the moves of a table", braid_table_moves(table) == 3);
     hold("a move field's bits", braid_move_bits(1) == 0 && braid_move_bits(2) == 1 && braid_move_bits(9) == 4 && braid_move_bits(16) == 4);
     hold("the largest allowance", (uint16_t)BRAID_MOST_ALLOWANCE == BRAID_MOST_ALLOWANCE && (uint16_t)(BRAID_MOST_ALLOWANCE + 1) == 0);
     hold("texts", strcmp(braid_text(BRAID_OPEN_PAIR), "the reversing met an open pair") == 0 && braid_text(200) != NULL);
