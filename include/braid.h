@@ -144,6 +144,7 @@ static inline const char *braid_text(uint8_t result)
 /*
  * Reverses a program. Answer area: the numerator, then the denominator, a byte a move, both forward; one as long as the workspace always suffices.
  * Values: length of the numerator, length of the denominator, steps, 0. Refusals: 1 to 6, 10 (back move's number first), 11, 12, 13.
+ * Steps in another order (3.7) would come to the same two words in as many steps, and after 10 to no end.
  */
 BRAID_CALL uint8_t braid_reverse(const uint8_t *table, size_t table_length, const uint8_t *program, size_t program_length, uint16_t allowance,
                                  uint8_t *workspace, size_t workspace_length, uint8_t *answer, size_t answer_length, uint64_t *values);

@@ -4,10 +4,11 @@ use mathlib.Core.Logic.{_↔_}
 use mathlib.Core.List.{List, [], _∷_, _++_}
 use mathlib.Core.Bool.{Bool, true, false}
 use Prim.Native.Nat.{ℕ, _+_}
+use native.Mathlib.Omega.{arith}
 use Rattle.model.specs.Word.{Letter, forward, back, Word, Positive, positive, negative}
-use Rattle.model.specs.Presentation.{Presentation, complement, complete}
+use Rattle.model.specs.Presentation.{Presentation}
 use Rattle.model.specs.Reversing.{Site, nowhere, at, beyond, site, Ending, finished, open-pair, stopped, budget, room, reversing, Leftmost, Reduces, Finishes}
-use Rattle.model.specs.Outcome.{Outcome, answered, refused, unless}
+use Rattle.model.specs.Outcome.{answered, refused, unless}
 use Rattle.model.specs.Services.{Fraction, fractionOf}
 use lib.Dec.{ltb}
 use lib.ListN.{length}
@@ -61,6 +62,13 @@ last-none (x ∷ w) e = by (lastSite w) refl (last-none w)
 
 rightmost-strategy : Strategy lastSite
 rightmost-strategy = record { picked = λ w e. last-split w e; none-left = last-none }
+
+-- the rightmost of two sites, and of one that a longer run of back letters begins
+two-sites : lastSite (back 1 ∷ forward 2 ∷ back 3 ∷ forward 4 ∷ []) ≡ at (back 1 ∷ forward 2 ∷ []) 3 4 []
+two-sites = refl
+
+one-site : lastSite (forward 1 ∷ back 2 ∷ back 3 ∷ forward 1 ∷ back 2 ∷ []) ≡ at (forward 1 ∷ back 2 ∷ []) 3 1 (back 2 ∷ [])
+one-site = refl
 
 -- THE STATEMENTS
 
@@ -118,9 +126,9 @@ module _ (T : Presentation) where
   as-fraction true f g e = impossible (cc)
   as-fraction false f g e = cc
 
-  not-open : (short : Bool) (f : Fraction) (numbers : List ℕ) → unless short 13 f ≡ refused 10 numbers → ⊥
-  not-open true f numbers e = impossible (cc)
-  not-open false f numbers e = impossible (cc)
+  only-13 : (short : Bool) (f : Fraction) (i : ℕ) (numbers : List ℕ) → unless short 13 f ≡ refused i numbers → i ≡ 13
+  only-13 true f i numbers e = cc
+  only-13 false f i numbers e = impossible (cc)
 
   by-ending : (steps width area : ℕ) (w : Word) (end : Ending) → Ends T steps width w end → OrderMeaning T w (fractionOf area end)
   by-ending steps width area w (finished n d i r) m =
@@ -128,10 +136,10 @@ module _ (T : Presentation) where
       let short = ltb area (length n + length d) in
       record {
         finished = λ g e v k o h.
-          let t = same-end (counted (leftmost-too o h)) (none-stuck v h) (counted (m .run)) (fraction-stuck T n d) in
-          let same : f ≡ g = as-fraction short f g e in
-          (t .0 ∙ ap (λ x. positive (x .numerator) ++ negative (x .denominator)) same, t .1 ∙ ap (λ x. x .steps) same);
-        unfinished = λ numbers e. absurd (not-open short f numbers e);
+            let t = same-end (counted (leftmost-too o h)) (none-stuck v h) (counted (m .run)) (fraction-stuck T n d) in
+            let same : f ≡ g = as-fraction short f g e in
+            (t .0 ∙ ap (λ x. positive (x .numerator) ++ negative (x .denominator)) same, t .1 ∙ ap (λ x. x .steps) same);
+        unfinished = λ numbers e. absurd (omega (arith, only-13 short f _ numbers e));
       }
   by-ending steps width area w (open-pair a b i) m =
       record { finished = λ g e. impossible (cc); unfinished = λ numbers e v k o h. met-open m v k o h }

@@ -4,9 +4,10 @@ use crate::classes::class;
 use crate::guarded::{call, Call, Left};
 use crate::image::{chain_bytes, chain_image, program_image, read_forward, read_table, table_image, Entry};
 use crate::judge::{expected, judge, listed_chain};
+use crate::orders::{self, Order};
 use crate::plain::plain_table;
 use crate::random::Random;
-use crate::reversing::Most;
+use crate::reversing::{Ending, Most};
 use crate::table::Table;
 use crate::tables::{any, clearing, forward_word, signed_word, walk};
 use crate::word::{bytes, undoing, Word};
@@ -17,6 +18,8 @@ use std::collections::BTreeMap;
 pub struct Tally {
     pub calls: usize,
     pub searched: usize,
+    /// Reversings in another order that finished, and that had to go without an end since ours met an open pair.
+    pub orders: (usize, usize),
     pub results: BTreeMap<(&'static str, u8, u64), usize>,
 }
 
@@ -24,6 +27,8 @@ impl Tally {
     pub fn add(&mut self, other: &Tally) {
         self.calls += other.calls;
         self.searched += other.searched;
+        self.orders.0 += other.orders.0;
+        self.orders.1 += other.orders.1;
         for (key, count) in &other.results {
             *self.results.entry(*key).or_default() += count;
         }
@@ -176,12 +181,40 @@ impl Case<'_> {
         let sound = Call::Reverse { table: image.clone(), program: program.clone(), allowance: 3_000 };
         let most = self.most(&sound);
         let whole = self.held(&sound, most.bytes, 70_000)?;
+        self.other_orders(&table, &word, &whole)?;
         let exact = (whole.values[0] + whole.values[1]) as usize;
         for _ in 0..10 {
             let allowance = self.allowance(most.steps);
             let made = Call::Reverse { table: self.perhaps(&image, 12), program: self.perhaps(&program, 8), allowance };
             let (workspace, answer) = (self.length(most.bytes), self.length(exact));
             self.held(&made, workspace, answer)?;
+        }
+        Ok(())
+    }
+
+    /// Steps in other orders come to the firmware's N and D in as many steps, and to no end where it met an open pair.
+    fn other_orders(&mut self, table: &Table, word: &[i8], whole: &Left) -> Held<()> {
+        let [numerator, denominator, steps, _] = whole.values.map(|value| value as usize);
+        for order in [Order::Rightmost, Order::Random(Random::new(self.random.bits())), Order::Random(Random::new(self.random.bits()))] {
+            match whole.result {
+                0 => {
+                    let Ending::Finished { numerator: n, denominator: d, steps: k } = orders::reverse(table, word, order, steps) else {
+                        return Err(format!("another order doesn't finish in {steps} steps: {table:?} {word:?}"));
+                    };
+                    let same = (n.len(), d.len(), k) == (numerator, denominator, steps);
+                    if !same || !whole.answer.starts_with(&[bytes(&n), bytes(&d)].concat()) {
+                        return Err(format!("another order comes to {n:?}, {d:?} in {k} steps: {table:?} {word:?}"));
+                    }
+                    self.tally.orders.0 += 1;
+                }
+                10 => {
+                    if let Ending::Finished { .. } = orders::reverse(table, word, order, 300) {
+                        return Err(format!("another order finishes in spite of an open pair: {table:?} {word:?}"));
+                    }
+                    self.tally.orders.1 += 1;
+                }
+                _ => {}
+            }
         }
         Ok(())
     }

@@ -9,6 +9,7 @@ pub mod gap;
 pub mod guarded;
 pub mod image;
 pub mod judge;
+pub mod orders;
 pub mod outcome;
 pub mod plain;
 pub mod random;

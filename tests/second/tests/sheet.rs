@@ -1,8 +1,10 @@
 //! Cases of specification 10, of the second implementation.
 use second::image::{chain_image, program_image, read_program, read_table, table_image, Entry};
+use second::orders::{self, Order};
 use second::outcome::{Passage, Place, Refusal, Verdict};
 use second::plain::{plain_table, read_plain_table};
-use second::reversing::{Limits, Most};
+use second::random::Random;
+use second::reversing::{Ending, Limits, Most};
 use second::services::{check, clear, compare, reverse};
 use second::table::Table;
 use second::tables::braid;
@@ -52,6 +54,18 @@ fn reversings() {
     assert_eq!(reversed(&braid(3), &word, Limits { allowance: 5, ..WIDE }), whole);
     assert_eq!(reversed(&braid(3), &word, Limits { allowance: 4, ..WIDE }), Err(Refusal::plain(11)));
     assert_eq!(reversed(&braid(3), &[-2, -3, -1, 1, 1, 2, 3], WIDE), Ok((vec![1, 2, 3], vec![2, 1], 7)));
+}
+
+#[test]
+fn other_orders() {
+    let word = [-3, 1, -2, 1, 2];
+    let whole = Ending::Finished { numerator: vec![1, 1, 2, 3], denominator: vec![1, 3, 2], steps: 5 };
+    assert_eq!(orders::reverse(&braid(3), &word, Order::Rightmost, 5), whole);
+    assert_eq!(orders::reverse(&braid(3), &word, Order::Random(Random::new(1)), 5), whole);
+    assert_eq!(orders::reverse(&braid(3), &word, Order::Rightmost, 4), Ending::AllowanceUsed);
+    let none = Table { moves: 4, pairs: vec![None; 6] };
+    assert_eq!(reversed(&none, &[-1, 2, -3, 4], WIDE), Err(Refusal::at(10, Place::Pair(1, 2))));
+    assert_eq!(orders::reverse(&none, &[-1, 2, -3, 4], Order::Rightmost, 5), Ending::Open { a: 3, b: 4, steps: 0 });
 }
 
 #[test]
