@@ -50,7 +50,7 @@ pub extern "C" fn braid_reverse(
     ensures told { λ r. ⌜ Tells (told sizesTold (mapped sizes (reverse (now (table .entry)) (now (program .entry)) allowance (length (now (workspace .entry))) (length (now (answer .entry)))))) r (now (values .exit)) ⌝ }
     ensures answer { λ r. ⌜ now (answer .exit) ≡ outputAfter fractionBytes (reverse (now (table .entry)) (now (program .entry)) allowance (length (now (workspace .entry))) (length (now (answer .entry)))) (now (answer .entry)) ⌝ }
     ensures workspace { λ r. ⌜ now (workspace .exit) ≡ workspaceAfter (reverse (now (table .entry)) (now (program .entry)) allowance (length (now (workspace .entry))) (length (now (answer .entry)))) (now (workspace .entry)) ⌝ }
-    ensures meaning { λ r. ⌜ ReverseMeaning (now (table .entry)) (now (program .entry)) (reverse (now (table .entry)) (now (program .entry)) allowance (length (now (workspace .entry))) (length (now (answer .entry)))) ⌝ }
+    ensures meaning { λ r. ⌜ ReverseMeaning (now (table .entry)) (now (program .entry)) (mapped sizes (reverse (now (table .entry)) (now (program .entry)) allowance (length (now (workspace .entry))) (length (now (answer .entry))))) (now (answer .exit)) ⌝ }
 {
     let reversed = reverse(table, program, allowance, workspace, answer);
     tell(of_reversed(reversed), values)

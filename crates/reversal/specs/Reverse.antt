@@ -2,7 +2,7 @@
 use mathlib.Core.List.{List}
 use mathlib.Core.Path.{_≡_}
 use Prim.Native.Nat.{ℕ, _+_, _≤_}
-use lib.ListN.{length, replicate}
+use lib.ListN.{length, take, drop, replicate}
 use Rattle.model.specs.Word.{Word}
 use Rattle.model.specs.Presentation.{Presentation}
 use Rattle.model.specs.Reversing.{reversing}
@@ -10,7 +10,7 @@ use Rattle.model.specs.Outcome.{Outcome, answered, mapped}
 use Rattle.model.specs.Images.{readTable, readProgram}
 use Rattle.model.specs.Services.{Fraction, fractionOf}
 use Rattle.model.specs.Areas.{fractionBytes, outputAfter}
-use Rattle.model.specs.Stated.{sizes, reversed}
+use Rattle.model.specs.Stated.{Sizes, sizes, reversed}
 use Rattle.model.specs.declared.answers.Ending.{Ending}
 use Rattle.model.specs.declared.answers.Ending.the-variants.{Finished, Undefined, Stopped}
 use Rattle.model.specs.declared.answers.Reversed.{Reversed}
@@ -39,7 +39,13 @@ pub record ProgramAnswered (cells : List ℕ) (size : ℕ) (program : List ℕ) 
   pub answers : (T : Presentation) → Of cells size T → (w : Word) → readProgram size program ≡ answered w
       → Answers T w budget (length workspace) before after r
 
--- what the outcome says of every order of steps, of the table and the program in the images
-abbrev pub ReverseMeaning : List ℕ → List ℕ → Outcome Fraction → Type 0
-ReverseMeaning table program outcome =
-    (T : Presentation) → readTable table ≡ answered T → (w : Word) → readProgram (T .size) program ≡ answered w → OrderMeaning T w outcome
+-- N and D as they stand in the answer area, by the lengths that were told, with the steps that were told
+abbrev pub fractionLeft : List ℕ → Sizes → Fraction
+fractionLeft area z =
+    record { numerator = take (z .numerator) area; denominator = take (z .denominator) (drop (z .numerator) area); steps = z .steps }
+
+-- what was told and written says of every order of steps, of the table and the program in the images
+abbrev pub ReverseMeaning : List ℕ → List ℕ → Outcome Sizes → List ℕ → Type 0
+ReverseMeaning table program told area =
+    (T : Presentation) → readTable table ≡ answered T → (w : Word) → readProgram (T .size) program ≡ answered w
+    → OrderMeaning T w (mapped (fractionLeft area) told)

@@ -76,7 +76,7 @@ pub fn reverse(
     ensures stated { λ r. ⌜ reversed r ≡ mapped sizes (reverse (now (table .entry)) (now (program .entry)) allowance (length (now (workspace .entry))) (length (now (answer .entry)))) ⌝ }
     ensures answer { λ r. ⌜ now (answer .exit) ≡ outputAfter fractionBytes (reverse (now (table .entry)) (now (program .entry)) allowance (length (now (workspace .entry))) (length (now (answer .entry)))) (now (answer .entry)) ⌝ }
     ensures workspace { λ r. ⌜ now (workspace .exit) ≡ workspaceAfter (reverse (now (table .entry)) (now (program .entry)) allowance (length (now (workspace .entry))) (length (now (answer .entry)))) (now (workspace .entry)) ⌝ }
-    ensures meaning { λ r. ⌜ ReverseMeaning (now (table .entry)) (now (program .entry)) (reverse (now (table .entry)) (now (program .entry)) allowance (length (now (workspace .entry))) (length (now (answer .entry)))) ⌝ }
+    ensures meaning { λ r. ⌜ ReverseMeaning (now (table .entry)) (now (program .entry)) (reversed r) (now (answer .exit)) ⌝ }
 {
     let mut cells = [0u8; CELLS];
     let read = read_table(table, &mut cells);

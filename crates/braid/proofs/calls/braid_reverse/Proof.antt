@@ -2,6 +2,7 @@
 use mathlib.Core.Path.{ap, subst, _∙_}
 use Rattle.braid.specs.Told.{told, sizesTold}
 use Rattle.braid.specs.Values.{Tells}
+use Rattle.reversal.specs.Reverse.{ReverseMeaning}
 use borrow.Author.Needs.{needs}
 use Rattle.braid.proofs.calls.braid_reverse.Statement.{statement}
 use Rattle.braid.proofs.calls.braid_reverse.Tie as tie
@@ -23,9 +24,10 @@ same-length-2 c = search needs
 
 returns : tie.Need-returns
 returns c =
+    let s = c .before .before .before .before .before .before .before .before .before .before .before .before .before .before in
     let z = c .before .before .before .before .before .before .before .reverse in
     let e = z .ensures .0 in
-    (subst (λ n. Tells n (c .tell .result) (c .tell .last .1 .0)) (c .before .before .of-reversed .ensures ∙ ap (told sizesTold) e) (c .tell .ensures), z .ensures .1)
+    (subst (λ n. Tells n (c .tell .result) (c .tell .last .1 .0)) (c .before .before .of-reversed .ensures ∙ ap (told sizesTold) e) (c .tell .ensures), (z .ensures .1 .0, (z .ensures .1 .1 .0, subst (λ x. ReverseMeaning (s .args .table .now) (s .args .program .now) x (z .last .1 .1 .1 .1 .0)) e (z .ensures .1 .1 .1))))
 
 pub braid-reverse-spec : {M : Type 1} → statement M
 braid-reverse-spec =

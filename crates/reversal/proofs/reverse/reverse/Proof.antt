@@ -61,7 +61,9 @@ returns c =
     let r = c .before .read .given .0 .0 in
     let e = subst (TableDone (s .args .table .now) (v .last .1 .0)) (c .before .read .given .1) (v .ensures .1) in
     let o = reverse-no-table (s .args .table .now) (s .args .program .now) (s .args .allowance) (length (s .args .workspace .now)) (length (s .args .answer .now)) r e in
-    (refused-stated _ r o sizes, (refused-output _ r o fractionBytes (s .args .answer .now), (refused-workspace _ r o (readTable (s .args .table .now)) 3 e (table-early (s .args .table .now)) (omega arith) (s .args .workspace .now), reverse-says (s .args .table .now) (s .args .program .now) (s .args .allowance) (length (s .args .workspace .now)) (length (s .args .answer .now)))))
+    let told = refused-stated _ r o sizes in
+    let written = refused-output _ r o fractionBytes (s .args .answer .now) in
+    (told, (written, (refused-workspace _ r o (readTable (s .args .table .now)) 3 e (table-early (s .args .table .now)) (omega arith) (s .args .workspace .now), reverse-says (s .args .table .now) (s .args .program .now) (s .args .allowance) (length (s .args .workspace .now)) (length (s .args .answer .now)) _ (s .args .answer .now) _ told written)))
 
 returns-2 : tie.Need-returns-2
 returns-2 c =
@@ -72,7 +74,9 @@ returns-2 c =
     let q : readProgram (c .before .before .before .before .before .read2 .given .0 .0) (s .args .program .now) ≡ refusal r = subst (ProgramDone (s .args .program .now) (c .before .before .before .before .before .read2 .given .0 .0)) (c .before .accepted .given .1) (c .before .before .before .read-program .ensures) in
     let e : readProgram (t .table .size) (s .args .program .now) ≡ refusal r = ap (λ n. readProgram n (s .args .program .now)) (t .of .sized) ∙ q in
     let o = reverse-no-program (s .args .table .now) (s .args .program .now) (s .args .allowance) (length (s .args .workspace .now)) (length (s .args .answer .now)) (t .table) (t .read) r e in
-    (refused-stated _ r o sizes, (refused-output _ r o fractionBytes (s .args .answer .now), (refused-workspace _ r o (readProgram (t .table .size) (s .args .program .now)) 6 e (program-early (t .table .size) (s .args .program .now)) (omega arith) (s .args .workspace .now), reverse-says (s .args .table .now) (s .args .program .now) (s .args .allowance) (length (s .args .workspace .now)) (length (s .args .answer .now)))))
+    let told = refused-stated _ r o sizes in
+    let written = refused-output _ r o fractionBytes (s .args .answer .now) in
+    (told, (written, (refused-workspace _ r o (readProgram (t .table .size) (s .args .program .now)) 6 e (program-early (t .table .size) (s .args .program .now)) (omega arith) (s .args .workspace .now), reverse-says (s .args .table .now) (s .args .program .now) (s .args .allowance) (length (s .args .workspace .now)) (length (s .args .answer .now)) _ (s .args .answer .now) _ told written)))
 
 same-length : tie.Need-same-length
 same-length c = search needs
@@ -89,13 +93,15 @@ returns-3 c =
     let e = ap (λ n. readProgram n (s .args .program .now)) (t .of .sized) ∙ q .read in
     let o = reverse-runs (s .args .table .now) (s .args .program .now) (s .args .allowance) (length (s .args .workspace .now)) (length (s .args .answer .now)) (t .table) (t .read) (q .word) e in
     let z = c .before .before .before .before .reverse-program .ensures in
-    let a = z .answers (t .table) (t .of) (q .word) (q .read) in (
-      a .result ∙ sym (ap (mapped sizes) o),
+    let a = z .answers (t .table) (t .of) (q .word) (q .read) in
+    let told = a .result ∙ sym (ap (mapped sizes) o) in
+    let written = a .area ∙ sym (ap (λ x. outputAfter fractionBytes x (s .args .answer .now)) o) in (
+      told,
       (
-        a .area ∙ sym (ap (λ x. outputAfter fractionBytes x (s .args .answer .now)) o),
+        written,
         (
           z .wiped ∙ sym (ap (λ x. workspaceAfter x (s .args .workspace .now)) o ∙ zero-after (length (s .args .answer .now)) (reversing (t .table) (s .args .allowance) (length (s .args .workspace .now)) (q .word)) (s .args .workspace .now)),
-          reverse-says (s .args .table .now) (s .args .program .now) (s .args .allowance) (length (s .args .workspace .now)) (length (s .args .answer .now)),
+          reverse-says (s .args .table .now) (s .args .program .now) (s .args .allowance) (length (s .args .workspace .now)) (length (s .args .answer .now)) _ (s .args .answer .now) _ told written,
         ),
       ),
     )
