@@ -11,3 +11,4 @@ pub mod Progress
 pub mod Loads
 pub mod Inverting
 pub mod Moving
+pub mod Ended

@@ -1,13 +1,14 @@
 -- What a whole reversing in the workspace comes to.
 use mathlib.Core.List.{List, _++_}
 use mathlib.Core.Path.{_≡_}
-use Prim.Native.Nat.{ℕ, _+_}
+use Prim.Native.Nat.{ℕ, _+_, _≤_}
 use lib.ListN.{length, take}
 use Rattle.model.specs.Word.{Word, positive, negative}
 use Rattle.model.specs.Presentation.{Presentation}
 use Rattle.model.specs.Reversing.{Ending, finished, open-pair, stopped, reversing}
 use Rattle.model.specs.Stated.{endingAnswer}
 use Rattle.model.specs.declared.answers.Ending.{Ending as EndingAnswer}
+use Rattle.model.specs.declared.answers.Ending.the-variants.{Finished, Undefined, Stopped}
 use Rattle.engine.specs.Gap.{letters}
 use Rattle.model.specs.Range.{Lettered}
 use Rattle.cells.specs.Stands.{Serves}
@@ -32,3 +33,9 @@ pub record Reverses (T : Presentation) (word : Word) (budget : ℕ) (bytes : Lis
 -- under every presentation that the cells serve
 abbrev pub RunMeans : List ℕ → Word → ℕ → List ℕ → EndingAnswer → Type 0
 RunMeans cells word budget bytes r = (T : Presentation) → Serves cells word T → Reverses T word budget bytes r
+
+-- a finished word lies within the workspace
+abbrev pub Finishable : List ℕ → EndingAnswer → Type 0
+Finishable workspace (Finished n d k r) = n + d ≤ length workspace
+Finishable workspace (Undefined p k) = Unit {0}
+Finishable workspace (Stopped s) = Unit {0}

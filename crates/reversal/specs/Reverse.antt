@@ -1,7 +1,7 @@
 -- What reverse makes of an ending.
 use mathlib.Core.List.{List}
 use mathlib.Core.Path.{_≡_}
-use Prim.Native.Nat.{ℕ, _+_, _≤_}
+use Prim.Native.Nat.{ℕ}
 use lib.ListN.{length, take, drop, replicate}
 use Rattle.model.specs.Word.{Word}
 use Rattle.model.specs.Presentation.{Presentation}
@@ -12,17 +12,10 @@ use Rattle.model.specs.Services.{Fraction, fractionOf}
 use Rattle.model.specs.Areas.{fractionBytes, outputAfter}
 use Rattle.model.specs.Stated.{Sizes, sizes, reversed}
 use Rattle.model.specs.declared.answers.Ending.{Ending}
-use Rattle.model.specs.declared.answers.Ending.the-variants.{Finished, Undefined, Stopped}
 use Rattle.model.specs.declared.answers.Reversed.{Reversed}
 use Rattle.theory.specs.Orders.{OrderMeaning}
 use Rattle.engine.specs.Run.{Reverses}
 use Rattle.cells.specs.Stands.{Of}
-
--- a finished word lies within the workspace
-abbrev pub Finishable : List ℕ → Ending → Type 0
-Finishable workspace (Finished n d k r) = n + d ≤ length workspace
-Finishable workspace (Undefined p k) = Unit {0}
-Finishable workspace (Stopped s) = Unit {0}
 
 -- the result and the answer area that an outcome states
 pub record Answers (T : Presentation) (word : Word) (budget width : ℕ) (before after : List ℕ) (r : Reversed) : Type 0 where

@@ -14,12 +14,12 @@ use Rattle.model.specs.Range.{InRange}
 use Rattle.model.specs.Outcome.{answered}
 use Rattle.model.specs.Checks.{balanced, Side, CubeRule, both-undefined, both-defined, cleared}
 use Rattle.model.proofs.Complete.{complete-same, complete-turn, complete-named}
-use Rattle.model.proofs.Equiv.{Homogeneous, total-one}
-use Rattle.theory.proofs.Grid.{derives-empty, recast}
+use Rattle.model.proofs.Equiv.{Equiv, Homogeneous, total-one}
+use Rattle.theory.proofs.Grid.{Grid, derives-empty, recast}
 use Rattle.theory.proofs.Diagram.{draw}
 use Rattle.theory.proofs.Residuals.{side-grid, grid-side, same-side, rule-turned, open-rule}
 use Rattle.theory.proofs.Checked.{checked-length, checked-rule}
-use Rattle.theory.proofs.Completeness.{Cube, Closes}
+use Rattle.theory.proofs.Completeness.{Cube, Closes, complete-for}
 
 -- WHAT THE RULE SAYS
 
@@ -102,3 +102,9 @@ module _ (T : Presentation) (steps width : ℕ) (clear : cleared T steps width �
 
   pub clear-cube : Cube (complete T)
   clear-cube a b c p q r ab ba ac ca n d k e h g = closes T a b c e (grid-side T a b c e h g) (clear-rule a b c p q r)
+
+  -- COMPLETENESS
+
+  -- equivalent words reverse to the empty word
+  pub clear-complete : (u v : Positive) → Equiv (complete T) u v → (k : ℕ) × Grid (complete T) u v [] [] k
+  clear-complete u v = complete-for (λ a. 1) (λ a. omega arith) (complete-same T) (complete-turn T) clear-homogeneous clear-cube

@@ -18,15 +18,13 @@ use Rattle.model.specs.Outcome.{Outcome, answered, refused, _>>=_, unless}
 use Rattle.model.specs.Checks.{stopNumber, cleared}
 use Rattle.model.specs.Services.{Verdict, same-after, different-after, judged, verdictOf, comparison}
 use Rattle.model.proofs.Impossible.{impossible}
-use Rattle.model.proofs.Complete.{complete-same, complete-turn}
 use Rattle.model.proofs.Leftmost.{differing, open-unfinished}
 use Rattle.model.proofs.Endings.{Ends, reversing-ends, ends-reversing}
 use Rattle.model.proofs.Equiv.{weight-kept, total-one}
 use Rattle.model.proofs.Joining.{equiv-joined, joined-equiv, joined-length}
 use Rattle.theory.proofs.Grid.{sound, derives-empty, same-grid}
 use Rattle.theory.proofs.Diagram.{finishes, draw}
-use Rattle.theory.proofs.Completeness.{complete-for}
-use Rattle.theory.proofs.Clearing.{clear-homogeneous, clear-cube}
+use Rattle.theory.proofs.Clearing.{clear-homogeneous, clear-complete}
 
 -- an outcome of a comparison of u and v, and what it says of them
 pub data Meaning (T : Presentation) (u v : Positive) : Outcome Verdict → Type 0 where
@@ -70,9 +68,7 @@ module _ (T : Presentation) (u v : Positive) (steps width : ℕ) where
 
     pub joined-empties : Joined T u v → EndsEmpty T (negative u ++ positive v)
     joined-empties j =
-        let g =
-        complete-for (λ a. 1) (λ a. omega arith) (complete-same T) (complete-turn T) (clear-homogeneous T steps width clear)
-        (clear-cube T steps width clear) (joined-equiv T u v j) in
+        let g = clear-complete T steps width clear u v (joined-equiv T u v j) in
         (g .0, finishes (g .1))
 
     pub joined-same-after : Joined T u v → (k : ℕ) (run : Finishes T (negative u ++ positive v) [] [] k) → CoversSteps steps run → CoversRoom width run

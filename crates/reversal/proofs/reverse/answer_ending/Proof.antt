@@ -4,8 +4,8 @@ use Prim.Native.Nat.{_+_, _≤_}
 use native.Mathlib.Omega.{arith}
 use lib.ListN.{length}
 use Rattle.model.specs.declared.answers.Reversed.the-variants.{Refused}
-use Rattle.engine.specs.Run.{Reverses}
-use Rattle.reversal.specs.Reverse.{Finishable, Answers}
+use Rattle.engine.specs.Run.{Reverses, Finishable}
+use Rattle.reversal.specs.Reverse.{Answers}
 use Rattle.reversal.proofs.Answers.{area-short, answer-written, met-open, was-stopped}
 use borrow.Author.Needs.{needs}
 use Rattle.reversal.proofs.reverse.answer_ending.Statement.{statement}

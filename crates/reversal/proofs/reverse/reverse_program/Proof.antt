@@ -2,7 +2,7 @@
 use mathlib.Core.Path.{ap, subst, _∙_}
 use lib.ListN.{replicate}
 use Rattle.reversal.specs.Reverse.{Answers}
-use Rattle.reversal.proofs.Answers.{finishable}
+use Rattle.engine.proofs.Ended.{finishable}
 use borrow.Author.Needs.{needs}
 use Rattle.reversal.proofs.reverse.reverse_program.Statement.{statement}
 use Rattle.reversal.proofs.reverse.reverse_program.Tie as tie
@@ -15,7 +15,7 @@ answer-ending-requires c κs =
     let s = c .before .before .before .before .before .before .before .before .before .before in
     let v = c .before .before .before .before .run-program in
     let q = s .pre .accepted .program in
-    finishable (s .pre .table) (q .word) (s .args .budget) (v .last .1 .1 .1 .1 .1 .0) (s .args .answer .now) (v .result) (v .ensures .1 (s .pre .table) (s .pre .of) (q .word) (q .read))
+    finishable (s .pre .table) (q .word) (s .args .budget) (v .last .1 .1 .1 .1 .1 .0) (v .result) (v .ensures .1 (s .pre .table) (s .pre .of) (q .word) (q .read))
 
 wipe-requires : tie.Need-wipe-requires
 wipe-requires c κs = search needs
