@@ -13,8 +13,8 @@ use Rattle.model.specs.Outcome.{answered, refused}
 use Rattle.model.specs.Bits.{field, finish}
 use Rattle.model.specs.Images.{readTable, readProgram, readChain, tableImage, programImage, chainImage}
 use Rattle.model.specs.Plain.{plainTable, readPlainTable, readPlainProgram}
-use Rattle.model.specs.Services.{Fraction, reverse, clear, readForward, compare, comparison, chain, check, followed, packTable, unpackTable, packProgram, unpackProgram, same-after, different-after, joins, breaks, ends-elsewhere}
-use Rattle.model.specs.Areas.{fractionBytes, outputAfter, workspaceAfter}
+use Rattle.model.specs.Services.{Fraction, reverse, clear, readForward, compare, comparison, chain, check, followed, packTable, unpackTable, packProgram, unpackProgram, same-after, different-after, remainder, quotient, moves-after, none-after, joins, breaks, ends-elsewhere}
+use Rattle.model.specs.Areas.{fractionBytes, remainderBytes, outputAfter, workspaceAfter}
 use Rattle.model.proofs.Case.{Case, _gives_, All}
 use Rattle.model.proofs.Samples.{braid1, open2, three, broken3, unequal2, endless3, image, log, pattern, braidBytes, firstBytes}
 
@@ -187,6 +187,42 @@ comparisons =
     -- 13 comes only after same
     (chain braidBytes (pattern 3 (1 ∷ [])) (pattern 3 (2 ∷ [])) 65535 32768 0 gives answered (different-after 1)) ∷ []
 
+-- What is left to run: moves, none for each reason, and the order of the tests.
+abbrev pub remainders : List {1} Case
+remainders =
+    -- the complement of the done part towards the pattern, letter for letter
+    (remainder braidBytes (pattern 3 (1 ∷ [])) (pattern 3 (1 ∷ 2 ∷ 1 ∷ [])) 65535 32768 32768 gives answered (moves-after (2 ∷ 1 ∷ []) 1)) ∷
+    (remainder braidBytes (pattern 3 (2 ∷ [])) (pattern 3 (1 ∷ 2 ∷ 1 ∷ [])) 65535 32768 32768 gives answered (moves-after (1 ∷ 2 ∷ []) 3)) ∷
+    (remainder braidBytes (pattern 3 (3 ∷ [])) (pattern 3 (1 ∷ 3 ∷ [])) 65535 32768 32768 gives answered (moves-after (1 ∷ []) 2)) ∷
+    -- nothing is left of a pattern that is joined to what was done, and everything where nothing was done
+    (remainder braidBytes (pattern 3 (1 ∷ 2 ∷ 1 ∷ [])) (pattern 3 (2 ∷ 1 ∷ 2 ∷ [])) 65535 32768 0 gives answered (moves-after [] 5)) ∷
+    (remainder braidBytes (pattern 3 []) (pattern 3 (2 ∷ 3 ∷ [])) 5 11 2 gives answered (moves-after (2 ∷ 3 ∷ []) 0)) ∷
+    -- none: the reversing finishes with a denominator that is not empty; the area plays no part
+    (remainder braidBytes (pattern 3 (1 ∷ [])) (pattern 3 (2 ∷ [])) 65535 32768 0 gives answered (none-after 1)) ∷
+    (remainder braidBytes (pattern 3 (3 ∷ [])) (pattern 3 (1 ∷ 2 ∷ [])) 65535 32768 0 gives answered (none-after 2)) ∷
+    -- none: it meets an open pair
+    (remainder (image open2) (pattern 2 (1 ∷ [])) (pattern 2 (2 ∷ [])) 0 2 0 gives answered (none-after 0)) ∷
+    (remainder (image open2) (pattern 2 (1 ∷ 1 ∷ [])) (pattern 2 (1 ∷ 2 ∷ [])) 65535 32768 0 gives answered (none-after 1)) ∷
+    -- none: the pattern is the shorter, whatever allowance and workspace are, but only after the table clears
+    (remainder (image braid1) (pattern 1 (1 ∷ [])) (pattern 1 []) 0 0 0 gives answered (none-after 0)) ∷
+    (remainder (image broken3) (pattern 3 (1 ∷ [])) (pattern 3 []) 65535 32768 0 gives refused 9 (1 ∷ 2 ∷ 3 ∷ [])) ∷
+    (remainder (image unequal2) (pattern 2 (1 ∷ [])) (pattern 2 []) 65535 32768 0 gives refused 8 (1 ∷ 2 ∷ [])) ∷
+    (remainder braidBytes (pattern 3 (1 ∷ [])) (pattern 3 (1 ∷ [])) 4 32768 0 gives refused 11 (1 ∷ 2 ∷ 3 ∷ [])) ∷
+    -- 13 where the area is shorter than the moves
+    (remainder braidBytes (pattern 3 (1 ∷ [])) (pattern 3 (1 ∷ 2 ∷ 1 ∷ [])) 65535 32768 2 gives answered (moves-after (2 ∷ 1 ∷ []) 1)) ∷
+    (remainder braidBytes (pattern 3 (1 ∷ [])) (pattern 3 (1 ∷ 2 ∷ 1 ∷ [])) 65535 32768 1 gives refused 13 []) ∷
+    -- 11 and 12 of the programs come with no numbers
+    (remainder (image braid1) (pattern 1 (1 ∷ [])) (pattern 1 (1 ∷ 1 ∷ [])) 0 3 1 gives refused 11 []) ∷
+    (remainder (image braid1) (pattern 1 (1 ∷ [])) (pattern 1 (1 ∷ 1 ∷ [])) 1 2 1 gives refused 12 []) ∷
+    (remainder (image braid1) (pattern 1 (1 ∷ [])) (pattern 1 (1 ∷ 1 ∷ [])) 1 3 1 gives answered (moves-after (1 ∷ []) 1)) ∷
+    -- the done part is read before the pattern
+    (remainder braidBytes firstBytes [] 65535 32768 32768 gives refused 7 []) ∷
+    (remainder braidBytes [] firstBytes 65535 32768 32768 gives refused 4 []) ∷
+    -- the area begins with the moves, and is as it was after none
+    (outputAfter remainderBytes (remainder braidBytes (pattern 3 (2 ∷ [])) (pattern 3 (1 ∷ 2 ∷ 1 ∷ [])) 65535 32768 3) (7 ∷ 8 ∷ 9 ∷ []) gives 1 ∷ 2 ∷ 9 ∷ []) ∷
+    (outputAfter remainderBytes (remainder braidBytes (pattern 3 (1 ∷ [])) (pattern 3 (2 ∷ [])) 65535 32768 3) (7 ∷ 8 ∷ 9 ∷ []) gives 7 ∷ 8 ∷ 9 ∷ []) ∷
+    (workspaceAfter (remainder braidBytes (pattern 3 (1 ∷ [])) (pattern 3 []) 65535 32768 3) (7 ∷ 8 ∷ 9 ∷ []) gives 0 ∷ 0 ∷ 0 ∷ []) ∷ []
+
 -- Check a chain: refusals 4, 5, 6 and 12, and each way in which a chain ends.
 abbrev pub chains : List {1} Case
 chains =
@@ -241,11 +277,12 @@ pub record Further : Type 0 where
   pub tables-hold : All tables
   pub programs-hold : All programs
   pub comparisons-hold : All comparisons
+  pub remainders-hold : All remainders
   pub chains-hold : All chains
   pub areas-hold : All areas
 
 pub further-holds : Further
-unfolding tableImage programImage chainImage plainTable field finish readTable readProgram readChain readForward readPlainTable readPlainProgram reverse compare comparison chain check followed applied clear cleared packTable unpackTable packProgram unpackProgram under side against cubeAt reversing run next complete
+unfolding tableImage programImage chainImage plainTable field finish readTable readProgram readChain readForward readPlainTable readPlainProgram reverse compare comparison chain remainder quotient check followed applied clear cleared packTable unpackTable packProgram unpackProgram under side against cubeAt reversing run next complete
 further-holds =
     record {
       endings-hold = (refl, (refl, (refl, (refl, (refl, (refl, (refl, (refl, (refl, (refl, (refl, (refl, (refl, (refl, (refl, tt)))))))))))))));
@@ -253,6 +290,7 @@ further-holds =
       tables-hold = (refl, (refl, (refl, (refl, (refl, (refl, (refl, (refl, (refl, (refl, (refl, (refl, (refl, (refl, (refl, (refl, (refl, (refl, (refl, (refl, (refl, (refl, (refl, (refl, (refl, (refl, tt))))))))))))))))))))))))));
       programs-hold = (refl, (refl, (refl, (refl, (refl, (refl, (refl, (refl, (refl, (refl, (refl, (refl, (refl, (refl, (refl, (refl, (refl, (refl, (refl, (refl, (refl, (refl, (refl, (refl, tt))))))))))))))))))))))));
       comparisons-hold = (refl, (refl, (refl, (refl, (refl, (refl, (refl, (refl, tt))))))));
+      remainders-hold = (refl, (refl, (refl, (refl, (refl, (refl, (refl, (refl, (refl, (refl, (refl, (refl, (refl, (refl, (refl, (refl, (refl, (refl, (refl, (refl, (refl, (refl, (refl, tt)))))))))))))))))))))));
       chains-hold = (refl, (refl, (refl, (refl, (refl, (refl, (refl, (refl, (refl, (refl, (refl, (refl, (refl, (refl, (refl, (refl, (refl, (refl, (refl, (refl, tt))))))))))))))))))));
       areas-hold = (refl, (refl, (refl, (refl, (refl, (refl, (refl, (refl, tt))))))));
     }

@@ -1,5 +1,5 @@
--- Specification 6.1, the lent areas after a call; what the answer area holds is 6.2, 6.6 and 6.9.
-use mathlib.Core.List.{List, _++_}
+-- Specification 6.1, the lent areas after a call; what the answer area holds is 6.2, 6.6, 6.9 and 6.10.
+use mathlib.Core.List.{List, [], _++_}
 use mathlib.Core.Bool.{cond}
 use mathlib.Core.Path.{_≡_}
 use Prim.Native.Nat.{ℕ, _+_, _≤_}
@@ -10,7 +10,7 @@ use Rattle.model.specs.Presentation.{Presentation}
 use Rattle.model.specs.Equivalence.{Entry, Leads}
 use Rattle.model.specs.Outcome.{Outcome, answered, refused}
 use Rattle.model.specs.Images.{readTable, readChain, chainImage}
-use Rattle.model.specs.Services.{Fraction, Verdict, same-after, different-after, readForward}
+use Rattle.model.specs.Services.{Fraction, Verdict, same-after, different-after, Remainder, moves-after, none-after, readForward}
 
 -- an area with bytes put from a place on, and as it was before and after them
 abbrev pub written : List ℕ → ℕ → List ℕ → List ℕ
@@ -33,6 +33,11 @@ ReadsBack subject read (refused n ps) area = Unit {0}
 -- 6.2: N, then D, a byte a letter
 abbrev pub fractionBytes : Fraction → List ℕ
 fractionBytes f = f .numerator ++ f .denominator
+
+-- 6.10: the moves, a byte a letter; none writes nothing
+abbrev pub remainderBytes : Remainder Positive → List ℕ
+remainderBytes (moves-after m k) = m
+remainderBytes (none-after k) = []
 
 -- 6.1: the workspace: as found after refusals 1 to 8, all zero after answers and the other refusals
 abbrev pub workspaceAfter : {A : Type 0} → Outcome A → List ℕ → List ℕ

@@ -101,6 +101,34 @@ chain table first second steps width area =
     readForward (T .size) second >>= λ v.
     comparison T u v steps width >>= listable (T .size) area
 
+-- WHAT IS LEFT TO RUN (6.10)
+
+-- 6.10: moves that finish the pattern, or that there are none, with the steps; the moves as letters, or by their number where they are told
+pub data Remainder (A : Type 0) : Type 0 where
+  moves-after : A → ℕ → Remainder A
+  none-after : ℕ → Remainder A
+
+-- 6.10: what an ending comes to: none where D has a letter, and after an open pair; else N, or refusal 13 where the answer area is shorter
+abbrev pub remainderOf : ℕ → Ending → Outcome (Remainder Positive)
+remainderOf area (finished n [] k r) = unless (ltb area (length n)) 13 (moves-after n k)
+remainderOf area (finished n (x ∷ d) k r) = answered (none-after k)
+remainderOf area (open-pair a b k) = answered (none-after k)
+remainderOf area (stopped s) = refused (stopNumber s) []
+
+-- 6.10: u done and v the pattern, under a table that was read and must clear; where v is the shorter, none after 0 steps; else they are reversed
+unfoldable pub quotient : Presentation → Positive → Positive → ℕ → ℕ → ℕ → Outcome (Remainder Positive)
+quotient T u v steps width area =
+    cleared T steps width >>= λ ok.
+    cond (ltb (length v) (length u)) (answered (none-after 0)) (remainderOf area (reversing T steps width (negative u ++ positive v)))
+
+-- 6.10: all tests of the done part come before those of the pattern
+unfoldable pub remainder : List ℕ → List ℕ → List ℕ → ℕ → ℕ → ℕ → Outcome (Remainder Positive)
+remainder table done pattern steps width area =
+    readTable table >>= λ T.
+    readForward (T .size) done >>= λ u.
+    readForward (T .size) pattern >>= λ v.
+    quotient T u v steps width area
+
 -- CHECK A CHAIN (6.7)
 
 -- 6.7: the three answers; an entry that breaks has its number, counted from 0

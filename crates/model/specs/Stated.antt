@@ -19,11 +19,14 @@ use Rattle.model.specs.declared.answers.Compared.{Compared}
 use Rattle.model.specs.declared.answers.Compared.the-variants.{Same, Different, Refused as CompareRefused}
 use Rattle.model.specs.declared.answers.Checked.{Checked}
 use Rattle.model.specs.declared.answers.Checked.the-variants.{Joins, Breaks, EndsElsewhere, Refused as CheckRefused}
+use Rattle.model.specs.declared.answers.Remaining.{Remaining}
+use Rattle.model.specs.declared.answers.Remaining.the-variants.{Moves, Nothing, Refused as RemainderRefused}
 use Rattle.model.specs.declared.answers.Packed.{Packed}
 use Rattle.model.specs.declared.answers.Packed.the-variants.{Written, Refused as PackRefused}
+use Rattle.model.specs.Word.{Positive}
 use Rattle.model.specs.Reversing.{Stop, budget, room, Ending, finished, open-pair, stopped}
 use Rattle.model.specs.Outcome.{Outcome, answered, refused}
-use Rattle.model.specs.Services.{Fraction, Verdict, same-after, different-after, Passage, joins, breaks, ends-elsewhere}
+use Rattle.model.specs.Services.{Fraction, Verdict, same-after, different-after, Remainder, moves-after, none-after, Passage, joins, breaks, ends-elsewhere}
 
 -- 7.3: the place numbers of 11 and 12: those of the triple that was under way, or none if the programs were
 abbrev pub placeNumbers : Place → List ℕ
@@ -79,6 +82,16 @@ abbrev pub compared : Compared → Outcome Verdict
 compared (Same k) = answered (same-after k)
 compared (Different k) = answered (different-after k)
 compared (CompareRefused r) = refusal r
+
+-- 6.10: the answer of remainder: how many moves, and the steps
+abbrev pub counted : Remainder Positive → Remainder ℕ
+counted (moves-after m k) = moves-after (length m) k
+counted (none-after k) = none-after k
+
+abbrev pub remaining : Remaining → Outcome (Remainder ℕ)
+remaining (Moves n k) = answered (moves-after n k)
+remaining (Nothing k) = answered (none-after k)
+remaining (RemainderRefused r) = refusal r
 
 -- 6.7: check
 abbrev pub checked : Checked → Outcome Passage

@@ -4,6 +4,7 @@ pub mod Orders
 pub mod Grid
 pub mod Diagram
 pub mod Completeness
+pub mod Cancelling
 pub mod Residuals
 pub mod Enumerated
 pub mod Derivation
@@ -12,3 +13,4 @@ pub mod Clearing
 pub mod Passages
 pub mod Comparison
 pub mod Verdicts
+pub mod Remainders

@@ -1,4 +1,5 @@
 pub mod Cube
 pub mod Orders
 pub mod Passages
+pub mod Remainders
 pub mod Verdicts
