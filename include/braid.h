@@ -97,6 +97,9 @@ enum braid_result {
 /* What values[0] means follows from call and result. An answer of compare or chain: */
 enum braid_verdict { BRAID_SAME = 0, BRAID_DIFFERENT = 1 };
 
+/* An answer of remainder: */
+enum braid_remaining { BRAID_MOVES = 0, BRAID_NONE = 1 };
+
 /* An answer of check: */
 enum braid_passage { BRAID_JOINS = 0, BRAID_BREAKS = 1, BRAID_ENDS_ELSEWHERE = 2 };
 
@@ -129,7 +132,8 @@ static inline const char *braid_text(uint8_t result)
 /*
  * THE CALLS (sections 6 and 8)
  *
- *   table, program, first, second, chain   images (5.4 to 5.6); only read
+ *   table, program, first, second, done,   images (5.4 to 5.6); only read
+ *   pattern, chain
  *   plain                                  a plain table or program (5.7, 5.8); only read
  *   allowance                              the most steps of one reversing
  *   workspace                              a byte holds a move; what it holds on entry plays no part. After refusals 1 to 8 it is as found, after
@@ -173,6 +177,16 @@ BRAID_CALL uint8_t braid_compare(const uint8_t *table, size_t table_length, cons
 BRAID_CALL uint8_t braid_chain(const uint8_t *table, size_t table_length, const uint8_t *first, size_t first_length, const uint8_t *second,
                                size_t second_length, uint16_t allowance, uint8_t *workspace, size_t workspace_length, uint8_t *answer,
                                size_t answer_length, uint64_t *values);
+
+/*
+ * Clears the table and says which moves are left to run of a pattern after those done, both programs of forward moves (6.10). After 'moves' the
+ * answer area begins with them, a byte a move: put after those done they make a program that a chain joins to the pattern, and any other moves that
+ * do so are joined to them. 'None' comes only where no moves do so, and leaves the area as found. One as long as the workspace always suffices.
+ * Values: BRAID_MOVES or BRAID_NONE; how many moves, 0 after 'none'; steps; 0. Refusals: 1 to 9, 11, 12, 13 (never in place of 'none').
+ */
+BRAID_CALL uint8_t braid_remainder(const uint8_t *table, size_t table_length, const uint8_t *done, size_t done_length, const uint8_t *pattern,
+                                   size_t pattern_length, uint16_t allowance, uint8_t *workspace, size_t workspace_length, uint8_t *answer,
+                                   size_t answer_length, uint64_t *values);
 
 /*
  * Follows a given chain from the first program of forward moves; the table need not clear. The workspace holds the word on its way; one

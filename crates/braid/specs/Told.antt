@@ -3,7 +3,7 @@ use Prim.Native.Nat.{ℕ}
 use Rattle.model.specs.Outcome.{Outcome, answered, refused}
 use Rattle.model.specs.Stated.{Sizes}
 use Rattle.model.specs.Refusals.{numbersTold}
-use Rattle.model.specs.Services.{Verdict, same-after, different-after, Passage, joins, breaks, ends-elsewhere}
+use Rattle.model.specs.Services.{Verdict, same-after, different-after, Remainder, moves-after, none-after, Passage, joins, breaks, ends-elsewhere}
 use Rattle.model.specs.declared.refusals.RefusalNumbers.{RefusalNumbers}
 use Rattle.braid.specs.declared.numbers.Numbers.{Numbers}
 
@@ -30,6 +30,11 @@ passedTold x = numbers 0 0 0 0 0
 abbrev pub verdictTold : Verdict → Numbers
 verdictTold (same-after k) = numbers 0 0 k 0 0
 verdictTold (different-after k) = numbers 0 1 k 0 0
+
+-- remainder: 0 for moves, how many they are, and the steps; 1 for none, and the steps in the same place
+abbrev pub remainderTold : Remainder ℕ → Numbers
+remainderTold (moves-after n k) = numbers 0 0 n k 0
+remainderTold (none-after k) = numbers 0 1 0 k 0
 
 -- check: 0 joins, 1 breaks with the entry's number, 2 ends at another program
 abbrev pub passageTold : Passage → Numbers

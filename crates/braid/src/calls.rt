@@ -4,21 +4,23 @@ ghost use mathlib.Core.Path.{_≡_};
 ghost use Rattle.model.specs.Outcome.{mapped, answered};
 ghost use Rattle.model.specs.Images.{readTable};
 ghost use Rattle.model.specs.Plain.{readPlainTable};
-ghost use Rattle.model.specs.Services.{reverse, clear, compare, chain, check, packTable, unpackTable, packProgram, unpackProgram, listable, programUnder, plainProgramUnder};
-ghost use Rattle.model.specs.Areas.{outputAfter, workspaceAfter, fractionBytes, ChainArea, ReadsBack};
-ghost use Rattle.model.specs.Stated.{sizes};
+ghost use Rattle.model.specs.Services.{reverse, clear, compare, chain, remainder, check, packTable, unpackTable, packProgram, unpackProgram, listable, programUnder, plainProgramUnder};
+ghost use Rattle.model.specs.Areas.{outputAfter, workspaceAfter, fractionBytes, remainderBytes, ChainArea, ReadsBack};
+ghost use Rattle.model.specs.Stated.{sizes, counted};
 ghost use Rattle.clearing.specs.Clear.{ClearMeaning};
 ghost use Rattle.reversal.specs.Reverse.{ReverseMeaning};
 ghost use Rattle.comparing.specs.Compare.{Meaning};
 ghost use Rattle.chaining.specs.Chain.{ListedChecks};
+ghost use Rattle.remainders.specs.Remainder.{RemainderMeaning};
 ghost use Rattle.checking.specs.Check.{CheckMeaning};
-ghost use Rattle.braid.specs.Told.{told, sizesTold, passedTold, verdictTold, passageTold, bytesTold};
+ghost use Rattle.braid.specs.Told.{told, sizesTold, passedTold, verdictTold, remainderTold, passageTold, bytesTold};
 ghost use Rattle.braid.specs.Values.{Tells};
 use crate::numbers::Numbers;
 use crate::numbers::of_checked;
 use crate::numbers::of_cleared;
 use crate::numbers::of_compared;
 use crate::numbers::of_packed;
+use crate::numbers::of_remaining;
 use crate::numbers::of_reversed;
 use chaining::chain::chain;
 use checking::check::check;
@@ -28,6 +30,7 @@ use packing::pack_program;
 use packing::pack_table;
 use packing::unpack_program;
 use packing::unpack_table;
+use remainders::remainder::remainder;
 use reversal::reverse::reverse;
 
 // Sets all four values and gives the result.
@@ -106,6 +109,25 @@ pub extern "C" fn braid_chain(
 {
     let compared = chain(table, first, second, allowance, workspace, answer);
     tell(of_compared(compared), values)
+}
+
+#[no_mangle]
+pub extern "C" fn braid_remainder(
+    table: &[u8],
+    done: &[u8],
+    pattern: &[u8],
+    allowance: u16,
+    workspace: &mut [u8],
+    answer: &mut [u8],
+    values: &mut [u64; 4],
+) -> u8
+    ensures told { λ r. ⌜ Tells (told remainderTold (mapped counted (remainder (now (table .entry)) (now (done .entry)) (now (pattern .entry)) allowance (length (now (workspace .entry))) (length (now (answer .entry)))))) r (now (values .exit)) ⌝ }
+    ensures answer { λ r. ⌜ now (answer .exit) ≡ outputAfter remainderBytes (remainder (now (table .entry)) (now (done .entry)) (now (pattern .entry)) allowance (length (now (workspace .entry))) (length (now (answer .entry)))) (now (answer .entry)) ⌝ }
+    ensures workspace { λ r. ⌜ now (workspace .exit) ≡ workspaceAfter (remainder (now (table .entry)) (now (done .entry)) (now (pattern .entry)) allowance (length (now (workspace .entry))) (length (now (answer .entry)))) (now (workspace .entry)) ⌝ }
+    ensures meaning { λ r. ⌜ RemainderMeaning (now (table .entry)) (now (done .entry)) (now (pattern .entry)) allowance (length (now (workspace .entry))) (length (now (answer .entry))) (mapped counted (remainder (now (table .entry)) (now (done .entry)) (now (pattern .entry)) allowance (length (now (workspace .entry))) (length (now (answer .entry))))) (now (answer .exit)) ⌝ }
+{
+    let remaining = remainder(table, done, pattern, allowance, workspace, answer);
+    tell(of_remaining(remaining), values)
 }
 
 #[no_mangle]

@@ -1,12 +1,13 @@
 // How an answer is told in numbers: 0 or the refusal's number, then four values.
 ghost use mathlib.Core.Path.{_≡_};
-ghost use Rattle.model.specs.Stated.{refusal, reversed, clearedAs, compared, checked, packedAs};
-ghost use Rattle.braid.specs.Told.{told, sizesTold, passedTold, verdictTold, passageTold, bytesTold};
+ghost use Rattle.model.specs.Stated.{refusal, reversed, clearedAs, compared, remaining, checked, packedAs};
+ghost use Rattle.braid.specs.Told.{told, sizesTold, passedTold, verdictTold, remainderTold, passageTold, bytesTold};
 use model::answers::Checked;
 use model::answers::Cleared;
 use model::answers::Compared;
 use model::answers::Packed;
 use model::answers::Refusal;
+use model::answers::Remaining;
 use model::answers::Reversed;
 use model::refusals::refusal_numbers;
 
@@ -91,6 +92,28 @@ pub(crate) fn of_compared(answer: Compared) -> Numbers
         Compared::Refused(refusal) => of_refusal(refusal),
         Compared::Same { steps } => counted(0, steps as u64),
         Compared::Different { steps } => counted(1, steps as u64),
+    }
+}
+
+pub(crate) fn of_remaining(answer: Remaining) -> Numbers
+    ensures { λ r. ⌜ r ≡ told remainderTold (remaining answer) ⌝ }
+{
+    match answer {
+        Remaining::Refused(refusal) => of_refusal(refusal),
+        Remaining::Moves { count, steps } => Numbers {
+            code: 0,
+            first: 0,
+            second: count as u64,
+            third: steps as u64,
+            fourth: 0,
+        },
+        Remaining::Nothing { steps } => Numbers {
+            code: 0,
+            first: 1,
+            second: 0,
+            third: steps as u64,
+            fourth: 0,
+        },
     }
 }
 

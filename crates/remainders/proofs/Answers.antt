@@ -1,0 +1,106 @@
+-- What remainder makes of each ending.
+use mathlib.Core.Path.{_≡_, refl, sym, ap, subst, _∙_}
+use mathlib.Core.List.{List, [], _∷_, _++_, append-nil}
+use mathlib.Core.Bool.{Bool, true, false}
+use Prim.Native.Nat.{ℕ, _+_, _≤_, _<_}
+use native.Mathlib.Omega.{arith}
+use borrow.Author.Tests.{lt-ltb, le-ltb}
+use lib.Dec.{ltb}
+use lib.ListN.{length, take, drop, replicate}
+use Rattle.model.specs.Word.{Word, Positive, positive, negative}
+use Rattle.model.specs.Presentation.{Presentation}
+use Rattle.model.specs.Reversing.{Ending, finished, open-pair, stopped, budget, room}
+use Rattle.model.specs.Outcome.{Outcome, answered, unless, mapped}
+use Rattle.model.specs.Services.{Remainder, moves-after, remainderOf}
+use Rattle.model.specs.Areas.{workspaceAfter}
+use Rattle.model.specs.Stated.{refusal, stopRefusal, counted}
+use Rattle.model.specs.declared.answers.Ending.the-variants.{Finished, Undefined, Stopped}
+use Rattle.model.specs.declared.answers.Stop.{Stop}
+use Rattle.model.specs.declared.answers.Pair.{Pair}
+use Rattle.model.specs.declared.answers.Refusal.the-variants.{AnswerShort}
+use Rattle.model.specs.declared.answers.Remaining.{Remaining}
+use Rattle.model.specs.declared.answers.Remaining.the-variants.{Moves, Nothing, Refused}
+use Rattle.engine.specs.Gap.{letters}
+use Rattle.engine.specs.Run.{Reverses}
+use Rattle.engine.proofs.Letters.{letters-forward}
+use Rattle.engine.proofs.Ended.{end, done, met, halted, stop-numbered}
+use Rattle.remainders.specs.Remainder.{States}
+
+module _ (T : Presentation) (word : Word) (steps : ℕ) (workspace before : List ℕ) where
+  abbrev outcome : Outcome (Remainder Positive)
+  outcome = remainderOf (length before) (end T word steps workspace)
+
+  by-ending : (e : Ending) → end T word steps workspace ≡ e → {after : List ℕ} {r : Remaining} → States (remainderOf (length before) e) before after r
+      → States outcome before after r
+  by-ending e h {after} {r} = subst (λ d. States (remainderOf (length before) d) before after r) (sym h)
+
+  module _ (n d k r : ℕ) (p : Reverses T word steps workspace (Finished n d k r)) where
+    -- a denominator that is not empty
+    pub no-quotient : (d ≡ 0 → ⊥) → States outcome before before (Nothing k)
+    no-quotient h = let q = done T word steps workspace n d k r p in go (q .D) (q .d-length) (q .is)
+      where
+        go : {N : Positive} (D : Positive) → length D ≡ d → end T word steps workspace ≡ finished N D k r → States outcome before before (Nothing k)
+        go [] e f = absurd (h (sym e))
+        go {N} (x ∷ D) e f = by-ending (finished N (x ∷ D) k r) f (record { result = refl; area = refl })
+
+    -- an empty one: the numerator stands at the workspace's start
+    record Quotient : Type 0 where
+      pub N : Positive
+      pub is : end T word steps workspace ≡ finished N [] k r
+      pub n-length : length N ≡ n
+      pub stands : take n workspace ≡ N
+
+    has-quotient : d ≡ 0 → Quotient
+    has-quotient z = let q = done T word steps workspace n d k r p in go (q .N) (q .D) (q .d-length) (q .is) (q .n-length) (q .stands)
+      where
+        go : (N D : Positive) → length D ≡ d → end T word steps workspace ≡ finished N D k r → length N ≡ n
+            → letters (take (n + d) workspace) ≡ positive N ++ negative D → Quotient
+        go N [] e f en h =
+            let all : n ≡ n + d = omega arith in
+            record {
+              N = N;
+              is = f;
+              n-length = en;
+              stands = letters-forward (take n workspace) N (ap (λ i. letters (take i workspace)) all ∙ (h ∙ append-nil (positive N)));
+            }
+        go N (x ∷ D) e f en h = absurd (omega arith)
+
+    module _ (z : d ≡ 0) where
+      pub area-short : length before < n → States outcome before before (Refused AnswerShort)
+      area-short h =
+          let q = has-quotient z in
+          by-ending (finished (q .N) [] k r) (q .is)
+          (subst (λ t. States (unless t 13 (moves-after (q .N) k)) before before (Refused AnswerShort))
+          (sym (lt-ltb (length before) (length (q .N)) (omega (arith, q .n-length)))) (record { result = refl; area = refl }))
+
+      pub moves-written : n ≤ length before → (after : List ℕ) → after ≡ take n workspace ++ drop n before → States outcome before after (Moves n k)
+      moves-written h after e =
+          let q = has-quotient z in
+          by-ending (finished (q .N) [] k r) (q .is)
+          (subst (λ t. States (unless t 13 (moves-after (q .N) k)) before after (Moves n k))
+          (sym (le-ltb (length before) (length (q .N)) (omega (arith, q .n-length))))
+          (record {
+            result = ap (λ i. answered (moves-after i k)) (sym (q .n-length));
+            area = e ∙ (ap (λ l. l ++ drop n before) (q .stands) ∙ ap (λ i. q .N ++ drop i before) (sym (q .n-length)));
+          }))
+
+  pub met-open : (p : Pair) (k : ℕ) → Reverses T word steps workspace (Undefined p k) → States outcome before before (Nothing k)
+  met-open p k q = by-ending (open-pair (p .a) (p .b) k) (met T word steps workspace p k q) (record { result = refl; area = refl })
+
+  pub was-stopped : (s : Stop) → Reverses T word steps workspace (Stopped s) → States outcome before before (Refused (stopRefusal s))
+  was-stopped s q =
+      let h = halted T word steps workspace s q in
+      by-ending (stopped (h .stop)) (h .is)
+      (record { result = sym (ap (λ x. refusal (stopRefusal x)) (h .told)) ∙ stop-numbered (h .stop); area = refl })
+
+-- after any ending the workspace is all zero
+pub zero-after : (area : ℕ) (e : Ending) (workspace : List ℕ) → workspaceAfter (mapped counted (remainderOf area e)) workspace ≡ replicate (length workspace) 0
+zero-after area (finished n [] k r) workspace = by-room (ltb area (length n))
+  where
+    by-room : (t : Bool) → workspaceAfter (mapped counted (unless t 13 (moves-after n k))) workspace ≡ replicate (length workspace) 0
+    by-room true = refl
+    by-room false = refl
+zero-after area (finished n (x ∷ d) k r) workspace = refl
+zero-after area (open-pair a b k) workspace = refl
+zero-after area (stopped budget) workspace = refl
+zero-after area (stopped room) workspace = refl

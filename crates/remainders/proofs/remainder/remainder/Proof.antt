@@ -1,0 +1,90 @@
+-- `remainders::remainder::remainder` meets its contract.
+use mathlib.Core.Path.{sym, ap, subst, _∙_}
+use lib.ListN.{length}
+use Rattle.model.specs.Outcome.{mapped}
+use Rattle.model.specs.Services.{remainder}
+use Rattle.model.specs.Areas.{remainderBytes, outputAfter, workspaceAfter}
+use Rattle.model.specs.Stated.{counted}
+use Rattle.cells.proofs.Rules.{blank-zeros}
+use Rattle.loading.specs.Loading.{ProgramsDone}
+use Rattle.loading.proofs.Outcomes.{refused-stated, refused-output}
+use Rattle.remainders.proofs.Service.{counted-workspace, remainder-refused, remainder-runs, remainder-says}
+use borrow.Author.Needs.{needs}
+use Rattle.remainders.proofs.remainder.remainder.Statement.{statement}
+use Rattle.remainders.proofs.remainder.remainder.Tie as tie
+
+slice-aggregate-read-programs : tie.Need-slice-aggregate-read-programs
+slice-aggregate-read-programs c = search needs
+
+read-programs-requires : tie.Need-read-programs-requires
+read-programs-requires c κs =
+    blank-zeros
+
+enum-known-read : tie.Need-enum-known-read
+enum-known-read c = search needs
+
+enum-known-read-2 : tie.Need-enum-known-read-2
+enum-known-read-2 c = search needs
+
+slice-aggregate-remainder-programs : tie.Need-slice-aggregate-remainder-programs
+slice-aggregate-remainder-programs c = search needs
+
+remainder-programs-requires : tie.Need-remainder-programs-requires
+remainder-programs-requires c κs =
+    let a = c .before .before .before .before .before .before .before .before .before .before .before .before .before .before .args in
+    let v = c .before .before .before .before .before .before .before .read-programs in
+    let t = subst (ProgramsDone (a .table .now) (a .done .now) (a .pattern .now) (v .last .1 .1 .1 .0)) (c .before .before .before .before .read2 .given .1) (v .ensures) in
+    t .forward
+
+returns : tie.Need-returns
+returns c =
+    let a = c .before .before .before .before .before .before .before .before .before .before .before .args in
+    let v = c .before .before .before .before .read-programs in
+    let r = c .before .read .given .0 .0 in
+    let e = subst (ProgramsDone (a .table .now) (a .done .now) (a .pattern .now) (v .last .1 .1 .1 .0)) (c .before .read .given .1) (v .ensures) in
+    let o = remainder-refused (a .table .now) (a .done .now) (a .pattern .now) (a .allowance) (length (a .workspace .now)) (length (a .answer .now)) r e in
+    let told = refused-stated _ r (sym (o .stated)) counted in
+    let written = refused-output _ r (sym (o .stated)) remainderBytes (a .answer .now) in
+    (told, (written, (o .workspace (a .workspace .now), remainder-says (a .table .now) (a .done .now) (a .pattern .now) (a .allowance) (length (a .workspace .now)) (length (a .answer .now)) _ (a .answer .now) _ told written)))
+
+same-length : tie.Need-same-length
+same-length c = search needs
+
+same-length-2 : tie.Need-same-length-2
+same-length-2 c = search needs
+
+returns-2 : tie.Need-returns-2
+returns-2 c =
+    let a = c .before .before .before .before .before .before .before .before .before .before .before .before .before .before .before .before .before .before .before .args in
+    let v = c .before .before .before .before .before .before .before .before .before .before .before .before .read-programs in
+    let t = subst (ProgramsDone (a .table .now) (a .done .now) (a .pattern .now) (v .last .1 .1 .1 .0)) (c .before .before .before .before .before .before .before .before .before .read2 .given .1) (v .ensures) in
+    let f = t .forward in
+    let z = c .before .before .before .before .remainder-programs in
+    let q = z .ensures .states (f .table) (f .of) (f .pair .one .word) (f .pair .two .word) (f .pair .one .read) (f .pair .two .read) in
+    let o = sym (remainder-runs (a .table .now) (a .done .now) (a .pattern .now) (a .allowance) (length (a .workspace .now)) (length (a .answer .now)) (f .table) (f .pair .one .word) (f .pair .two .word) (t .reads)) in
+    let told = q .result ∙ ap (mapped counted) o in
+    let written = q .area ∙ ap (λ x. outputAfter remainderBytes x (a .answer .now)) o in (
+      told,
+      (
+        written,
+        (
+          z .ensures .workspace-after ∙ (ap (λ x. workspaceAfter x (a .workspace .now)) told ∙ counted-workspace (remainder (a .table .now) (a .done .now) (a .pattern .now) (a .allowance) (length (a .workspace .now)) (length (a .answer .now))) (a .workspace .now)),
+          remainder-says (a .table .now) (a .done .now) (a .pattern .now) (a .allowance) (length (a .workspace .now)) (length (a .answer .now)) _ (a .answer .now) _ told written,
+        ),
+      ),
+    )
+
+pub remainder-spec : {M : Type 1} → statement M
+remainder-spec =
+    tie.close
+    (tie.spec
+    slice-aggregate-read-programs
+    read-programs-requires
+    enum-known-read
+    enum-known-read-2
+    slice-aggregate-remainder-programs
+    remainder-programs-requires
+    returns
+    same-length
+    same-length-2
+    returns-2)

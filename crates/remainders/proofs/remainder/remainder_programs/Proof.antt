@@ -1,0 +1,123 @@
+-- `remainders::remainder::remainder_programs` meets its contract.
+use mathlib.Core.Path.{_≡_, sym, ap, subst, _∙_}
+use mathlib.Core.List.{_++_}
+use native.Mathlib.Omega.{arith}
+use lib.ListN.{length, replicate, length-replicate}
+use Rattle.model.specs.Word.{positive, negative}
+use Rattle.model.specs.Reversing.{reversing}
+use Rattle.model.specs.Checks.{cleared}
+use Rattle.model.specs.Services.{remainderOf}
+use Rattle.model.specs.Areas.{workspaceAfter}
+use Rattle.model.specs.Stated.{clearedAs}
+use Rattle.engine.proofs.Ended.{finishable}
+use Rattle.remainders.specs.Remainder.{States}
+use Rattle.remainders.proofs.Answers.{zero-after}
+use Rattle.remainders.proofs.Service.{no-clear, pattern-short, pattern-long}
+use borrow.Author.Needs.{needs}
+use Rattle.remainders.proofs.remainder.remainder_programs.Statement.{statement}
+use Rattle.remainders.proofs.remainder.remainder_programs.Tie as tie
+
+clear-cells-requires : tie.Need-clear-cells-requires
+clear-cells-requires c κs = search needs
+
+enum-known-clear : tie.Need-enum-known-clear
+enum-known-clear c = search needs
+
+enum-told : tie.Need-enum-told
+enum-told c = search needs
+
+same-length : tie.Need-same-length
+same-length c = search needs
+
+returns : tie.Need-returns
+returns c =
+    let s = c .before .before .before .before .before .before .before .before .before .before .before .before in
+    let z = c .before .before .before .before .before .clear-cells in
+    let t = c .before .enum-told in
+    let p = s .pre .pair in
+    record {
+      workspace-after = z .ensures .1 ∙ ap (λ r. workspaceAfter (clearedAs r) (s .args .workspace .now)) (t .given .1);
+      states = λ T o u v eu ev.
+          let fu : p .one .word ≡ u = cc (p .one .read, eu) in
+          let fv : p .two .word ≡ v = cc (p .two .read, ev) in
+          pattern-short T u v (s .args .budget) (length (s .args .workspace .now)) (s .args .answer .now) (subst (λ r. clearedAs r ≡ cleared T (s .args .budget) (length (s .args .workspace .now))) (t .given .1) (z .ensures .0 T o))
+          (omega (arith, p .one .count-is, p .two .count-is, ap length fu, ap length fv, c .if1 .taken));
+    }
+
+run-programs-requires : tie.Need-run-programs-requires
+run-programs-requires c κs = search needs
+
+answer-ending-requires : tie.Need-answer-ending-requires
+answer-ending-requires c κs =
+    let s = c .before .before .before .before .before .before .before .before .before .before .before .before .before .before .before .before .before .before in
+    let x = c .before .before .before .before .run-programs in
+    let p = s .pre .pair in
+    finishable (s .pre .table) (negative (p .one .word) ++ positive (p .two .word)) (s .args .budget) (x .last .1 .1 .1 .1 .1 .1 .1 .0) (x .result)
+    (x .ensures .1 (s .pre .table) (s .pre .of) (p .one .word) (p .two .word) (p .one .read) (p .two .read))
+
+wipe-requires : tie.Need-wipe-requires
+wipe-requires c κs = search needs
+
+same-length-2 : tie.Need-same-length-2
+same-length-2 c = search needs
+
+returns-2 : tie.Need-returns-2
+returns-2 c =
+    let s = c .before .before .before .before .before .before .before .before .before .before .before .before in
+    let z = c .before .before .before .before .before .clear-cells in
+    let t = c .before .clear in
+    record {
+      workspace-after = z .ensures .1 ∙ ap (λ x. workspaceAfter (clearedAs x) (s .args .workspace .now)) (t .given .1);
+      states = λ T o u v eu ev. no-clear T u v (s .args .budget) (length (s .args .workspace .now)) (s .args .answer .now) (t .given .0 .0) (subst (λ r. clearedAs r ≡ cleared T (s .args .budget) (length (s .args .workspace .now))) (t .given .1) (z .ensures .0 T o));
+    }
+
+same-length-3 : tie.Need-same-length-3
+same-length-3 c = search needs
+
+same-length-4 : tie.Need-same-length-4
+same-length-4 c = search needs
+
+returns-3 : tie.Need-returns-3
+returns-3 c =
+    let s = c .before .before .before .before .before .before .before .before .before .before .before .before .before .before .before .before .before .before .before .before .before .before .before .before .before in
+    let z = c .before .before .before .before .before .before .before .before .before .before .before .before .before .before .before .before .before .before .clear-cells in
+    let t = c .before .before .before .before .before .before .before .before .before .before .before .before .before .before .enum-told in
+    let p = s .pre .pair in
+    let x = c .before .before .before .before .before .before .before .before .before .before .before .run-programs in
+    let a = c .before .before .before .before .before .before .answer-ending in
+    let w = c .before .before .wipe in
+    let bytes = x .last .1 .1 .1 .1 .1 .1 .1 .0 in
+    let kept : length (z .last .1 .1 .1 .0) ≡ length (s .args .workspace .now) = ap length (z .ensures .1 ∙ ap (λ r. workspaceAfter (clearedAs r) (s .args .workspace .now)) (t .given .1)) ∙ length-replicate (length (s .args .workspace .now)) 0 in
+    let word = negative (p .one .word) ++ positive (p .two .word) in
+    let own = a .ensures (s .pre .table) word (s .args .budget) (x .ensures .1 (s .pre .table) (s .pre .of) (p .one .word) (p .two .word) (p .one .read) (p .two .read)) in
+    record {
+      workspace-after =
+          w .ensures
+          ∙ (ap (λ i. replicate i 0) (x .ensures .0 ∙ kept)
+          ∙ sym (ap (λ o. workspaceAfter o (s .args .workspace .now)) (own .result) ∙ zero-after (length (s .args .answer .now)) (reversing (s .pre .table) (s .args .budget) (length bytes) word) (s .args .workspace .now)));
+      states = λ T o u v eu ev.
+          let fu : p .one .word ≡ u = cc (p .one .read, eu) in
+          let fv : p .two .word ≡ v = cc (p .two .read, ev) in
+          pattern-long T u v (s .args .budget) (length (s .args .workspace .now)) (s .args .answer .now) (subst (λ r. clearedAs r ≡ cleared T (s .args .budget) (length (s .args .workspace .now))) (t .given .1) (z .ensures .0 T o))
+          (omega (arith, p .one .count-is, p .two .count-is, ap length fu, ap length fv, c .before .before .before .before .before .before .before .before .before .before .before .before .before .if1 .left))
+          (subst (λ i. States (remainderOf (length (s .args .answer .now)) (reversing T (s .args .budget) i (negative u ++ positive v))) (s .args .answer .now) (a .last .1 .1 .0) (a .result)) (x .ensures .0 ∙ kept)
+          (a .ensures T (negative u ++ positive v) (s .args .budget) (x .ensures .1 T o u v eu ev)));
+    }
+
+pub remainder-programs-spec : {M : Type 1} → statement M
+remainder-programs-spec =
+    tie.close
+    (tie.spec
+    clear-cells-requires
+    enum-known-clear
+    enum-told
+    same-length
+    returns
+    run-programs-requires
+    answer-ending-requires
+    wipe-requires
+    same-length-2
+    returns-2
+    same-length-3
+    same-length-4
+    returns-3)

@@ -1,0 +1,2 @@
+// The service remainder.
+pub mod remainder;

@@ -1,0 +1,113 @@
+// Remainder (specification 6.10): the moves that are left to run of a pattern, or that none finish it.
+ghost use mathlib.Core.Path.{_≡_};
+ghost use lib.ListN.{length};
+ghost use Rattle.model.specs.Outcome.{mapped};
+ghost use Rattle.model.specs.Services.{remainder};
+ghost use Rattle.model.specs.Areas.{remainderBytes, outputAfter, workspaceAfter};
+ghost use Rattle.model.specs.Stated.{counted, remaining};
+ghost use Rattle.engine.specs.Run.{Finishable};
+ghost use Rattle.loading.specs.Loading.{Forward};
+ghost use Rattle.remainders.specs.Remainder.{AnswerOf, Concludes, RemainderMeaning};
+use areas::bytes::copy_bytes;
+use areas::bytes::wipe;
+use cells::layout::CELLS;
+use clearing::clear::clear_cells;
+use loading::comparison::run_programs;
+use loading::loading::ProgramsRead;
+use loading::loading::read_programs;
+use model::answers::Cleared;
+use model::answers::Ending;
+use model::answers::Refusal;
+use model::answers::Remaining;
+use model::stops::stop_refusal;
+
+// What remainder makes of an ending, with the moves where they finish the pattern and fit.
+pub fn answer_ending(ending: Ending, workspace: &[u8], answer: &mut [u8]) -> Remaining
+    requires { ⌜ Finishable (now workspace) ending ⌝ }
+    ensures { λ r. ⌜ AnswerOf ending (now (workspace .entry)) (now (answer .entry)) (now (answer .exit)) r ⌝ }
+{
+    match ending {
+        Ending::Finished {
+            numerator,
+            denominator,
+            steps,
+            relations: _,
+        } => {
+            if denominator != 0 {
+                return Remaining::Nothing { steps };
+            }
+            if answer.len() < numerator {
+                return Remaining::Refused(Refusal::AnswerShort);
+            }
+            copy_bytes(workspace, numerator, answer);
+            Remaining::Moves {
+                count: numerator,
+                steps,
+            }
+        }
+        Ending::Undefined { pair: _, steps } => Remaining::Nothing { steps },
+        Ending::Stopped(stop) => Remaining::Refused(stop_refusal(stop)),
+    }
+}
+
+// Two accepted forward programs, the part done and the pattern, under a table that was loaded. The workspace is wiped, unless the length
+// check refused.
+pub fn remainder_programs(
+    cells: &[u8],
+    size: u8,
+    done: &[u8],
+    m: u16,
+    pattern: &[u8],
+    n: u16,
+    budget: u16,
+    workspace: &mut [u8],
+    answer: &mut [u8],
+) -> Remaining
+    requires { ⌜ Forward (now cells) size (now done) m (now pattern) n ⌝ }
+    ensures { λ r. ⌜ Concludes (now (cells .entry)) size (now (done .entry)) (now (pattern .entry)) budget (now (workspace .entry)) (now (workspace .exit)) (now (answer .entry)) (now (answer .exit)) r ⌝ }
+{
+    let clear = clear_cells(cells, size, budget, workspace);
+    match clear {
+        Cleared::Refused(refusal) => Remaining::Refused(refusal),
+        Cleared::Passed => {
+            if n < m {
+                return Remaining::Nothing { steps: 0 };
+            }
+            let ending = run_programs(cells, size, done, m, pattern, n, budget, workspace);
+            let result = answer_ending(ending, workspace, answer);
+            wipe(workspace);
+            result
+        }
+    }
+}
+
+pub fn remainder(
+    table: &[u8],
+    done: &[u8],
+    pattern: &[u8],
+    allowance: u16,
+    workspace: &mut [u8],
+    answer: &mut [u8],
+) -> Remaining
+    ensures stated { λ r. ⌜ remaining r ≡ mapped counted (remainder (now (table .entry)) (now (done .entry)) (now (pattern .entry)) allowance (length (now (workspace .entry))) (length (now (answer .entry)))) ⌝ }
+    ensures answer { λ r. ⌜ now (answer .exit) ≡ outputAfter remainderBytes (remainder (now (table .entry)) (now (done .entry)) (now (pattern .entry)) allowance (length (now (workspace .entry))) (length (now (answer .entry)))) (now (answer .entry)) ⌝ }
+    ensures workspace { λ r. ⌜ now (workspace .exit) ≡ workspaceAfter (remainder (now (table .entry)) (now (done .entry)) (now (pattern .entry)) allowance (length (now (workspace .entry))) (length (now (answer .entry)))) (now (workspace .entry)) ⌝ }
+    ensures meaning { λ r. ⌜ RemainderMeaning (now (table .entry)) (now (done .entry)) (now (pattern .entry)) allowance (length (now (workspace .entry))) (length (now (answer .entry))) (remaining r) (now (answer .exit)) ⌝ }
+{
+    let mut cells = [0u8; CELLS];
+    let read = read_programs(table, done, pattern, &mut cells);
+    match read {
+        ProgramsRead::Refused(refusal) => Remaining::Refused(refusal),
+        ProgramsRead::Programs { size, m, n } => remainder_programs(
+            &cells,
+            size,
+            done,
+            m,
+            pattern,
+            n,
+            allowance,
+            workspace,
+            answer,
+        ),
+    }
+}
