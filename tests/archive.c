@@ -74,6 +74,10 @@ static void list(void)
 {
     result = braid_chain(table, table_length, program, program_length, answer, program_length, 65535, workspace, AREA, chain, chain_length, values);
 }
+static void remains(void)
+{
+    result = braid_remainder(table, table_length, program, program_length, answer, program_length, 65535, workspace, AREA, plain, AREA, values);
+}
 static void check(void)
 {
     result = braid_check(table, table_length, program, program_length, answer, program_length, chain, chain_length, workspace, 3, values);
@@ -129,6 +133,8 @@ static void engine(void)
     memcpy(answer, two, sizeof two);
     answers("compare", compare);
     hold("same after 5 steps", values[0] == BRAID_SAME && values[1] == 5);
+    answers("remainder", remains);
+    hold("nothing is left after 5 steps", values[0] == BRAID_MOVES && values[1] == 0 && values[2] == 5);
     chain_length = needed;
     answers("chain", list);
     chain_length = needed - 1;

@@ -179,6 +179,40 @@ static void comparing(void)
          "1 1 2 0", 0, nothing, 0);
 }
 
+/* What is left of a pattern, with an allowance of 65,535 and areas of 32,768 bytes. */
+static uint8_t remaining(const uint8_t *table, size_t table_length, const uint8_t *done, size_t done_length, const uint8_t *pattern,
+                         size_t pattern_length)
+{
+    return braid_remainder(table, table_length, done, done_length, pattern, pattern_length, MOST_STEPS, ALL_OF(workspace), ALL_OF(answer),
+                           values);
+}
+
+static void remainders(void)
+{
+    static const uint8_t one_of_3[] = {0x00, 0x10}, two_of_3[] = {0x00, 0x12}, empty[] = {0x00, 0x00};
+    static const uint8_t one_of_2[] = {0x00, 0x10}, two_of_2[] = {0x00, 0x14};
+    static const uint8_t rest_after_1[] = {2, 1}, rest_after_2[] = {1, 2};
+    hold("after 1 of 1 2 1 are left 2 1", remaining(ALL_OF(braid3), ALL_OF(one_of_3), ALL_OF(image_121)), BRAID_ANSWER, "0 2 1 0", AREA,
+         ALL_OF(rest_after_1));
+    hold("after 2 of 1 2 1 are left 1 2", remaining(ALL_OF(braid3), ALL_OF(two_of_3), ALL_OF(image_121)), BRAID_ANSWER, "0 2 3 0", AREA,
+         ALL_OF(rest_after_2));
+    hold("nothing is left of 2 1 2 after 1 2 1", remaining(ALL_OF(braid3), ALL_OF(image_121), ALL_OF(image_212)), BRAID_ANSWER, "0 0 5 0",
+         AREA, nothing, 0);
+    hold("none after 1 of 2", remaining(ALL_OF(braid3), ALL_OF(one_of_3), ALL_OF(two_of_3)), BRAID_ANSWER, "1 0 1 0", AREA, nothing, 0);
+    hold("none after 1 of the empty program", remaining(ALL_OF(braid3), ALL_OF(one_of_3), ALL_OF(empty)), BRAID_ANSWER, "1 0 0 0", AREA,
+         nothing, 0);
+    hold("none with an open pair", remaining(ALL_OF(open_pair), ALL_OF(one_of_2), ALL_OF(two_of_2)), BRAID_ANSWER, "1 0 0 0", AREA,
+         nothing, 0);
+    hold("an area of 1 byte for 2 moves gives 13",
+         braid_remainder(ALL_OF(braid3), ALL_OF(one_of_3), ALL_OF(image_121), MOST_STEPS, ALL_OF(workspace), answer, 1, values),
+         BRAID_ANSWER_SHORT, "0 0 0 0", AREA, nothing, 0);
+    hold("none in an empty area",
+         braid_remainder(ALL_OF(braid3), ALL_OF(one_of_3), ALL_OF(two_of_3), MOST_STEPS, ALL_OF(workspace), answer, 0, values), BRAID_ANSWER,
+         "1 0 1 0", AREA, nothing, 0);
+    hold("a part done with a back move gives 7", remaining(ALL_OF(braid3), ALL_OF(first_image), nothing, 0), BRAID_BACK_MOVE, "0 0 0 0", 0,
+         nothing, 0);
+}
+
 /* Checks a chain under the braid table. */
 static uint8_t checked(const uint8_t *first, size_t first_length, const uint8_t *second, size_t second_length, const uint8_t *chain,
                        size_t chain_length)
@@ -253,6 +287,7 @@ int main(void)
     packing();
     reversing();
     comparing();
+    remainders();
     chaining();
     clearing();
     stopping();

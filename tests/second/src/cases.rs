@@ -41,6 +41,7 @@ fn name(call: &Call) -> &'static str {
         Call::Clear { .. } => "clear",
         Call::Compare { .. } => "compare",
         Call::Chain { .. } => "chain",
+        Call::Remainder { .. } => "remainder",
         Call::Check { .. } => "check",
         Call::PackTable { .. } => "pack table",
         Call::UnpackTable { .. } => "unpack table",
@@ -51,7 +52,7 @@ fn name(call: &Call) -> &'static str {
 
 /// The first value tells verdicts apart, and whether a stop was at a triple; elsewhere it is a length.
 fn told_apart(call: &Call, left: &Left) -> u64 {
-    let verdict = matches!(call, Call::Compare { .. } | Call::Chain { .. } | Call::Check { .. });
+    let verdict = matches!(call, Call::Compare { .. } | Call::Chain { .. } | Call::Remainder { .. } | Call::Check { .. });
     if verdict || left.result != 0 {
         left.values[0]
     } else {
@@ -72,9 +73,10 @@ pub fn run(seed: u64, tally: &mut Tally) -> Held<()> {
     let held = match case.random.below(64) {
         0..=15 => case.reversing(),
         16..=23 => case.clearing(),
-        24..=39 => case.comparing(),
-        40..=48 => case.checking(),
-        49..=62 => case.packing(),
+        24..=36 => case.comparing(),
+        37..=41 => case.remaining(),
+        42..=49 => case.checking(),
+        50..=62 => case.packing(),
         _ if case.random.once_in(8) => case.many_steps(),
         _ => case.long_words(),
     };
@@ -309,6 +311,66 @@ impl Case<'_> {
         Err(format!("the verdict {} is wrong by search: {table:?} {first:?} {second:?}", left.values[0]))
     }
 
+    /// A pattern for a part done: one that it begins, up to swaps, one that it ends up to them, or any.
+    fn pattern(&mut self, table: &Table, done: &[i8]) -> Word {
+        let more = self.random.pick(&[0, 1, 2, 4, 9]);
+        let rest = forward_word(&mut self.random, table.moves, more);
+        let swaps = self.random.pick(&[0, 1, 3, 10, 30]);
+        match self.random.below(8) {
+            0 => self.other(table, done),
+            1 => walk(&mut self.random, table, &[rest, done.to_vec()].concat(), swaps).1,
+            2 => forward_word(&mut self.random, table.moves, done.len() + more),
+            _ => walk(&mut self.random, table, &[done.to_vec(), rest].concat(), swaps).1,
+        }
+    }
+
+    fn remaining(&mut self) -> Held<()> {
+        let table = if self.random.once_in(8) { any(&mut self.random) } else { clearing(&mut self.random) };
+        let length = self.random.pick(&[0, 1, 2, 3, 4, 6, 12, 25]);
+        let done = forward_word(&mut self.random, table.moves, length);
+        let pattern = self.pattern(&table, &done);
+        let (t, d, p) = (table_image(&table), program_image(table.moves, &done), program_image(table.moves, &pattern));
+        let sound = Call::Remainder { table: t.clone(), done: d.clone(), pattern: p.clone(), allowance: 3_000 };
+        let most = self.most(&sound);
+        let left = self.held(&sound, most.bytes, 70_000)?;
+        self.search_rest(&table, &done, &pattern, &left)?;
+        let [_, exact, steps, _] = left.values.map(|value| value as usize);
+        for _ in 0..8 {
+            let near = self.random.pick(&[most.steps, most.steps, steps]);
+            let allowance = self.allowance(near);
+            let (workspace, answer) = (self.length(most.bytes), self.length(exact));
+            let (one, two) = (self.forward_image(&table, &done), self.forward_image(&table, &pattern));
+            let made = Call::Remainder { table: self.perhaps(&t, 24), done: one, pattern: two, allowance };
+            self.held(&made, workspace, answer)?;
+        }
+        Ok(())
+    }
+
+    /// The moves that are left against a search of all words joined to the pattern, where it is short: those which begin with the part done. Moves
+    /// come exactly if there is one, and then all that go on in it are joined to them.
+    fn search_rest(&mut self, table: &Table, done: &[i8], pattern: &[i8], left: &Left) -> Held<()> {
+        if left.result != 0 || pattern.len() > 8 {
+            return Ok(());
+        }
+        let Some(joined) = class(table, pattern, 3_000) else {
+            return Ok(());
+        };
+        let rests: Vec<Word> = joined.iter().filter(|word| word.starts_with(done)).map(|word| word[done.len()..].to_vec()).collect();
+        self.tally.searched += 1;
+        let report = |what: &str| Err(format!("{what}: {table:?} {done:?} {pattern:?} {:?}", left.values));
+        if left.values[0] == 1 {
+            return if rests.is_empty() { Ok(()) } else { report("none, but moves are found by search") };
+        }
+        let moves: Word = left.answer[..left.values[1] as usize].iter().map(|byte| *byte as i8).collect();
+        if !rests.contains(&moves) {
+            return report("the moves don't finish the pattern");
+        }
+        match class(table, &moves, 3_000) {
+            Some(others) if !rests.iter().all(|rest| others.contains(rest)) => report("other moves that finish the pattern are not joined to these"),
+            _ => Ok(()),
+        }
+    }
+
     /// Both implementations follow a listed chain to the second program; a workspace of the program's length is enough.
     fn listed(&mut self, made: &Call, left: &Left) -> Held<()> {
         let Call::Chain { table, first, second, .. } = made else {
@@ -445,7 +507,10 @@ impl Case<'_> {
                     self.listed(&chain, &left)?;
                 }
                 let entries = chain_image(table.moves, &entries);
-                self.held(&Call::Check { table: image, first: one, second: two, entries }, 4_095, 0)?;
+                self.held(&Call::Check { table: image.clone(), first: one, second: two.clone(), entries }, 4_095, 0)?;
+                let done = program_image(table.moves, &first[..length / 2]);
+                let answer = self.random.pick(&[32_768, length - length / 2, length - length / 2 - 1]);
+                self.held(&Call::Remainder { table: image, done, pattern: two, allowance: 65_535 }, workspace, answer)?;
             }
             _ => {
                 let count = self.random.pick(&[4_094, 4_095, 4_096, 4_097, 5_000]);

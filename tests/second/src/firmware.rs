@@ -47,6 +47,20 @@ extern "C" {
         answer_length: usize,
         values: *mut u64,
     ) -> u8;
+    fn braid_remainder(
+        table: *const u8,
+        table_length: usize,
+        done: *const u8,
+        done_length: usize,
+        pattern: *const u8,
+        pattern_length: usize,
+        allowance: u16,
+        workspace: *mut u8,
+        workspace_length: usize,
+        answer: *mut u8,
+        answer_length: usize,
+        values: *mut u64,
+    ) -> u8;
     fn braid_check(
         table: *const u8,
         table_length: usize,
@@ -142,6 +156,25 @@ pub fn chain(table: &[u8], first: &[u8], second: &[u8], allowance: u16, workspac
             first.len(),
             second.as_ptr(),
             second.len(),
+            allowance,
+            workspace.as_mut_ptr(),
+            workspace.len(),
+            answer.as_mut_ptr(),
+            answer.len(),
+            values,
+        )
+    })
+}
+
+pub fn remainder(table: &[u8], done: &[u8], pattern: &[u8], allowance: u16, workspace: &mut [u8], answer: &mut [u8]) -> Told {
+    told(|values| unsafe {
+        braid_remainder(
+            table.as_ptr(),
+            table.len(),
+            done.as_ptr(),
+            done.len(),
+            pattern.as_ptr(),
+            pattern.len(),
             allowance,
             workspace.as_mut_ptr(),
             workspace.len(),

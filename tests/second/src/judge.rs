@@ -2,7 +2,7 @@
 use crate::chain::follow;
 use crate::guarded::{Call, Left};
 use crate::image::{chain_bytes, chain_image, read_chain, read_forward, read_table};
-use crate::outcome::{Passage, Place, Refusal, Verdict};
+use crate::outcome::{Passage, Place, Refusal, Remainder, Verdict};
 use crate::reversing::{Limits, Most};
 use crate::services;
 use crate::word::bytes;
@@ -53,6 +53,12 @@ pub fn expected(call: &Call, workspace: usize, answer: usize, most: &mut Most) -
                 ..Expected::answer(verdict_values(verdict), Vec::new())
             })
         }
+        Call::Remainder { table, done, pattern, allowance } => {
+            services::remainder(table, done, pattern, limits(allowance), answer, most).map(|(left, steps)| match left {
+                Remainder::Moves(moves) => Expected::answer([0, moves.len() as u64, steps as u64, 0], bytes(&moves)),
+                Remainder::None => Expected::answer([1, 0, steps as u64, 0], Vec::new()),
+            })
+        }
         Call::Check { table, first, second, entries } => {
             services::check(table, first, second, entries, workspace, &mut most.bytes).map(|passage| {
                 let values = match passage {
@@ -72,7 +78,8 @@ pub fn expected(call: &Call, workspace: usize, answer: usize, most: &mut Most) -
 }
 
 fn has_workspace(call: &Call) -> bool {
-    matches!(call, Call::Reverse { .. } | Call::Clear { .. } | Call::Compare { .. } | Call::Chain { .. } | Call::Check { .. })
+    use Call::*;
+    matches!(call, Reverse { .. } | Clear { .. } | Compare { .. } | Chain { .. } | Remainder { .. } | Check { .. })
 }
 
 /// The image of the chain that an answer area begins with, where it is one of at most `steps` entries that joins the programs.

@@ -1,4 +1,5 @@
-//! Refusals, as specification 7 numbers and places them.
+//! Refusals, as specification 7 numbers and places them, and answers.
+use crate::word::Word;
 
 #[derive(Clone, Copy, Debug, PartialEq)]
 pub enum Place {
@@ -35,4 +36,11 @@ pub enum Passage {
     Joins,
     Breaks(usize),
     EndsElsewhere,
+}
+
+/// What is left to run of a pattern.
+#[derive(Clone, Debug, PartialEq)]
+pub enum Remainder {
+    Moves(Word),
+    None,
 }

@@ -1,7 +1,7 @@
 //! The services of specification 6. Areas come in only by their lengths; what would be written is in the result.
 use crate::chain::follow;
 use crate::image::*;
-use crate::outcome::{Passage, Place, Refusal, Verdict};
+use crate::outcome::{Passage, Place, Refusal, Remainder, Verdict};
 use crate::plain::{plain_table, read_plain_program, read_plain_table};
 use crate::reversing::{reverse as run, Ending, Limits, Most};
 use crate::table::Table;
@@ -148,6 +148,32 @@ pub fn chain(
         return Err(Refusal::plain(13));
     }
     Ok((verdict, steps))
+}
+
+/// The moves that are left of a pattern after those done, with the steps.
+pub fn remainder(
+    table: &[u8],
+    done: &[u8],
+    pattern: &[u8],
+    limits: Limits,
+    answer: usize,
+    most: &mut Most,
+) -> Result<(Remainder, usize), Refusal> {
+    let table = read_table(table)?;
+    let done = read_forward(done, table.moves)?;
+    let pattern = read_forward(pattern, table.moves)?;
+    cleared(&table, limits, most)?;
+    if pattern.len() < done.len() {
+        return Ok((Remainder::None, 0));
+    }
+    match run(&table, [undoing(&done), pattern].concat(), 0, limits, most) {
+        Ending::Finished { denominator, steps, .. } if !denominator.is_empty() => Ok((Remainder::None, steps)),
+        Ending::Finished { numerator, .. } if numerator.len() > answer => Err(Refusal::plain(13)),
+        Ending::Finished { numerator, steps, .. } => Ok((Remainder::Moves(numerator), steps)),
+        Ending::Open { steps, .. } => Ok((Remainder::None, steps)),
+        Ending::AllowanceUsed => Err(Refusal::plain(11)),
+        Ending::WorkspaceShort => Err(Refusal::plain(12)),
+    }
 }
 
 pub fn check(table: &[u8], first: &[u8], second: &[u8], entries: &[u8], workspace: usize, longest: &mut usize) -> Result<Passage, Refusal> {

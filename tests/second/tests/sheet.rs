@@ -1,11 +1,11 @@
 //! Cases of specification 10, of the second implementation.
 use second::image::{chain_image, program_image, read_program, read_table, table_image, Entry};
 use second::orders::{self, Order};
-use second::outcome::{Passage, Place, Refusal, Verdict};
+use second::outcome::{Passage, Place, Refusal, Remainder, Verdict};
 use second::plain::{plain_table, read_plain_table};
 use second::random::Random;
 use second::reversing::{Ending, Limits, Most};
-use second::services::{check, clear, compare, reverse};
+use second::services::{check, clear, compare, remainder, reverse};
 use second::table::Table;
 use second::tables::braid;
 
@@ -19,6 +19,11 @@ fn reversed(table: &Table, word: &[i8], limits: Limits) -> Result<(Vec<i8>, Vec<
 fn compared(table: &Table, first: &[i8], second: &[i8], limits: Limits) -> Result<(Verdict, usize), Refusal> {
     let [first, second] = [first, second].map(|word| program_image(table.moves, word));
     compare(&table_image(table), &first, &second, limits, &mut Most::default())
+}
+
+fn left(table: &Table, done: &[i8], pattern: &[i8], answer: usize) -> Result<(Remainder, usize), Refusal> {
+    let [done, pattern] = [done, pattern].map(|word| program_image(table.moves, word));
+    remainder(&table_image(table), &done, &pattern, WIDE, answer, &mut Most::default())
 }
 
 fn cleared(table: &Table, limits: Limits) -> Result<(), Refusal> {
@@ -73,6 +78,17 @@ fn comparisons() {
     assert_eq!(compared(&braid(3), &[1, 2, 1], &[2, 1, 2], WIDE), Ok((Verdict::Same, 5)));
     assert_eq!(compared(&braid(3), &[1], &[2], WIDE), Ok((Verdict::Different, 1)));
     assert_eq!(compared(&braid(1), &[], &[], Limits { allowance: 65_535, workspace: 0 }), Ok((Verdict::Same, 0)));
+}
+
+#[test]
+fn what_is_left_to_run() {
+    assert_eq!(left(&braid(3), &[1], &[1, 2, 1], 2), Ok((Remainder::Moves(vec![2, 1]), 1)));
+    assert_eq!(left(&braid(3), &[2], &[1, 2, 1], 2), Ok((Remainder::Moves(vec![1, 2]), 3)));
+    assert_eq!(left(&braid(3), &[1], &[1, 2, 1], 1), Err(Refusal::plain(13)));
+    assert_eq!(left(&braid(3), &[1, 2, 1], &[2, 1, 2], 0), Ok((Remainder::Moves(vec![]), 5)));
+    assert_eq!(left(&braid(3), &[1], &[2], 0), Ok((Remainder::None, 1)));
+    assert_eq!(left(&braid(3), &[1], &[], 0), Ok((Remainder::None, 0)));
+    assert_eq!(left(&Table { moves: 2, pairs: vec![None] }, &[1, 1], &[1, 2], 0), Ok((Remainder::None, 1)));
 }
 
 #[test]

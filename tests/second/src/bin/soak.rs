@@ -46,11 +46,12 @@ fn met(tally: &Tally) -> Vec<String> {
     want("reverse", &[(0, 0), (1, 0), (2, 0), (3, 0), (4, 0), (5, 0), (6, 0), (10, 1), (11, 0), (12, 0), (13, 0)]);
     want("clear", &[(0, 0), (1, 0), (2, 0), (3, 0), (8, 1), (9, 2), (11, 2), (12, 2)]);
     let stops = [(1, 0), (2, 0), (3, 0), (4, 0), (5, 0), (6, 0), (7, 0), (8, 1), (9, 2), (11, 0), (11, 2), (12, 0), (12, 2)];
-    for service in ["compare", "chain"] {
+    for service in ["compare", "chain", "remainder"] {
         want(service, &[(0, 0), (0, 1)]);
         want(service, &stops);
     }
     want("chain", &[(13, 0)]);
+    want("remainder", &[(13, 0)]);
     want("check", &[(0, 0), (0, 1), (0, 2), (1, 0), (2, 0), (3, 0), (4, 0), (5, 0), (6, 0), (7, 0), (12, 0)]);
     for service in ["pack table", "unpack table"] {
         want(service, &[(0, 0), (1, 0), (2, 0), (3, 0), (13, 0)]);
