@@ -1,23 +1,24 @@
 -- A site at the gap: the word there, what the model says of it, and the word after the step.
-use mathlib.Core.Path.{_≡_, refl, sym, ap, ap₂, _∙_}
-use mathlib.Core.List.{List, [], _∷_, _++_, append-assoc, append-nil}
-use Prim.Native.Nat.{ℕ, suc, _+_, _-_, _≤_, _<_}
+use mathlib.Core.Path.{_≡_, refl, sym, ap, ap₂, subst, _∙_}
+use mathlib.Core.List.{List, _∷_, _++_}
+use Prim.Native.Nat.{ℕ, _+_, _-_, _≤_, _<_}
 use native.Mathlib.Omega.{arith}
-use native.Mathlib.Numerals.{add-one}
 use lib.ListN.{length, take, drop, getD, length-append, length-take, length-drop}
-use lib.Seq.{take-suc, drop-cons, drop-length}
 use Rattle.model.specs.Word.{Word, Positive, forward, back, positive, negative}
 use Rattle.model.specs.Presentation.{Presentation, undefined, complement, complete}
-use Rattle.model.specs.Reversing.{nowhere, site, replaced, next, no-site, blocked, step, byComplement, bySite}
-use Rattle.engine.specs.Gap.{letters, wordAt, AtSite, AtEnd}
+use Rattle.model.specs.Reversing.{site, replaced, next, no-site, blocked, step, byComplement, bySite}
 use Rattle.model.specs.Range.{InRange, Lettered}
+use Rattle.model.proofs.Words.{site-split}
+use Rattle.engine.specs.Search.{siteFrom, NoneBefore}
+use Rattle.engine.specs.Gap.{letters, wordAt, placeBefore, AtSite, AtLeftmost, AtEnd}
 use Rattle.engine.specs.Turn.{Pushed, Steps, Outgrows, Goes}
-use Rattle.engine.proofs.Letters.{letter-forward, letter-back, letters-append, letters-cons, letters-nil, length-letters}
-use Rattle.engine.proofs.Sites.{site-at, site-front}
+use Rattle.engine.proofs.Letters.{letters-append, length-letters}
+use Rattle.engine.proofs.Sites.{finds-leftmost, none-after-step}
+use Rattle.engine.proofs.Seeking.{front-length, all-before}
 use Rattle.engine.proofs.Lettering.{lettered-append, lettered-front, lettered-end, lettered-negative, length-positive, length-negative}
 use Rattle.engine.proofs.Pushes.{pushed-kept}
 
-module _ (bytes : List ℕ) (left right : ℕ) (h : AtSite (wordAt bytes left right) bytes left right) where
+module _ (bytes : List ℕ) (left right : ℕ) (h : AtLeftmost bytes left right) where
   abbrev pub prefix : Word
   prefix = letters (take (left - 1) bytes)
 
@@ -30,33 +31,15 @@ module _ (bytes : List ℕ) (left right : ℕ) (h : AtSite (wordAt bytes left ri
   abbrev pub suffix : Word
   suffix = letters (drop (right + 1) bytes)
 
-  front : letters (take left bytes) ≡ prefix ++ (back before ∷ [])
-  front =
-      let n : left ≡ suc (left - 1) = omega (arith, h .some-before) in
-      let e : take left bytes ≡ take (left - 1) bytes ++ (getD bytes (left - 1) 0 ∷ []) =
-      ap (λ i. take i bytes) n ∙ take-suc bytes (left - 1) 0 (omega (arith, h .searched .ordered, h .searched .inside, h .some-before)) in
-      ap letters e
-      ∙ (letters-append (take (left - 1) bytes) (getD bytes (left - 1) 0 ∷ [])
-      ∙ ap (λ w. prefix ++ w) (letters-cons (getD bytes (left - 1) 0) [] ∙ ap₂ (λ l w. l ∷ w) (letter-back (getD bytes (left - 1) 0) (h .back-before)) letters-nil))
-
-  end : letters (drop right bytes) ≡ forward after ∷ suffix
-  end =
-      ap letters (drop-cons bytes right 0 (h .some-after))
-      ∙ (letters-cons after (drop (suc right) bytes)
-      ∙ ap₂ (λ l w. l ∷ w) (letter-forward after (h .forward-after)) (ap (λ i. letters (drop i bytes)) (sym (add-one right))))
+  prefix-length : length prefix ≡ left - 1
+  prefix-length = front-length bytes left (h .some-before) (omega (arith, h .ordered, h .some-after))
 
   pub word-here : wordAt bytes left right ≡ prefix ++ (back before ∷ forward after ∷ suffix)
-  unfolding wordAt
-  word-here =
-      letters-append (take left bytes) (drop right bytes)
-      ∙ (ap₂ (λ u v. u ++ v) front end ∙ append-assoc prefix (back before ∷ []) (forward after ∷ suffix))
-
-  searched-front : site (prefix ++ (back before ∷ [])) ≡ nowhere
-  searched-front = sym (ap site front) ∙ h .searched .none-before
+  word-here = site-split (wordAt bytes left right) (h .found)
 
   pub next-here : (T : Presentation) → next T (wordAt bytes left right) ≡ byComplement prefix before after suffix (complete T before after)
   unfolding next
-  next-here T = ap (λ w. bySite T (site w)) word-here ∙ ap (bySite T) (site-at prefix before after suffix searched-front)
+  next-here T = ap (bySite T) (h .found)
 
   module _ (T : Presentation) (l : Lettered (T .size) (wordAt bytes left right)) where
     parts : Lettered (T .size) (prefix ++ (back before ∷ forward after ∷ suffix))
@@ -80,7 +63,7 @@ module _ (bytes : List ℕ) (left right : ℕ) (h : AtSite (wordAt bytes left ri
 
       next-length : length (replaced prefix x y suffix) ≡ (left - 1) + (length x + (length y + (length bytes - (right + 1))))
       next-length =
-          simp (length-append, length-positive, length-negative, length-letters, length-take, length-drop) (omega (arith, h .some-before, h .searched .ordered, h .searched .inside))
+          simp (length-append, length-positive, length-negative, length-letters, length-take, length-drop) (omega (arith, h .some-before, h .ordered, h .some-after))
 
       -- the next word does not fit
       pub outgrows : right + 1 - (left - 1) < length x + length y → Outgrows T (wordAt bytes left right) (length bytes)
@@ -90,7 +73,7 @@ module _ (bytes : List ℕ) (left right : ℕ) (h : AtSite (wordAt bytes left ri
             b = after;
             longer = replaced prefix x y suffix;
             taken = step-here;
-            long = omega (arith, next-length, h .some-before, h .searched .ordered, h .searched .inside, h .some-after);
+            long = omega (arith, next-length, h .some-before, h .ordered, h .some-after);
           }
 
       -- the two words are written into the end of the gap
@@ -113,7 +96,9 @@ module _ (bytes : List ℕ) (left right : ℕ) (h : AtSite (wordAt bytes left ri
                   record {
                     ordered = omega arith;
                     inside = omega (arith, p .same-length, q .same-length, h .some-after);
-                    none-before = ap (λ l. site (letters l)) kept ∙ site-front prefix before searched-front;
+                    none-before =
+                        subst (λ k. NoneBefore (placeBefore k) (wordAt last (left - 1) (right + 1 - ny - nx))) prefix-length
+                        (subst (NoneBefore (placeBefore (length prefix))) (sym written) (none-after-step (wordAt bytes left right) (h .found) x y));
                   };
               taken = step-here ∙ ap (step before after) (sym written);
               lettered =
@@ -125,25 +110,30 @@ module _ (bytes : List ℕ) (left right : ℕ) (h : AtSite (wordAt bytes left ri
                   (lettered-end (T .size) prefix (back before ∷ forward after ∷ suffix) parts .1 .1))));
             }
 
--- a site that was found is a site of the word as it now stands
-pub here : {word : Word} {bytes : List ℕ} {left right : ℕ} → AtSite word bytes left right → AtSite (wordAt bytes left right) bytes left right
-here h =
+-- what a search from a place before which no site begins finds is the leftmost site of the word as it stands
+pub here : {place : ℕ} {word : Word} {bytes : List ℕ} {left right : ℕ} → NoneBefore place word → AtSite (siteFrom place word) word bytes left right
+    → AtLeftmost bytes left right
+here {place} {word} none h =
     record {
-      searched = h .searched;
+      ordered = h .ordered;
       some-before = h .some-before;
       some-after = h .some-after;
       back-before = h .back-before;
       forward-after = h .forward-after;
+      found = ap site (h .word-kept) ∙ (sym (finds-leftmost place word none) ∙ h .found);
       word-kept = refl;
     }
 
--- the word before the gap is all of it, and has no site
-pub end-word : {word : Word} {bytes : List ℕ} {left right : ℕ} → AtEnd word bytes left right → word ≡ letters (take left bytes)
-unfolding wordAt
-end-word {word} {bytes} {left} {right} h =
-    sym (h .word-kept)
-    ∙ ap letters (ap (λ i. take left bytes ++ drop i bytes) (h .all) ∙ (ap (λ l. take left bytes ++ l) (drop-length bytes) ∙ append-nil (take left bytes)))
+-- and where it finds none there is none
+pub at-end : {place : ℕ} {word : Word} {bytes : List ℕ} {left right : ℕ} → NoneBefore place word → AtEnd (siteFrom place word) word bytes left right
+    → AtEnd (site word) word bytes left right
+at-end {place} {word} none h =
+    record { ordered = h .ordered; all = h .all; none = sym (finds-leftmost place word none) ∙ h .none; word-kept = h .word-kept }
 
-pub end-next : (T : Presentation) {word : Word} {bytes : List ℕ} {left right : ℕ} → AtEnd word bytes left right → next T word ≡ no-site
+-- the word before the gap is then all of it
+pub end-word : {word : Word} {bytes : List ℕ} {left right : ℕ} → AtEnd (site word) word bytes left right → word ≡ letters (take left bytes)
+end-word {bytes} {left} {right} h = sym (h .word-kept) ∙ all-before bytes left right (h .all)
+
+pub end-next : (T : Presentation) {word : Word} {bytes : List ℕ} {left right : ℕ} → AtEnd (site word) word bytes left right → next T word ≡ no-site
 unfolding next
-end-next T h = ap (λ w. bySite T (site w)) (end-word h) ∙ ap (bySite T) (h .searched .none-before)
+end-next T h = ap (bySite T) (h .none)

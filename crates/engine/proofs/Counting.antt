@@ -48,17 +48,17 @@ both-signs (forward a ∷ w) = omega (arith, both-signs w)
 both-signs (back a ∷ w) = omega (arith, both-signs w)
 
 -- the word at the end of a search
-module _ {word : Word} {bytes : List ℕ} {left right : ℕ} (h : AtEnd word bytes left right) where
+module _ {word : Word} {bytes : List ℕ} {left right : ℕ} (h : AtEnd (site word) word bytes left right) where
   end-length : length word ≡ left
   end-length =
       ap length (end-word h)
-      ∙ (length-letters (take left bytes) ∙ length-take-le left bytes (omega (arith, h .searched .ordered, h .searched .inside)))
+      ∙ (length-letters (take left bytes) ∙ length-take-le left bytes (omega (arith, h .ordered, h .all)))
 
   pub denominator-length : length (reverse (backs word)) ≡ left - length (forwards word)
   denominator-length = length-reverse (backs word) ∙ omega (arith, both-signs word, end-length)
 
   pub end-fraction : word ≡ positive (forwards word) ++ negative (reverse (backs word))
-  end-fraction = site-fraction word (ap site (end-word h) ∙ h .searched .none-before)
+  end-fraction = site-fraction word (h .none)
 
   pub end-holds : (k r : ℕ) → LeavesWord (ended word k r) bytes
   end-holds k r =

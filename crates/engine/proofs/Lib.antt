@@ -1,6 +1,7 @@
 pub mod Letters
 pub mod Sites
-pub mod Moves
+pub mod Cases
+pub mod Seeking
 pub mod Pushes
 pub mod Lettering
 pub mod AtGap

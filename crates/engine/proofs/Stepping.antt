@@ -7,7 +7,7 @@ use lib.ListN.{length, take, drop, getD}
 use Rattle.model.specs.Word.{Positive, positive, inverse}
 use Rattle.model.specs.Presentation.{Presentation}
 use Rattle.model.specs.Reversing.{next, blocked}
-use Rattle.engine.specs.Gap.{letters, wordAt, AtSite}
+use Rattle.engine.specs.Gap.{letters, wordAt, AtLeftmost}
 use Rattle.cells.specs.Layout.{cellAt}
 use Rattle.model.specs.Range.{InRange}
 use Rattle.cells.proofs.Rules.{WordAt}
@@ -24,7 +24,7 @@ cell-letters {cells} {n} {x} few w from count e f =
     ap (λ i. letters (take i (drop from cells))) f
     ∙ (ap (λ i. letters (take (length x) (drop i cells))) e ∙ (ap letters (w .word) ∙ letters-positive n few x (w .lettered)))
 
-module _ (cells bytes : List ℕ) (left right : ℕ) (h : AtSite (wordAt bytes left right) bytes left right) where
+module _ (cells bytes : List ℕ) (left right : ℕ) (h : AtLeftmost bytes left right) where
   abbrev pub a : ℕ
   a = before bytes left right h
 

@@ -1,3 +1,4 @@
+pub mod Search
 pub mod Gap
 pub mod Turn
 pub mod Run

@@ -5,7 +5,7 @@ use Prim.Native.Nat.{ℕ, _+_, _-_, _≤_, _<_}
 use lib.ListN.{length, take, drop, getD}
 use Rattle.model.specs.Word.{Word}
 use Rattle.model.specs.Presentation.{Presentation}
-use Rattle.model.specs.Reversing.{next, no-site, blocked, step}
+use Rattle.model.specs.Reversing.{site, next, no-site, blocked, step}
 use Rattle.engine.specs.Gap.{letters, wordAt, Searched, AtEnd}
 use Rattle.model.specs.Range.{Lettered}
 use Rattle.cells.specs.Stands.{Serves}
@@ -29,7 +29,7 @@ pub record Pushed (word : Word) (bytes : List ℕ) (right count : ℕ) (after : 
   pub before : take (right - count) after ≡ take (right - count) bytes
   pub pushed : letters (drop (right - count) after) ≡ word ++ letters (drop right bytes)
 
--- the next word is in the workspace, no site begins before its gap, and its letters are the presentation's
+-- the next word is in the workspace, no site begins before the place of a search from its gap, and its letters are the presentation's
 pub record Steps (T : Presentation) (word : Word) (bytes : List ℕ) (left right a b : ℕ) : Type 0 where
   pub searched : Searched bytes left right
   pub taken : next T word ≡ step a b (wordAt bytes left right)
@@ -52,7 +52,7 @@ pub record Goes (T : Presentation) (word : Word) : Type 0 where
 
 -- what a turn says of the word, where `remaining` steps of the budget are left
 abbrev pub TurnDone : Presentation → Word → ℕ → List ℕ → Turn → Type 0
-TurnDone T word remaining bytes (Final g) = (next T word ≡ no-site) × AtEnd word bytes (g .left) (g .right)
+TurnDone T word remaining bytes (Final g) = (next T word ≡ no-site) × AtEnd (site word) word bytes (g .left) (g .right)
 TurnDone T word remaining bytes (Undefined p) = next T word ≡ blocked (p .a) (p .b)
 TurnDone T word remaining bytes (Stopped Budget) = (remaining ≡ 0) × Goes T word
 TurnDone T word remaining bytes (Stopped Room) = (1 ≤ remaining) × Outgrows T word (length bytes)

@@ -2,7 +2,7 @@ ghost use mathlib.Core.Path.{_≡_};
 ghost use Prim.Native.Nat.{_-_};
 ghost use lib.ListN.{length, getD};
 ghost use Rattle.model.specs.Word.{inverse};
-ghost use Rattle.engine.specs.Gap.{wordAt, Searched, AtSite};
+ghost use Rattle.engine.specs.Gap.{wordAt, Searched, AtLeftmost};
 ghost use Rattle.cells.specs.Stands.{Ready};
 ghost use Rattle.engine.specs.Turn.{cellLetters, CellFits, Pushed, TurnMeans};
 use crate::gap::Gap;
@@ -56,9 +56,9 @@ pub fn push_inverse(bytes: &mut [u8], right: usize, cells: &[u8], at: usize) -> 
     next
 }
 
-// One step at a site, or why there is none; `remaining` steps of the budget are left.
+// One step at the leftmost site, or why there is none; `remaining` steps of the budget are left.
 pub fn step(cells: &[u8], bytes: &mut [u8], site: Gap, remaining: u16) -> Turn
-    requires site { ⌜ AtSite (wordAt (now bytes) (site .left) (site .right)) (now bytes) (site .left) (site .right) ⌝ }
+    requires site { ⌜ AtLeftmost (now bytes) (site .left) (site .right) ⌝ }
     requires ready { ⌜ Ready (now cells) (wordAt (now bytes) (site .left) (site .right)) ⌝ }
     ensures length { λ r. ⌜ length (now (bytes .exit)) ≡ length (now (bytes .entry)) ⌝ }
     ensures step { λ r. ⌜ TurnMeans (now (cells .entry)) (wordAt (now (bytes .entry)) (site .left) (site .right)) remaining (now (bytes .exit)) r ⌝ }
@@ -88,7 +88,7 @@ pub fn step(cells: &[u8], bytes: &mut [u8], site: Gap, remaining: u16) -> Turn
     }
 }
 
-// The search for the leftmost site, then the step there.
+// The search for the leftmost site, then the step there. No site begins before the place of the search, so that what it finds is the leftmost one.
 pub fn advance(cells: &[u8], bytes: &mut [u8], gap: Gap, remaining: u16) -> Turn
     requires searched { ⌜ Searched (now bytes) (gap .left) (gap .right) ⌝ }
     requires ready { ⌜ Ready (now cells) (wordAt (now bytes) (gap .left) (gap .right)) ⌝ }

@@ -7,7 +7,7 @@ use lib.ListN.{length, take, drop, length-append, length-take, length-drop, leng
 use lib.Seq.{drop-at, length-take-le, drop-length}
 use Rattle.model.specs.Word.{forward, back, Word, byte}
 use Rattle.model.specs.Presentation.{Presentation}
-use Rattle.model.specs.Reversing.{site, reversing, stopped, room}
+use Rattle.model.specs.Reversing.{reversing, stopped, room}
 use Rattle.model.specs.Plain.{plainProgram}
 use Rattle.model.specs.declared.answers.Ending.{Ending}
 use Rattle.model.specs.declared.answers.Ending.the-variants.{Stopped}
@@ -57,7 +57,7 @@ module _ (cells : List ℕ) (size : ℕ) (T : Presentation) (o : Of cells size T
       record {
         ordered = omega arith;
         inside = omega (arith, ready-length, fit);
-        none-before = ap site letters-nil;
+        none-before = λ p s a b e. omega arith;
       }
 
   pub word-served : Serves cells (wordAt ready 0 right) T

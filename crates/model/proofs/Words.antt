@@ -64,11 +64,11 @@ fraction-injective n d n′ d′ e = (
 
 -- SITES
 
-beyond-nowhere : (x : Letter) (t : Site) → beyond x t ≡ nowhere → t ≡ nowhere
+pub beyond-nowhere : (x : Letter) (t : Site) → beyond x t ≡ nowhere → t ≡ nowhere
 beyond-nowhere x nowhere e = refl
 beyond-nowhere x (at p a b s) e = impossible (cc)
 
-beyond-at : (x : Letter) (t : Site) {p s : Word} {a b : ℕ} → beyond x t ≡ at p a b s → (q : Word) × (t ≡ at q a b s) × (p ≡ x ∷ q)
+pub beyond-at : (x : Letter) (t : Site) {p s : Word} {a b : ℕ} → beyond x t ≡ at p a b s → (q : Word) × (t ≡ at q a b s) × (p ≡ x ∷ q)
 beyond-at x nowhere e = impossible (cc)
 beyond-at x (at q a b s) e = (q, cc, cc)
 

@@ -43,8 +43,8 @@ forward-letters-requires c κs =
     let l = c .before .before .before .before .before .before .before .before .loop in
     let v = c .before .before .before .before .before .before .advance in
     let m = subst (TurnMeans (s .args .cells .now) (wordAt (l .bytes) (l .gap .left) (l .gap .right)) (s .args .budget - l .steps) (v .last .1 .0)) (c .before .before .turn .given .1) (v .ensures .1) in
-    let e = m (s .pre .1 .0) (serves-now (l .inv) (s .pre .1 .0) (s .pre .1 .1)) .1 .searched in
-    omega (arith, e .ordered, e .inside)
+    let e = m (s .pre .1 .0) (serves-now (l .inv) (s .pre .1 .0) (s .pre .1 .1)) .1 in
+    omega (arith, e .ordered, e .all)
 
 sub-t21 : tie.Need-sub-t21 Inv-loop μ-loop
 sub-t21 c =
