@@ -13,3 +13,4 @@ pub mod Case
 pub mod Samples
 pub mod Sheet
 pub mod Cases
+pub mod BedCases

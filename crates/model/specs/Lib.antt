@@ -10,6 +10,7 @@ pub mod Images
 pub mod Range
 pub mod Plain
 pub mod Services
+pub mod Bed
 pub mod Areas
 pub mod Stated
 pub mod Refusals

@@ -84,5 +84,6 @@ pub fn refusal_numbers(refusal: Refusal) -> RefusalNumbers
         Refusal::WorkspaceShort(place) => with_place(12, place),
         Refusal::AnswerShort => alone(13),
         Refusal::UnequalEnds => alone(14),
+        Refusal::NotBraidTable => alone(15),
     }
 }
