@@ -5,7 +5,7 @@ use mathlib.Core.Path.{refl}
 use Prim.Native.Nat.{ℕ, _^_}
 use lib.ListN.{replicate}
 use lib.IntN.{pos, negsuc}
-use Rattle.model.specs.Word.{forward, back, positive, negative}
+use Rattle.model.specs.Word.{back, positive, negative}
 use Rattle.model.specs.Presentation.{Presentation, complement, complete}
 use Rattle.model.specs.Bits.{field, finish}
 use Rattle.model.specs.Images.{readTable, readProgram, tableImage, programImage}
@@ -13,7 +13,7 @@ use Rattle.model.specs.Outcome.{answered, refused}
 use Rattle.model.specs.Areas.{outputAfter}
 use Rattle.model.specs.Bed.{isBraid, bedAfter, totalBytes, readBraid, bed}
 use Rattle.model.proofs.Case.{Case, _gives_, All}
-use Rattle.model.proofs.Samples.{braid3, braid1, open2, three, broken3, unequal2, endless3, image, log, pattern, braidBytes, first, firstBytes}
+use Rattle.model.proofs.Samples.{braid3, braid1, open2, three, broken3, unequal2, endless3, image, log, braidBytes, first, firstBytes}
 
 -- the braid table of 2 letters
 abbrev braid2 : Presentation

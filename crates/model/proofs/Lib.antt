@@ -13,4 +13,7 @@ pub mod Case
 pub mod Samples
 pub mod Sheet
 pub mod Cases
+pub mod Fitted
+pub mod Positions
+pub mod Beds
 pub mod BedCases

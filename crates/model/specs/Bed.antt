@@ -1,10 +1,11 @@
 -- Specification 2.4 and 6.10: the braid table, and the bed under it, which says what bobbin stands at each place and how often each two bobbins crossed.
 use mathlib.Core.List.{List, [], _∷_, _++_}
 use mathlib.Core.Bool.{Bool, true, false, not, _&&_, _||_, cond}
-use Prim.Native.Nat.{ℕ, zero, suc, _-_, _/_, _%_}
+use mathlib.Core.Path.{_≡_}
+use Prim.Native.Nat.{ℕ, zero, suc, _-_, _/_, _%_, _≤_}
 use lib.Dec.{eqb}
 use lib.ListN.{length, take, getD, set, replicate}
-use lib.IntN.{ℤ, pos, negsuc, _+ℤ_}
+use lib.IntN.{ℤ, pos, negsuc, natAbs, _+ℤ_}
 use Rattle.model.specs.Word.{Letter, forward, back, Word, Positive}
 use Rattle.model.specs.Presentation.{Presentation, Complement, undefined, complement, complete}
 use Rattle.model.specs.Equivalence.{equal}
@@ -15,9 +16,13 @@ use Rattle.model.specs.Services.{fitted}
 
 -- THE BRAID TABLE (2.4)
 
--- 2.4: C(a,b) of two different letters: b a where they differ by 1, else b
+-- whether two numbers differ by 1
+abbrev pub adjacent : ℕ → ℕ → Bool
+adjacent a b = eqb (suc a) b || eqb (suc b) a
+
+-- 2.4: C(a,b) of two different letters
 abbrev pub braidWord : ℕ → ℕ → Positive
-braidWord a b = cond (eqb (suc a) b || eqb (suc b) a) (b ∷ a ∷ []) (b ∷ [])
+braidWord a b = cond (adjacent a b) (b ∷ a ∷ []) (b ∷ [])
 
 -- whether a pair is defined and has these two words
 abbrev pub hasWords : Positive → Positive → Complement → Bool
@@ -88,6 +93,25 @@ laid (x ∷ w) B = laid w (moved x B)
 -- the bed after the first k moves of a program under n letters, all where it has no more than k
 abbrev pub bedAfter : ℕ → ℕ → Word → Bed
 bedAfter n k w = laid (take k w) (firstBed n)
+
+-- the same numbers in some order: each occurs as often
+abbrev pub occurrences : ℕ → List ℕ → ℕ
+occurrences p [] = 0
+occurrences p (x ∷ xs) = cond (eqb x p) (suc (occurrences p xs)) (occurrences p xs)
+
+abbrev pub Rearranged : List ℕ → List ℕ → Type 0
+Rearranged xs ys = (p : ℕ) → occurrences p xs ≡ occurrences p ys
+
+-- no total is further from 0 than c
+abbrev pub Within : ℕ → List ℤ → Type 0
+Within c ts = (k : ℕ) → natAbs (getD ts k (pos 0)) ≤ c
+
+-- what holds of the bed of m bobbins after c moves
+pub record Sound (m c : ℕ) (B : Bed) : Type 0 where
+  pub places : length (B .bobbins) ≡ m
+  pub many : length (B .totals) ≡ length (pairs m)
+  pub order : Rearranged (B .bobbins) (range 1 m)
+  pub within : Within c (B .totals)
 
 -- THE ANSWER (6.10)
 

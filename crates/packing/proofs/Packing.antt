@@ -1,9 +1,8 @@
 -- The two equations of a packing service's promise, from its outcome. Then the outcome of each service, from those of the readers.
 use mathlib.Core.Path.{_≡_, sym, ap, _∙_}
-use mathlib.Core.List.{List, [], _∷_}
-use Prim.Native.Nat.{ℕ, _+_, _≤_, _<_}
+use mathlib.Core.List.{List, _∷_}
+use Prim.Native.Nat.{ℕ, _+_}
 use native.Mathlib.Omega.{arith}
-use borrow.Author.Tests.{lt-ltb, le-ltb}
 use lib.ListN.{length, take, drop}
 use lib.Seq.{take-at}
 use Rattle.images.specs.Bytewise.{Wrote}
@@ -12,7 +11,7 @@ use Rattle.model.specs.declared.answers.Packed.{Packed}
 use Rattle.model.specs.declared.answers.Packed.the-variants.{Written, Refused}
 use Rattle.model.specs.Presentation.{Presentation}
 use Rattle.model.specs.Word.{Word}
-use Rattle.model.specs.Outcome.{Outcome, answered, refused, _>>=_, unless, mapped}
+use Rattle.model.specs.Outcome.{Outcome, answered, _>>=_, mapped}
 use Rattle.model.specs.Areas.{begins, outputAfter, ReadsBack}
 use Rattle.model.specs.Stated.{refusal, packedAs}
 use Rattle.model.specs.Images.{readTable, readProgram, programImage, tableImage}
@@ -20,6 +19,7 @@ use Rattle.model.specs.Plain.{plainProgram, readPlainProgram, readPlainTable, p
 use Rattle.model.specs.Enumeration.{concatMap}
 use Rattle.model.specs.Services.{fitted, unpackProgram, packProgram, packTable, unpackTable}
 use Rattle.images.proofs.Refusals.{refused-on}
+pub use Rattle.model.proofs.Fitted.{short-area, long-area}
 
 -- the promise: the result is the outcome's, the area is what the outcome leaves, and what is written reads back as the subject
 abbrev pub Kept : {A : Type 0} → Outcome A → (List ℕ → Outcome A) → Outcome (List ℕ) → List ℕ → Packed → List ℕ → Type 0
@@ -39,13 +39,6 @@ module _ {A : Type 0} (subject : Outcome A) (read : List ℕ → Outcome A) (out
     ap answered (sym n) ∙ ap (mapped length) (sym e),
     (w ∙ ap (λ o. outputAfter (λ b. b) o area) (sym e), ap read (ap (take k) w ∙ take-at bytes (drop (length bytes) area) k n) ∙ back),
   )
-
--- refusal 13, or not
-pub short-area : (area : ℕ) (bytes : List ℕ) → area < length bytes → fitted area bytes ≡ refused 13 []
-short-area area bytes h = ap (λ t. unless t 13 bytes) (lt-ltb area (length bytes) h)
-
-pub long-area : (area : ℕ) (bytes : List ℕ) → length bytes ≤ area → fitted area bytes ≡ answered bytes
-long-area area bytes h = ap (λ t. unless t 13 bytes) (le-ltb area (length bytes) h)
 
 -- UNPACK A PROGRAM
 module _ (table program : List ℕ) (area : ℕ) where
