@@ -7,6 +7,10 @@ pub mod Completeness
 pub mod Cancelling
 pub mod Residuals
 pub mod Enumerated
+pub mod Braiding
+pub mod Crossings
+pub mod Beds
+pub mod Totals
 pub mod Derivation
 pub mod Checked
 pub mod Clearing

@@ -1,3 +1,4 @@
+pub mod Beds
 pub mod Cube
 pub mod Orders
 pub mod Passages
