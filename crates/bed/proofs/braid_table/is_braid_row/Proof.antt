@@ -1,0 +1,97 @@
+-- `bed::braid_table::is_braid_row` meets its contract.
+use Prim.Native.Nat.{ℕ, _+_, _-_, _≤_, _<_}
+use native.Mathlib.Omega.{arith}
+use borrow.Author.Tests.{not-true, not-false}
+use Rattle.model.specs.Presentation.{Presentation}
+use Rattle.cells.specs.Stands.{Of}
+use Rattle.bed.specs.BraidTable.{BraidPair}
+use Rattle.bed.proofs.BraidWords.{decided-false, decided-true, of-few, of-range, filled, one-more, pair-of-words, first-of-pair, second-of-pair}
+use Rattle.bed.proofs.braid_table.is_braid_row.Statement.{statement}
+use Rattle.bed.proofs.braid_table.is_braid_row.Tie as tie
+
+abbrev Inv-loop : tie.InvT-loop
+Inv-loop cells size a b₀ b =
+    (a < b) × (b ≤ size + 1) × (size ≤ 16) × ((T : Presentation) → Of cells size T → (k : ℕ) → a < k → k < b → BraidPair T a k)
+
+abbrev μ-loop : tie.MeasureT-loop
+μ-loop cells size a b₀ b = size + 1 - b
+
+add-b : tie.Need-add-b Inv-loop μ-loop
+add-b c = let s = c .before in omega (arith, s .pre .2, of-few (s .pre .0 .1))
+
+loop-holds : tie.Need-loop-holds Inv-loop μ-loop
+loop-holds c =
+    let s = c .before in
+    (omega arith, omega (arith, s .pre .2), of-few (s .pre .0 .1), λ T o k l h. absurd (omega arith))
+
+has-braid-word-requires : tie.Need-has-braid-word-requires Inv-loop μ-loop
+has-braid-word-requires c κs =
+    let s = c .before .before .before in
+    filled (s .pre .0) (s .args .a) (c .before .loop .b) (s .pre .1) (s .pre .2) (omega (arith, s .pre .1)) (omega arith)
+
+returns : tie.Need-returns Inv-loop μ-loop
+returns c =
+    let s = c .before .before .before .before .before in
+    let l = c .before .before .before .loop in
+    λ T o. decided-false λ each.
+    c .before .has-braid-word .ensures T (o .stands) (of-range o (s .args .a) (s .pre .1) (s .pre .2)) (of-range o (l .b) (omega (arith, s .pre .1)) (omega arith))
+    .fails (not-true _ (c .if1 .taken)) (first-of-pair T (s .args .a) (l .b) (each (l .b) (omega arith) (omega arith)))
+
+has-braid-word-requires-2 : tie.Need-has-braid-word-requires-2 Inv-loop μ-loop
+has-braid-word-requires-2 c κs =
+    let s = c .before .before .before .before .before in
+    filled (s .pre .0) (c .before .before .before .loop .b) (s .args .a) (omega (arith, s .pre .1)) (omega arith) (s .pre .1) (s .pre .2)
+
+returns-2 : tie.Need-returns-2 Inv-loop μ-loop
+returns-2 c =
+    let s = c .before .before .before .before .before .before .before in
+    let l = c .before .before .before .before .before .loop in
+    λ T o. decided-false λ each.
+    c .before .has-braid-word2 .ensures T (o .stands) (of-range o (l .b) (omega (arith, s .pre .1)) (omega arith)) (of-range o (s .args .a) (s .pre .1) (s .pre .2))
+    .fails (not-true _ (c .if2 .taken)) (second-of-pair T (s .args .a) (l .b) (each (l .b) (omega arith) (omega arith)))
+
+add-b-2 : tie.Need-add-b-2 Inv-loop μ-loop
+add-b-2 c = omega arith
+
+loop-less : tie.Need-loop-less Inv-loop μ-loop
+loop-less c = omega arith
+
+loop-again : tie.Need-loop-again Inv-loop μ-loop
+loop-again c =
+    let s = c .before .before .before .before .before .before .before in
+    let l = c .before .before .before .before .before .loop in (
+      omega arith,
+      omega arith,
+      l .inv .2,
+      λ T o k h i.
+          let ra = of-range o (s .args .a) (s .pre .1) (s .pre .2) in
+          let rb = of-range o (l .b) (omega (arith, s .pre .1)) (omega arith) in
+          one-more (BraidPair T (s .args .a)) (l .b) (s .args .a) (l .inv .3 T o)
+          (pair-of-words T (s .args .a) (l .b)
+          (c .before .before .before .has-braid-word .ensures T (o .stands) ra rb .holds (not-false _ (c .before .before .if1 .left)))
+          (c .before .has-braid-word2 .ensures T (o .stands) rb ra .holds (not-false _ (c .if2 .left))))
+          k h i,
+    )
+
+returns-3 : tie.Need-returns-3 Inv-loop μ-loop
+returns-3 c =
+    let s = c .before .before .before in
+    let l = c .before .loop in
+    λ T o. decided-true λ b h k. l .inv .3 T o b h (omega arith)
+
+pub is-braid-row-spec : {M : Type 1} → statement M
+is-braid-row-spec =
+    tie.close
+    (tie.spec
+    Inv-loop
+    μ-loop
+    add-b
+    loop-holds
+    has-braid-word-requires
+    returns
+    has-braid-word-requires-2
+    returns-2
+    add-b-2
+    loop-less
+    loop-again
+    returns-3)

@@ -1,0 +1,3 @@
+pub mod BraidTable
+pub mod Shown
+pub mod Meaning

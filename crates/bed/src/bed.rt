@@ -1,0 +1,63 @@
+// Bed (specification 6.10): the bobbins and their crossings after the first moves of a program, in the answer area.
+use crate::braid_table::read_braid;
+use crate::moves::laid;
+use crate::writing::write_bed;
+use images::programs::ProgramRead;
+use images::programs::read_program;
+use images::tables::TableRead;
+use model::answers::Packed;
+use model::answers::Refusal;
+ghost use mathlib.Core.Path.{_≡_};
+ghost use lib.ListN.{length};
+ghost use Rattle.model.specs.Outcome.{mapped};
+ghost use Rattle.model.specs.Areas.{outputAfter};
+ghost use Rattle.model.specs.Stated.{packedAs};
+ghost use Rattle.model.specs.Bed.{bed};
+ghost use Rattle.images.specs.Programs.{Accepted};
+ghost use Rattle.bed.specs.Shown.{Turns, ProgramAnswered};
+ghost use Rattle.bed.specs.Meaning.{BedSays};
+
+// How many moves of a program are made where the caller names any number.
+pub fn turns_of(count: u16, moves: u64) -> u16
+    ensures { λ r. ⌜ Turns count moves r ⌝ }
+{
+    if moves < count as u64 {
+        return moves as u16;
+    }
+    count
+}
+
+// An accepted program under a braid table.
+pub fn show_program(program: &[u8], size: u8, count: u16, moves: u64, answer: &mut [u8]) -> Packed
+    requires { ⌜ Accepted (now program) size count ⌝ }
+    ensures { λ r. ⌜ ProgramAnswered (now (program .entry)) size moves (now (answer .entry)) (now (answer .exit)) r ⌝ }
+{
+    let places = size as usize + 1;
+    let bytes = places * places;
+    if answer.len() < bytes {
+        return Packed::Refused(Refusal::AnswerShort);
+    }
+    let bed = laid(program, size, count, turns_of(count, moves));
+    write_bed(bed, places, answer);
+    Packed::Written { bytes }
+}
+
+pub fn bed(table: &[u8], program: &[u8], moves: u64, answer: &mut [u8]) -> Packed
+    ensures stated { λ r. ⌜ packedAs r ≡ mapped length (bed (now (table .entry)) (now (program .entry)) moves (length (now (answer .entry)))) ⌝ }
+    ensures answer { λ r. ⌜ now (answer .exit) ≡ outputAfter (λ b. b) (bed (now (table .entry)) (now (program .entry)) moves (length (now (answer .entry)))) (now (answer .entry)) ⌝ }
+    ensures meaning { λ r. ⌜ BedSays (now (table .entry)) (now (program .entry)) moves (packedAs r) (now (answer .exit)) ⌝ }
+{
+    let read = read_braid(table);
+    match read {
+        TableRead::Refused(refusal) => Packed::Refused(refusal),
+        TableRead::Table { size } => {
+            let accepted = read_program(program, size);
+            match accepted {
+                ProgramRead::Refused(refusal) => Packed::Refused(refusal),
+                ProgramRead::Program { count } => {
+                    show_program(program, size, count, moves, answer)
+                }
+            }
+        }
+    }
+}
