@@ -42,6 +42,6 @@ passageTold joins = numbers 0 0 0 0 0
 passageTold (breaks k) = numbers 0 1 k 0 0
 passageTold ends-elsewhere = numbers 0 2 0 0 0
 
--- packing and unpacking: the bytes written
+-- packing, unpacking and bed: the bytes written
 abbrev pub bytesTold : ℕ → Numbers
 bytesTold k = numbers 0 k 0 0 0

@@ -5,6 +5,7 @@ ghost use Rattle.model.specs.Outcome.{mapped, answered};
 ghost use Rattle.model.specs.Images.{readTable};
 ghost use Rattle.model.specs.Plain.{readPlainTable};
 ghost use Rattle.model.specs.Services.{reverse, clear, compare, chain, remainder, check, packTable, unpackTable, packProgram, unpackProgram, listable, programUnder, plainProgramUnder};
+ghost use Rattle.model.specs.Bed.{bed};
 ghost use Rattle.model.specs.Areas.{outputAfter, workspaceAfter, fractionBytes, remainderBytes, ChainArea, ReadsBack};
 ghost use Rattle.model.specs.Stated.{sizes, counted};
 ghost use Rattle.clearing.specs.Clear.{ClearMeaning};
@@ -13,6 +14,7 @@ ghost use Rattle.comparing.specs.Compare.{Meaning};
 ghost use Rattle.chaining.specs.Chain.{ListedChecks};
 ghost use Rattle.remainders.specs.Remainder.{RemainderMeaning};
 ghost use Rattle.checking.specs.Check.{CheckMeaning};
+ghost use Rattle.bed.specs.Meaning.{BedSays};
 ghost use Rattle.braid.specs.Told.{told, sizesTold, passedTold, verdictTold, remainderTold, passageTold, bytesTold};
 ghost use Rattle.braid.specs.Values.{Tells};
 use crate::numbers::Numbers;
@@ -22,6 +24,7 @@ use crate::numbers::of_compared;
 use crate::numbers::of_packed;
 use crate::numbers::of_remaining;
 use crate::numbers::of_reversed;
+use bed::bed::bed;
 use chaining::chain::chain;
 use checking::check::check;
 use clearing::clear::clear;
@@ -195,4 +198,20 @@ pub extern "C" fn braid_unpack_program(
 {
     let unpacked = unpack_program::unpack(table, program, answer);
     tell(of_packed(unpacked), values)
+}
+
+#[no_mangle]
+pub extern "C" fn braid_bed(
+    table: &[u8],
+    program: &[u8],
+    moves: u64,
+    answer: &mut [u8],
+    values: &mut [u64; 4],
+) -> u8
+    ensures told { λ r. ⌜ Tells (told bytesTold (mapped length (bed (now (table .entry)) (now (program .entry)) moves (length (now (answer .entry)))))) r (now (values .exit)) ⌝ }
+    ensures answer { λ r. ⌜ now (answer .exit) ≡ outputAfter (λ b. b) (bed (now (table .entry)) (now (program .entry)) moves (length (now (answer .entry)))) (now (answer .entry)) ⌝ }
+    ensures meaning { λ r. ⌜ BedSays (now (table .entry)) (now (program .entry)) moves (mapped length (bed (now (table .entry)) (now (program .entry)) moves (length (now (answer .entry))))) (now (answer .exit)) ⌝ }
+{
+    let shown = bed(table, program, moves, answer);
+    tell(of_packed(shown), values)
 }
