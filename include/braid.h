@@ -1,5 +1,5 @@
 /*
- * Reversing, comparing and packing of braiding programs: the interface of libbraid.a. docs/SPECIFICATION.md says what each call does, bit for
+ * Reversing, comparing, showing and packing of braiding programs: the interface of libbraid.a. docs/SPECIFICATION.md says what each call does, bit for
  * bit; section numbers below are its.
  *
  * What a caller must keep (8.2). Each pointer is not null, also where its length is 0 (as an empty vector's may be), and points to memory of that
@@ -46,6 +46,7 @@ enum {
     BRAID_MOST_PLAIN_BYTES = 3841,  /* the longest plain table */
     BRAID_MOST_PROGRAM_BYTES = 2561, /* the longest program image; a plain program has a byte a move */
     BRAID_MOST_CHAIN_BYTES = 163840, /* the longest chain image */
+    BRAID_MOST_BED_BYTES = 289,     /* the longest bed, of 17 bobbins */
     BRAID_BACK = 128,               /* a back move's byte is its number and this */
     BRAID_OPEN = 255,               /* stands for an open pair in a plain table */
     BRAID_VALUES = 4,               /* values that every call sets */
@@ -74,6 +75,12 @@ static inline size_t braid_chain_bytes(unsigned n, size_t entries)
     return (16 + entries * (12 + 2 * (size_t)braid_move_bits(n)) + 7) / 8;
 }
 
+/* Bytes of a bed under a table of n moves (6.10). */
+static inline size_t braid_bed_bytes(unsigned n)
+{
+    return (n + (size_t)1) * (n + (size_t)1);
+}
+
 /* RESULTS (section 7) */
 
 enum braid_result {
@@ -91,7 +98,8 @@ enum braid_result {
     BRAID_ALLOWANCE_USED = 11,
     BRAID_WORKSPACE_SHORT = 12,
     BRAID_ANSWER_SHORT = 13,
-    BRAID_UNEQUAL_ENDS = 14
+    BRAID_UNEQUAL_ENDS = 14,
+    BRAID_NOT_BRAID_TABLE = 15
 };
 
 /* What values[0] means follows from call and result. An answer of compare or chain: */
@@ -124,7 +132,8 @@ static inline const char *braid_text(uint8_t result)
         "the allowance is used",
         "the workspace is too short",
         "the answer area is too short",
-        "a comparison ended with two words of different lengths"
+        "a comparison ended with two words of different lengths",
+        "the table isn't the braid table of its number of moves"
     };
     return result < sizeof texts / sizeof *texts ? texts[result] : "no result of this library";
 }
@@ -214,6 +223,16 @@ BRAID_CALL uint8_t braid_pack_program(const uint8_t *table, size_t table_length,
  */
 BRAID_CALL uint8_t braid_unpack_program(const uint8_t *table, size_t table_length, const uint8_t *program, size_t program_length,
                                         uint8_t *answer, size_t answer_length, uint64_t *values);
+
+/*
+ * The bed after the first `moves` moves of a program, or after all of them where it has no more, under the braid table of n moves (2.4). The n + 1
+ * bobbins first stand in order. Move i, forward or back, exchanges those at places i and i + 1; forward adds 1 to the total of these two bobbins, back takes 1
+ * away. Answer area: the bobbin at each place, a byte each, then the total of each pair of bobbins 1 2, 1 3, .., in two bytes, high byte first, in two's
+ * complement: braid_bed_bytes(n) bytes. Joined programs, run to the end, leave equal beds (6.10).
+ * Values: bytes written, 0, 0, 0. Refusals: 1 to 3, 15, 4 to 6, 13, in this order.
+ */
+BRAID_CALL uint8_t braid_bed(const uint8_t *table, size_t table_length, const uint8_t *program, size_t program_length, uint64_t moves,
+                             uint8_t *answer, size_t answer_length, uint64_t *values);
 
 #ifdef __cplusplus
 }

@@ -13,7 +13,7 @@ enum { PAINT = 0xA5, STACK = 65536, AREA = 200000 };
 
 static uint8_t stack[STACK], workspace[AREA], answer[AREA], plain[AREA], table[AREA], program[AREA], chain[AREA];
 static uint64_t values[BRAID_VALUES];
-static size_t table_length, program_length, chain_length, plain_length;
+static size_t table_length, program_length, chain_length, plain_length, answer_length;
 static uint8_t result;
 static int passed, failed;
 static ucontext_t here, there;
@@ -83,6 +83,8 @@ static void check(void)
     result = braid_check(table, table_length, program, program_length, answer, program_length, chain, chain_length, workspace, 3, values);
 }
 
+static void show(void) { result = braid_bed(table, table_length, program, program_length, UINT64_MAX, answer, answer_length, values); }
+
 /* The call answers, and its stack suffices. */
 static void answers(const char *name, void (*call)(void))
 {
@@ -150,10 +152,54 @@ static void engine(void)
     hold("texts", strcmp(braid_text(BRAID_OPEN_PAIR), "the reversing met an open pair") == 0 && braid_text(200) != NULL);
 }
 
+/* A plain braid table of n moves. */
+static void fill_braid_table(uint8_t n)
+{
+    uint8_t a, b;
+    plain_length = 0;
+    plain[plain_length++] = n;
+    for (a = 1; a <= n; a++) {
+        for (b = a + 1; b <= n; b++) {
+            uint8_t pair[] = {2, b, a, 2, a, b}, apart[] = {1, b, 1, a};
+            if (b == a + 1) {
+                memcpy(plain + plain_length, pair, sizeof pair);
+                plain_length += sizeof pair;
+            } else {
+                memcpy(plain + plain_length, apart, sizeof apart);
+                plain_length += sizeof apart;
+            }
+        }
+    }
+}
+
+static void longest_bed(void)
+{
+    fill_braid_table(BRAID_MOST_TABLE_MOVES);
+    pack_table();
+    table_length = (size_t)values[0];
+    memset(plain, BRAID_MOST_TABLE_MOVES, BRAID_MOST_MOVES);
+    plain_length = BRAID_MOST_MOVES;
+    pack_program();
+    program_length = (size_t)values[0];
+    answer_length = BRAID_MOST_BED_BYTES;
+    answers("bed", show);
+    hold("the longest bed", values[0] == BRAID_MOST_BED_BYTES && braid_bed_bytes(BRAID_MOST_TABLE_MOVES) == BRAID_MOST_BED_BYTES);
+    hold("the largest total", answer[BRAID_MOST_BED_BYTES - 2] == 0x0F && answer[BRAID_MOST_BED_BYTES - 1] == 0xFF);
+    memset(plain, BRAID_MOST_TABLE_MOVES + BRAID_BACK, BRAID_MOST_MOVES);
+    pack_program();
+    show();
+    hold("the smallest total", answer[BRAID_MOST_BED_BYTES - 2] == 0xF0 && answer[BRAID_MOST_BED_BYTES - 1] == 0x01);
+    answer_length = BRAID_MOST_BED_BYTES - 1;
+    show();
+    hold("an area one byte too short for a bed", result == BRAID_ANSWER_SHORT);
+    hold("its text", strcmp(braid_text(BRAID_NOT_BRAID_TABLE), "the table isn't the braid table of its number of moves") == 0);
+}
+
 int main(void)
 {
     longest_forms();
     engine();
+    longest_bed();
     printf("%d passed, %d failed\n", passed, failed);
     return failed != 0;
 }

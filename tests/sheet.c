@@ -281,6 +281,35 @@ static void stopping(void)
     }
 }
 
+/* The bed of a program after so many moves, in an area of so many bytes. */
+static uint8_t shown(const uint8_t *table, size_t table_length, const uint8_t *program, size_t program_length, uint64_t moves, size_t length)
+{
+    return braid_bed(table, table_length, program, program_length, moves, answer, length, values);
+}
+
+static void beds(void)
+{
+    static const uint8_t none[] = {1, 2, 3, 4, 0, 0, 0, 0, 0, 0, 0, 0, 0, 0, 0, 0};
+    static const uint8_t one[] = {1, 2, 4, 3, 0, 0, 0, 0, 0, 0, 0, 0, 0, 0, 255, 255};
+    static const uint8_t all[] = {4, 1, 2, 3, 0, 2, 0, 0, 255, 255, 0, 0, 0, 1, 255, 255};
+    /* 1 2 3 four times, and 1 -1 under the table of one move. */
+    static const uint8_t twist[] = {0x00, 0xC0, 0x50, 0x28, 0x14, 0x0A};
+    static const uint8_t twisted[] = {1, 2, 3, 4, 0, 2, 0, 2, 0, 2, 0, 2, 0, 2, 0, 2};
+    static const uint8_t there_and_back[] = {0x00, 0x24}, first_only[] = {2, 1, 0, 1}, both[] = {1, 2, 0, 0};
+    hold("the bed before the first move", shown(ALL_OF(braid3), ALL_OF(first_image), 0, AREA), BRAID_ANSWER, "16 0 0 0", 0, ALL_OF(none));
+    hold("the bed after -3", shown(ALL_OF(braid3), ALL_OF(first_image), 1, 16), BRAID_ANSWER, "16 0 0 0", 0, ALL_OF(one));
+    hold("the bed after -3 1 -2 1 2", shown(ALL_OF(braid3), ALL_OF(first_image), 5, 16), BRAID_ANSWER, "16 0 0 0", 0, ALL_OF(all));
+    hold("65,536 means all moves", shown(ALL_OF(braid3), ALL_OF(first_image), 65536, 16), BRAID_ANSWER, "16 0 0 0", 0, ALL_OF(all));
+    hold("so does the largest number", shown(ALL_OF(braid3), ALL_OF(first_image), UINT64_MAX, 16), BRAID_ANSWER, "16 0 0 0", 0, ALL_OF(all));
+    hold("a full twist", shown(ALL_OF(braid3), ALL_OF(twist), 12, 16), BRAID_ANSWER, "16 0 0 0", 0, ALL_OF(twisted));
+    hold("two bobbins cross", shown(ALL_OF(one_move), ALL_OF(there_and_back), 1, 4), BRAID_ANSWER, "4 0 0 0", 0, ALL_OF(first_only));
+    hold("and cross back", shown(ALL_OF(one_move), ALL_OF(there_and_back), 2, 4), BRAID_ANSWER, "4 0 0 0", 0, ALL_OF(both));
+    hold("15 bytes give 13", shown(ALL_OF(braid3), ALL_OF(first_image), 5, 15), BRAID_ANSWER_SHORT, "0 0 0 0", 0, nothing, 0);
+    hold("an open pair gives 15 before 4", shown(ALL_OF(open_pair), nothing, 0, 5, AREA), BRAID_NOT_BRAID_TABLE, "0 0 0 0", 0, nothing, 0);
+    hold("the endless table gives 15", shown(ALL_OF(endless), ALL_OF(first_image), 5, AREA), BRAID_NOT_BRAID_TABLE, "0 0 0 0", 0, nothing, 0);
+    hold("an empty program image gives 4", shown(ALL_OF(braid3), nothing, 0, 5, 0), BRAID_IMAGE_ENDS, "0 0 0 0", 0, nothing, 0);
+}
+
 int main(void)
 {
     as_found();
@@ -291,6 +320,7 @@ int main(void)
     chaining();
     clearing();
     stopping();
+    beds();
     printf("%d passed, %d failed\n", passed, failed);
     return failed != 0;
 }

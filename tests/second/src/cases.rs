@@ -1,5 +1,7 @@
 //! Random cases. A case is made from its seed alone: a table, words, images sound or damaged, and calls with allowances and areas of every
 //! class.
+mod bed;
+
 use crate::classes::class;
 use crate::guarded::{call, Call, Left};
 use crate::image::{chain_bytes, chain_image, program_image, read_forward, read_table, table_image, Entry};
@@ -20,6 +22,8 @@ pub struct Tally {
     pub searched: usize,
     /// Reversings in another order that finished, and that had to go without an end since ours met an open pair.
     pub orders: (usize, usize),
+    /// Beds held against those of joined programs, of numerator and denominator, and of full twists.
+    pub beds: [usize; 3],
     pub results: BTreeMap<(&'static str, u8, u64), usize>,
 }
 
@@ -29,6 +33,9 @@ impl Tally {
         self.searched += other.searched;
         self.orders.0 += other.orders.0;
         self.orders.1 += other.orders.1;
+        for (total, more) in self.beds.iter_mut().zip(other.beds) {
+            *total += more;
+        }
         for (key, count) in &other.results {
             *self.results.entry(*key).or_default() += count;
         }
@@ -47,6 +54,7 @@ fn name(call: &Call) -> &'static str {
         Call::UnpackTable { .. } => "unpack table",
         Call::PackProgram { .. } => "pack program",
         Call::UnpackProgram { .. } => "unpack program",
+        Call::Bed { .. } => "bed",
     }
 }
 
@@ -70,13 +78,14 @@ type Held<T> = Result<T, String>;
 /// Runs the case of a seed; the error has all that is needed to see it again.
 pub fn run(seed: u64, tally: &mut Tally) -> Held<()> {
     let mut case = Case { random: Random::new(seed), tally };
-    let held = match case.random.below(64) {
+    let held = match case.random.below(72) {
         0..=15 => case.reversing(),
         16..=23 => case.clearing(),
         24..=36 => case.comparing(),
         37..=41 => case.remaining(),
         42..=49 => case.checking(),
         50..=62 => case.packing(),
+        64..=71 => case.bed(),
         _ if case.random.once_in(8) => case.many_steps(),
         _ => case.long_words(),
     };

@@ -94,6 +94,16 @@ extern "C" {
         answer_length: usize,
         values: *mut u64,
     ) -> u8;
+    fn braid_bed(
+        table: *const u8,
+        table_length: usize,
+        program: *const u8,
+        program_length: usize,
+        moves: u64,
+        answer: *mut u8,
+        answer_length: usize,
+        values: *mut u64,
+    ) -> u8;
 }
 
 /// What a call gives: the result and the four values.
@@ -220,5 +230,11 @@ pub fn pack_program(table: &[u8], plain: &[u8], answer: &mut [u8]) -> Told {
 pub fn unpack_program(table: &[u8], program: &[u8], answer: &mut [u8]) -> Told {
     told(|values| unsafe {
         braid_unpack_program(table.as_ptr(), table.len(), program.as_ptr(), program.len(), answer.as_mut_ptr(), answer.len(), values)
+    })
+}
+
+pub fn bed(table: &[u8], program: &[u8], moves: u64, answer: &mut [u8]) -> Told {
+    told(|values| unsafe {
+        braid_bed(table.as_ptr(), table.len(), program.as_ptr(), program.len(), moves, answer.as_mut_ptr(), answer.len(), values)
     })
 }

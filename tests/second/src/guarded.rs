@@ -14,6 +14,7 @@ pub enum Call {
     UnpackTable { table: Vec<u8> },
     PackProgram { table: Vec<u8>, plain: Vec<u8> },
     UnpackProgram { table: Vec<u8>, program: Vec<u8> },
+    Bed { table: Vec<u8>, program: Vec<u8>, moves: u64 },
 }
 
 /// What a call left behind.
@@ -66,7 +67,9 @@ impl Guarded {
 impl Call {
     fn images(&self) -> Vec<&[u8]> {
         match self {
-            Call::Reverse { table, program, .. } | Call::UnpackProgram { table, program } => vec![table, program],
+            Call::Reverse { table, program, .. } | Call::UnpackProgram { table, program } | Call::Bed { table, program, .. } => {
+                vec![table, program]
+            }
             Call::Clear { table, .. } | Call::UnpackTable { table } => vec![table],
             Call::Compare { table, first, second, .. } | Call::Chain { table, first, second, .. } => vec![table, first, second],
             Call::Remainder { table, done, pattern, .. } => vec![table, done, pattern],
@@ -94,6 +97,7 @@ pub fn call(call: &Call, workspace: &[u8], answer: &[u8]) -> Result<Left, String
         Call::UnpackTable { .. } => firmware::unpack_table(image(0), o),
         Call::PackProgram { .. } => firmware::pack_program(image(0), image(1), o),
         Call::UnpackProgram { .. } => firmware::unpack_program(image(0), image(1), o),
+        Call::Bed { moves, .. } => firmware::bed(image(0), image(1), *moves, o),
     };
     if !images.iter().all(Guarded::unchanged) {
         return Err("an image, or bytes around it, changed".into());

@@ -73,6 +73,7 @@ pub fn expected(call: &Call, workspace: usize, answer: usize, most: &mut Most) -
         Call::UnpackTable { table } => services::unpack_table(table, answer).map(packed),
         Call::PackProgram { table, plain } => services::pack_program(table, plain, answer).map(packed),
         Call::UnpackProgram { table, program } => services::unpack_program(table, program, answer).map(packed),
+        Call::Bed { table, program, moves } => services::bed(table, program, *moves, answer).map(packed),
     };
     outcome.unwrap_or_else(Expected::refused)
 }

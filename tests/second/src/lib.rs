@@ -1,6 +1,7 @@
 //! A second implementation, written from docs/SPECIFICATION.md and not from the definitions that the firmware is proved against:
 //! words are plain vectors, a step splices them, and every search starts at the first move. Beside it stand the calls of the firmware
 //! through its C interface, the making of random cases, and the gap algorithm in Rust for the measures of speed.
+pub mod bed;
 pub mod cases;
 pub mod chain;
 pub mod classes;

@@ -1,10 +1,12 @@
 //! The services of specification 6. Areas come in only by their lengths; what would be written is in the result.
+use crate::bed::Bed;
 use crate::chain::follow;
 use crate::image::*;
 use crate::outcome::{Passage, Place, Refusal, Remainder, Verdict};
 use crate::plain::{plain_table, read_plain_program, read_plain_table};
 use crate::reversing::{reverse as run, Ending, Limits, Most};
 use crate::table::Table;
+use crate::tables::braid;
 use crate::word::{bytes, undoing, Word};
 
 pub struct Fraction {
@@ -207,4 +209,18 @@ pub fn pack_program(table: &[u8], plain: &[u8], answer: usize) -> Result<Vec<u8>
 pub fn unpack_program(table: &[u8], program: &[u8], answer: usize) -> Result<Vec<u8>, Refusal> {
     let moves = read_table(table)?.moves;
     fitting(bytes(&read_program(program, moves)?), answer)
+}
+
+/// The bed after so many moves, or after all.
+pub fn bed(table: &[u8], program: &[u8], moves: u64, answer: usize) -> Result<Vec<u8>, Refusal> {
+    let table = read_table(table)?;
+    if table != braid(table.moves) {
+        return Err(Refusal::plain(15));
+    }
+    let word = read_program(program, table.moves)?;
+    let mut bed = Bed::new(table.moves);
+    for m in word.iter().take(usize::try_from(moves).unwrap_or(usize::MAX)) {
+        bed.lay(*m);
+    }
+    fitting(bed.bytes(), answer)
 }

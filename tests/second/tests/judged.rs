@@ -28,6 +28,8 @@ fn calls() -> Vec<(Call, bool)> {
         (Call::PackTable { plain: plain_table(&braid(3)) }, true),
         (Call::UnpackTable { table: t.clone() }, true),
         (Call::PackProgram { table: t.clone(), plain: vec![131, 1, 130, 1, 2] }, true),
+        (Call::Bed { table: t.clone(), program: program.clone(), moves: 5 }, true),
+        (Call::Bed { table: vec![0x10], program: program.clone(), moves: 5 }, true),
         (Call::UnpackProgram { table: t, program }, true),
     ]
 }

@@ -5,7 +5,7 @@ use second::outcome::{Passage, Place, Refusal, Remainder, Verdict};
 use second::plain::{plain_table, read_plain_table};
 use second::random::Random;
 use second::reversing::{Ending, Limits, Most};
-use second::services::{check, clear, compare, remainder, reverse};
+use second::services::{bed, check, clear, compare, remainder, reverse};
 use second::table::Table;
 use second::tables::braid;
 
@@ -124,4 +124,21 @@ fn an_endless_table_is_stopped_at_every_allowance() {
         let stopped = cleared(&table, Limits { allowance, ..WIDE });
         assert!(matches!(stopped, Err(Refusal { number: 11 | 12, place: Place::Triple(..) })), "{allowance}: {stopped:?}");
     }
+}
+
+#[test]
+fn beds() {
+    let table = table_image(&braid(3));
+    let program = program_image(3, &[-3, 1, -2, 1, 2]);
+    let whole = vec![4, 1, 2, 3, 0, 2, 0, 0, 255, 255, 0, 0, 0, 1, 255, 255];
+    for moves in [5, 6, 65_536, u64::MAX] {
+        assert_eq!(bed(&table, &program, moves, 16), Ok(whole.clone()));
+    }
+    assert_eq!(bed(&table, &program, 1, 16), Ok(vec![1, 2, 4, 3, 0, 0, 0, 0, 0, 0, 0, 0, 0, 0, 255, 255]));
+    assert_eq!(bed(&table, &program, 5, 15), Err(Refusal::plain(13)));
+    assert_eq!(bed(&[0x00], &[0x00, 0x18], 1, 4), Ok(vec![2, 1, 255, 255]));
+    assert_eq!(bed(&[0x10], &[], 0, 0), Err(Refusal::plain(15)));
+    let half = program_image(16, &[16; 4_095]);
+    let bytes = bed(&table_image(&braid(16)), &half, 5_000, 289).unwrap();
+    assert_eq!((&bytes[14..17], &bytes[287..]), (&[15, 17, 16][..], &[0x0F, 0xFF][..]));
 }

@@ -58,6 +58,10 @@ fn met(tally: &Tally) -> Vec<String> {
     }
     want("pack program", &[(0, 0), (1, 0), (2, 0), (3, 0), (4, 0), (5, 0), (13, 0)]);
     want("unpack program", &[(0, 0), (1, 0), (2, 0), (3, 0), (4, 0), (5, 0), (6, 0), (13, 0)]);
+    want("bed", &[(0, 0), (1, 0), (2, 0), (3, 0), (4, 0), (5, 0), (6, 0), (13, 0), (15, 0)]);
+    if tally.beds.contains(&0) {
+        missing.push("no bed was held against that of a joined program, of a fraction or of a full twist".into());
+    }
     if tally.orders.0 == 0 || tally.orders.1 == 0 {
         missing.push("no other order was held against an answer, or none against an open pair".into());
     }
@@ -116,6 +120,7 @@ fn main() -> ExitCode {
     }
     let seconds = began.elapsed().as_secs();
     println!("{} calls, {} verdicts also by search, seed {}, {seconds} s", tally.calls, tally.searched, plan.seed);
+    println!("beds: {} of joined programs, {} of fractions, {} full twists", tally.beds[0], tally.beds[1], tally.beds[2]);
     println!("other orders of steps: {} that finished alike, {} beside an open pair", tally.orders.0, tally.orders.1);
     if failures.is_empty() && missing.is_empty() {
         ExitCode::SUCCESS
