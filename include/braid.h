@@ -75,7 +75,7 @@ static inline size_t braid_chain_bytes(unsigned n, size_t entries)
     return (16 + entries * (12 + 2 * (size_t)braid_move_bits(n)) + 7) / 8;
 }
 
-/* Bytes of a bed under a table of n moves (6.10). */
+/* Bytes of a bed under a table of n moves (6.11). */
 static inline size_t braid_bed_bytes(unsigned n)
 {
     return (n + (size_t)1) * (n + (size_t)1);
@@ -228,7 +228,7 @@ BRAID_CALL uint8_t braid_unpack_program(const uint8_t *table, size_t table_lengt
  * The bed after the first `moves` moves of a program, or after all of them where it has no more, under the braid table of n moves (2.4). The n + 1
  * bobbins first stand in order. Move i, forward or back, exchanges those at places i and i + 1; forward adds 1 to the total of these two bobbins, back takes 1
  * away. Answer area: the bobbin at each place, a byte each, then the total of each pair of bobbins 1 2, 1 3, .., in two bytes, high byte first, in two's
- * complement: braid_bed_bytes(n) bytes. Joined programs, run to the end, leave equal beds (6.10).
+ * complement: braid_bed_bytes(n) bytes. Joined programs, run to the end, leave equal beds (6.11).
  * Values: bytes written, 0, 0, 0. Refusals: 1 to 3, 15, 4 to 6, 13, in this order.
  */
 BRAID_CALL uint8_t braid_bed(const uint8_t *table, size_t table_length, const uint8_t *program, size_t program_length, uint64_t moves,

@@ -1,4 +1,4 @@
-// Bed (specification 6.10): the bobbins and their crossings after the first moves of a program, in the answer area.
+// Bed (specification 6.11): the bobbins and their crossings after the first moves of a program, in the answer area.
 use crate::braid_table::read_braid;
 use crate::moves::laid;
 use crate::writing::write_bed;

@@ -1,4 +1,4 @@
--- Cases of specification 6.10, computed of the definitions of Bed.antt: the bed after some moves, full twists, and each refusal in its place.
+-- Cases of specification 6.11, computed of the definitions of Bed.antt: the bed after some moves, full twists, and each refusal in its place.
 use mathlib.Core.List.{List, [], _∷_, _++_}
 use mathlib.Core.Bool.{true, false}
 use mathlib.Core.Path.{refl}

@@ -1,4 +1,4 @@
--- Laws of the bed (specification 6.10): moves keep the number of places, the bobbins in some order, and totals within the number of moves.
+-- Laws of the bed (specification 6.11): moves keep the number of places, the bobbins in some order, and totals within the number of moves.
 use mathlib.Core.Path.{_≡_, refl, sym, ap, subst, _∙_}
 use mathlib.Core.Logic.{_≢_}
 use mathlib.Core.List.{List, [], _∷_, _++_}

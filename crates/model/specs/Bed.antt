@@ -1,4 +1,4 @@
--- Specification 2.4 and 6.10: the braid table, and the bed under it, which says what bobbin stands at each place and how often each two bobbins crossed.
+-- Specification 2.4 and 6.11: the braid table, and the bed under it, which says what bobbin stands at each place and how often each two bobbins crossed.
 use mathlib.Core.List.{List, [], _∷_, _++_}
 use mathlib.Core.Bool.{Bool, true, false, not, _&&_, _||_, cond}
 use mathlib.Core.Path.{_≡_}
@@ -41,7 +41,7 @@ braidPair T p = hasWords (braidWord (p .a) (p .b)) (braidWord (p .b) (p .a)) (co
 unfoldable pub isBraid : Presentation → Bool
 isBraid T = every (braidPair T) (pairs (T .size))
 
--- THE BED (6.10)
+-- THE BED (6.11)
 
 -- the number of the bobbin at each place, from place 1 on, and the total of each pair of bobbins, in the order of 4.1
 pub record Bed : Type 0 where
@@ -113,7 +113,7 @@ pub record Sound (m c : ℕ) (B : Bed) : Type 0 where
   pub order : Rearranged (B .bobbins) (range 1 m)
   pub within : Within c (B .totals)
 
--- THE ANSWER (6.10)
+-- THE ANSWER (6.11)
 
 -- a total in two's complement of 16 bits: -1 is 65535
 abbrev pub sixteenBits : ℤ → ℕ
@@ -128,11 +128,11 @@ totalBytes t = (sixteenBits t / 256) ∷ (sixteenBits t % 256) ∷ []
 abbrev pub bedBytes : Bed → List ℕ
 bedBytes B = B .bobbins ++ concatMap totalBytes (B .totals)
 
--- 6.10: a table is read; refusal 15 where it is not the braid table of its n
+-- 6.11: a table is read; refusal 15 where it is not the braid table of its n
 unfoldable pub readBraid : List ℕ → Outcome Presentation
 readBraid table = readTable table >>= λ T. unless (not (isBraid T)) 15 T
 
--- 6.10: the table's tests come before those of the program, and 13 comes last
+-- 6.11: the table's tests come before those of the program, and 13 comes last
 unfoldable pub bed : List ℕ → List ℕ → ℕ → ℕ → Outcome (List ℕ)
 bed table program k area =
     readBraid table >>= λ T.

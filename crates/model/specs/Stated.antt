@@ -101,7 +101,7 @@ checked (Breaks k) = answered (breaks k)
 checked EndsElsewhere = answered ends-elsewhere
 checked (CheckRefused r) = refusal r
 
--- 6.8, 6.10: packing, unpacking and bed: the number of bytes written
+-- 6.8, 6.11: packing, unpacking and bed: the number of bytes written
 abbrev pub packedAs : Packed → Outcome ℕ
 packedAs (Written k) = answered k
 packedAs (PackRefused r) = refusal r

@@ -1,4 +1,4 @@
--- Beds under the braid table (specification 6.10): joined words and the words of a reversing leave equal beds; what the totals add up to; and that an
+-- Beds under the braid table (specification 6.11): joined words and the words of a reversing leave equal beds; what the totals add up to; and that an
 -- answer's bytes are read as the bed.
 use mathlib.Core.Path.{_≡_, refl, sym, ap, subst, _∙_}
 use mathlib.Core.Logic.{_≢_}

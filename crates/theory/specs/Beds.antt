@@ -1,4 +1,4 @@
--- Specification 6.10: what holds of beds, and what the bytes of an answer say of them.
+-- Specification 6.11: what holds of beds, and what the bytes of an answer say of them.
 use mathlib.Core.Path.{_≡_}
 use mathlib.Core.List.{List, [], _∷_, _++_}
 use mathlib.Core.Bool.{cond}
