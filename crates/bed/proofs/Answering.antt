@@ -20,7 +20,7 @@ use Rattle.model.proofs.Fitted.{short-area, long-area}
 use Rattle.model.proofs.Positions.{pairs-many, pairs-square}
 use Rattle.model.proofs.Beds.{first-sound, laid-sound}
 use Rattle.bed.specs.declared.moves.Bed.{Bed as BedStruct}
-use Rattle.bed.specs.Shown.{Shows, BedWritten, Turns, Answers}
+use Rattle.bed.specs.Shown.{Shows, BedWritten, Made, Answers}
 use Rattle.bed.proofs.TwoBytes.{bytes-length}
 
 -- THE AREA
@@ -69,8 +69,8 @@ module _ (outcome : Outcome (List ℕ)) (before : List ℕ) where
       record { result = ap answered (sym n) ∙ ap (mapped length) (sym e); area = w ∙ ap (λ o. outputAfter (λ b. b) o before) (sym e) }
 
 -- every move of a program
-pub all-turns : (count moves : ℕ) → count ≤ moves → Turns count moves count
-all-turns count moves h =
+pub all-made : (count moves : ℕ) → count ≤ moves → Made count moves count
+all-made count moves h =
     record { few = omega arith; first = λ w n. take-all count w (omega arith) ∙ sym (take-all moves w (omega arith)) }
 
 module _ (size moves : ℕ) (w : Word) (before : List ℕ) where
@@ -86,10 +86,10 @@ module _ (size moves : ℕ) (w : Word) (before : List ℕ) where
         refused-answers (fitted (length before) (bedBytes (bedAfter size moves w))) before AnswerShort
         (short-area (length before) (bedBytes (bedAfter size moves w)) (omega (arith, long)))
 
-    pub bed-answers : places * places ≤ length before → (count turns : ℕ) → length w ≡ count → Turns count moves turns
-        → (v : BedStruct) → Shows v (laid (take turns w) (firstBed size)) → (after : List ℕ) → BedWritten v places before after
+    pub bed-answers : places * places ≤ length before → (count made : ℕ) → length w ≡ count → Made count moves made
+        → (v : BedStruct) → Shows v (laid (take made w) (firstBed size)) → (after : List ℕ) → BedWritten v places before after
         → Answers (fitted (length before) (bedBytes (bedAfter size moves w))) before after (Written (places * places))
-    bed-answers h count turns n t v s after b =
+    bed-answers h count made n t v s after b =
         let k = sound places e in
         written-answers (fitted (length before) (bedBytes (bedAfter size moves w))) before (bedBytes (bedAfter size moves w)) after (places * places)
         (long-area (length before) (bedBytes (bedAfter size moves w)) (omega (arith, long))) long

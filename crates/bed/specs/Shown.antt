@@ -53,10 +53,10 @@ abbrev pub BedWritten : BedStruct → ℕ → List ℕ → List ℕ → Type 0
 BedWritten v places before after =
     (B : Bed) → Shows v B → length (B .bobbins) ≡ places → length (B .totals) ≡ length (pairs places) → after ≡ begins (bedBytes B) before
 
--- the first `turns` letters of a word of so many are its first `moves`, or all where it has no more
-pub record Turns (count moves turns : ℕ) : Type 0 where
-  pub few : turns ≤ count
-  pub first : (w : Word) → length w ≡ count → take turns w ≡ take moves w
+-- the first `made` letters of a word of so many are its first `moves`, or all where it has no more
+pub record Made (count moves made : ℕ) : Type 0 where
+  pub few : made ≤ count
+  pub first : (w : Word) → length w ≡ count → take made w ≡ take moves w
 
 -- the result and the answer area that an outcome states
 pub record Answers (outcome : Outcome (List ℕ)) (before after : List ℕ) (r : Packed) : Type 0 where

@@ -14,12 +14,12 @@ ghost use Rattle.model.specs.Areas.{outputAfter};
 ghost use Rattle.model.specs.Stated.{packedAs};
 ghost use Rattle.model.specs.Bed.{bed};
 ghost use Rattle.images.specs.Programs.{Accepted};
-ghost use Rattle.bed.specs.Shown.{Turns, ProgramAnswered};
+ghost use Rattle.bed.specs.Shown.{Made, ProgramAnswered};
 ghost use Rattle.bed.specs.Meaning.{BedSays};
 
 // How many moves of a program are made where the caller names any number.
-pub fn turns_of(count: u16, moves: u64) -> u16
-    ensures { λ r. ⌜ Turns count moves r ⌝ }
+pub fn moves_made(count: u16, moves: u64) -> u16
+    ensures { λ r. ⌜ Made count moves r ⌝ }
 {
     if moves < count as u64 {
         return moves as u16;
@@ -37,7 +37,7 @@ pub fn show_program(program: &[u8], size: u8, count: u16, moves: u64, answer: &m
     if answer.len() < bytes {
         return Packed::Refused(Refusal::AnswerShort);
     }
-    let bed = laid(program, size, count, turns_of(count, moves));
+    let bed = laid(program, size, count, moves_made(count, moves));
     write_bed(bed, places, answer);
     Packed::Written { bytes }
 }

@@ -85,15 +85,15 @@ pub fn moved(bed: Bed, places: usize, byte: u8) -> Bed
 }
 
 // The first moves of an accepted program, from the first bed on.
-pub fn laid(program: &[u8], size: u8, count: u16, turns: u16) -> Bed
-    requires { ⌜ Accepted (now program) size count × (turns ≤ count) ⌝ }
-    ensures { λ r. ⌜ ((w : Word) → readProgram size (now (program .entry)) ≡ answered w → Shows r (laid (take turns w) (firstBed size))) ⌝ }
+pub fn laid(program: &[u8], size: u8, count: u16, made: u16) -> Bed
+    requires { ⌜ Accepted (now program) size count × (made ≤ count) ⌝ }
+    ensures { λ r. ⌜ ((w : Word) → readProgram size (now (program .entry)) ≡ answered w → Shows r (laid (take made w) (firstBed size))) ⌝ }
 {
     let width = bits::letter_width(size) as usize;
     let places = size as usize + 1;
     let mut bed = first_bed();
     let mut i: u16 = 0;
-    while i < turns {
+    while i < made {
         let byte = programs::letter_at(program, size, width, i as usize);
         bed = moved(bed, places, byte);
         i += 1;

@@ -1,4 +1,4 @@
--- Specification 2.4 and 6.11: the braid table, and the bed under it, which says what bobbin stands at each place and how often each two bobbins crossed.
+-- Specification 2.4 and 6.11: the braid table, and the bed of a program under it: which bobbin stands at each place, and how often each two crossed.
 use mathlib.Core.List.{List, [], _∷_, _++_}
 use mathlib.Core.Bool.{Bool, true, false, not, _&&_, _||_, cond}
 use mathlib.Core.Path.{_≡_}
@@ -29,6 +29,7 @@ abbrev pub hasWords : Positive → Positive → Complement → Bool
 hasWords x y undefined = false
 hasWords x y (complement u v) = equal u x && equal v y
 
+-- whether each element passes a test
 abbrev pub every : {A : Type 0} → (A → Bool) → List A → Bool
 every test [] = true
 every test (x ∷ xs) = test x && every test xs
@@ -52,7 +53,7 @@ pub record Bed : Type 0 where
 abbrev pub firstBed : ℕ → Bed
 firstBed n = record { bobbins = range 1 (suc n); totals = replicate (length (pairs (suc n))) (pos 0) }
 
--- the bobbins with the two after the first i exchanged
+-- the bobbins with the two after the first i exchanged, where there are two
 abbrev pub exchanged : List ℕ → ℕ → List ℕ
 exchanged [] i = []
 exchanged (x ∷ []) zero = x ∷ []
@@ -93,6 +94,8 @@ laid (x ∷ w) B = laid w (moved x B)
 -- the bed after the first k moves of a program under n letters, all where it has no more than k
 abbrev pub bedAfter : ℕ → ℕ → Word → Bed
 bedAfter n k w = laid (take k w) (firstBed n)
+
+-- WHAT HOLDS OF A BED (6.11)
 
 -- the same numbers in some order: each occurs as often
 abbrev pub occurrences : ℕ → List ℕ → ℕ

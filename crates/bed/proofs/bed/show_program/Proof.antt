@@ -17,8 +17,8 @@ mul-bytes c = let s = c .before .before in omega (arith, square-few (s .args .si
 returns : tie.Need-returns
 returns c = let s = c .before .before .before in λ w e. bed-short (s .args .size) (s .args .moves) w (s .args .answer .now) (s .args .size + 1) refl (c .if1 .taken)
 
-turns-of-requires : tie.Need-turns-of-requires
-turns-of-requires c κs = search needs
+moves-made-requires : tie.Need-moves-made-requires
+moves-made-requires c κs = search needs
 
 laid-requires : tie.Need-laid-requires
 laid-requires c κs = search needs
@@ -33,7 +33,7 @@ returns-2 : tie.Need-returns-2
 returns-2 c =
     let b = c .before .before .write-bed in
     let m = c .before .before .before .before .laid in
-    let t = c .before .before .before .before .before .turns-of in
+    let t = c .before .before .before .before .before .moves-made in
     let s = c .before .before .before .before .before .before .before .before .before in
     λ w e.
     bed-answers (s .args .size) (s .args .moves) w (s .args .answer .now) (s .args .size + 1) refl (omega (arith, c .before .before .before .before .before .before .if1 .left)) (s .args .count) (t .result)
@@ -46,7 +46,7 @@ show-program-spec =
     add-places
     mul-bytes
     returns
-    turns-of-requires
+    moves-made-requires
     laid-requires
     write-bed-requires
     same-length

@@ -15,11 +15,11 @@ use Rattle.bed.proofs.moves.laid.Statement.{statement}
 use Rattle.bed.proofs.moves.laid.Tie as tie
 
 abbrev Inv-loop : tie.InvT-loop
-Inv-loop program size count turns width places bed₀ i₀ bed i =
-    (i ≤ turns) × ((w : Word) → readProgram size program ≡ answered w → Shows bed (laid (take i w) (firstBed size)))
+Inv-loop program size count made width places bed₀ i₀ bed i =
+    (i ≤ made) × ((w : Word) → readProgram size program ≡ answered w → Shows bed (laid (take i w) (firstBed size)))
 
 abbrev μ-loop : tie.MeasureT-loop
-μ-loop program size count turns width places bed₀ i₀ bed i = turns - i
+μ-loop program size count made width places bed₀ i₀ bed i = made - i
 
 letter-width-requires : tie.Need-letter-width-requires Inv-loop μ-loop
 letter-width-requires c κs = (c .before .pre .0 .some, c .before .pre .0 .few)
@@ -37,7 +37,7 @@ loop-holds : tie.Need-loop-holds Inv-loop μ-loop
 loop-holds c = (omega arith, λ w e. c .first-bed .ensures (c .before .before .before .args .size) (c .before .before .before .pre .0 .few))
 
 cast-letter-at : tie.Need-cast-letter-at Inv-loop μ-loop
-cast-letter-at c = omega (arith, c .loop-test .taken, c .before .before .before .before .before .fits .turns)
+cast-letter-at c = omega (arith, c .loop-test .taken, c .before .before .before .before .before .fits .made)
 
 letter-at-requires : tie.Need-letter-at-requires Inv-loop μ-loop
 letter-at-requires c κs =
@@ -53,7 +53,7 @@ moved-requires c κs =
     (c .letter-at .result) (c .letter-at .ensures (p .word) (p .read))
 
 add-i : tie.Need-add-i Inv-loop μ-loop
-add-i c = omega (arith, c .before .before .loop-test .taken, c .before .before .before .before .before .before .before .fits .turns)
+add-i c = omega (arith, c .before .before .loop-test .taken, c .before .before .before .before .before .before .before .fits .made)
 
 loop-less : tie.Need-loop-less Inv-loop μ-loop
 loop-less c = omega (arith, c .before .before .loop-test .taken)
@@ -75,7 +75,7 @@ returns c =
     let l = c .before in
     let s = l .before .before .before .before in
     λ w e.
-    subst (λ k. Shows (l .loop .bed) (laid (take k w) (firstBed (s .args .size)))) {x = l .loop .i} {y = s .args .turns} (omega (arith, l .loop .inv .0, c .loop-test .left)) (l .loop .inv .1 w e)
+    subst (λ k. Shows (l .loop .bed) (laid (take k w) (firstBed (s .args .size)))) {x = l .loop .i} {y = s .args .made} (omega (arith, l .loop .inv .0, c .loop-test .left)) (l .loop .inv .1 w e)
 
 pub laid-spec : {M : Type 1} → statement M
 laid-spec =
