@@ -16,13 +16,13 @@ use Rattle.model.specs.declared.answers.Stop.the-variants.{Budget, Room}
 use Rattle.model.specs.declared.answers.Refusal.{Refusal}
 use Rattle.model.specs.declared.answers.Refusal.the-variants.{UnequalLengths}
 use Rattle.model.specs.declared.answers.Cleared.the-variants.{Refused}
-use Rattle.theory.specs.Cube.{CubeMeaning}
+use Rattle.theory.proofs.Balance.{length-meaning}
 use Rattle.theory.proofs.Checked.{cube-exactly}
 use Rattle.checks.specs.Table.{triplesAs, LengthsMean, TriplesMean}
 use Rattle.checks.specs.declared.table.Lengths.the-variants.{Equal, Unequal}
 use Rattle.checks.specs.declared.table.Triples.{Triples}
 use Rattle.checks.specs.declared.table.Triples.the-variants.{Hold, Fail, Halt}
-use Rattle.clearing.specs.Clear.{triplesRefusal, ClearMeans, ClearMeaning}
+use Rattle.clearing.specs.Clear.{triplesRefusal, ClearMeans, ChecksMeaning, ClearMeaning}
 use Rattle.loading.proofs.Outcomes.{still-refused, goes-on}
 
 -- what is said of the triples is what is answered
@@ -64,4 +64,5 @@ module _ (table : List ℕ) (steps width : ℕ) where
   clear-runs T e = goes-on (readTable table) T e (λ T. cleared T steps width)
 
   pub clear-says : (o : Outcome (Unit {0})) → o ≡ clear table steps width → ClearMeaning table o
-  clear-says o e T t = subst (CubeMeaning T) (sym (e ∙ clear-runs T t)) (cube-exactly T steps width)
+  clear-says o e T t =
+      subst (ChecksMeaning T) (sym (e ∙ clear-runs T t)) (record { lengths = length-meaning T steps width; cube = cube-exactly T steps width })

@@ -192,14 +192,17 @@ obeyed-at : (T : Presentation) {ts : List Three} {t : Three} → All (Obeys T) t
 obeyed-at T h (List·Memᴰ·head e) = rw e (h .0)
 obeyed-at T h (List·Memᴰ·tail m) = obeyed-at T (h .1) m
 
+-- the length check, of letters in order
+pub checked-length : (T : Presentation) → lengthCheck T (pairs (T .size)) ≡ answered tt → {a b : ℕ} → 1 ≤ a → a < b → b ≤ T .size → balanced (complete T a b) ≡ true
+checked-length T h {a} {b} low ordered high = length-each T h (pairs-have (T .size) a b low ordered high)
+
 module _ (T : Presentation) (steps width : ℕ) (clear : cleared T steps width ≡ answered tt) where
   both : (lengthCheck T (pairs (T .size)) ≡ answered tt) × (cubeCheck T steps width (triples (T .size)) ≡ answered tt)
   unfolding cleared
   both = both-pass (lengthCheck T (pairs (T .size))) (cubeCheck T steps width (triples (T .size))) clear
 
-  -- the length check, of letters in order
-  pub checked-length : {a b : ℕ} → 1 ≤ a → a < b → b ≤ T .size → balanced (complete T a b) ≡ true
-  checked-length {a} {b} low h high = length-each T (both .0) (pairs-have (T .size) a b low h high)
+  pub clear-lengths : lengthCheck T (pairs (T .size)) ≡ answered tt
+  clear-lengths = both .0
 
   checked-triples : All (Obeys T) (triples (T .size))
   checked-triples = cube-passed T steps width (triples (T .size)) (both .1)
@@ -210,6 +213,17 @@ module _ (T : Presentation) (steps width : ℕ) (clear : cleared T steps width �
       obeyed-at T checked-triples (triples-have (T .size) a b c low h high low-c high-c p q)
 
 module _ (T : Presentation) (steps width : ℕ) where
+  -- where clearing does not refuse with 8, the length check was passed
+  pub unless-8 : ((numbers : List ℕ) → cleared T steps width ≡ refused 8 numbers → ⊥) → lengthCheck T (pairs (T .size)) ≡ answered tt
+  unfolding cleared
+  unless-8 other = go (lengthCheck T (pairs (T .size))) refl other
+    where
+      go : (o : Outcome (Unit {0})) → lengthCheck T (pairs (T .size)) ≡ o
+          → ((numbers : List ℕ) → (o >>= λ ok. cubeCheck T steps width (triples (T .size))) ≡ refused 8 numbers → ⊥)
+          → lengthCheck T (pairs (T .size)) ≡ answered tt
+      go (answered x) p h = p
+      go (refused n ps) p h = absurd (h ps (ap (λ i. refused i ps) (length-only T (pairs (T .size)) n ps p)))
+
   checked-broken : (numbers : List ℕ) → cleared T steps width ≡ refused 9 numbers → FirstBroken T (triples (T .size)) numbers
   unfolding cleared
   checked-broken numbers h = go (lengthCheck T (pairs (T .size))) refl h

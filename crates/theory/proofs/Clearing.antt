@@ -1,5 +1,5 @@
--- A table that `cleared` passes, at any budget and room, is homogeneous and satisfies the cube rule on all different letters in every order.
--- So it satisfies the condition on letters from which completeness follows ([D3] Prop. 4.4; [D2] Prop. 6.1).
+-- A table that the length check passes is homogeneous; one that `cleared` passes, at any budget and room, also satisfies the cube rule on all
+-- different letters in every order. So it satisfies the condition on letters from which completeness follows ([D3] Prop. 4.4; [D2] Prop. 6.1).
 use mathlib.Core.Path.{_≡_, refl, sym, ap, _∙_}
 use mathlib.Core.Logic.{_≢_}
 use mathlib.Core.List.{[]}
@@ -12,13 +12,14 @@ use Rattle.model.specs.Word.{Positive}
 use Rattle.model.specs.Presentation.{Presentation, Complement, undefined, complement, swapped, complete}
 use Rattle.model.specs.Range.{InRange}
 use Rattle.model.specs.Outcome.{answered}
-use Rattle.model.specs.Checks.{balanced, Side, CubeRule, both-undefined, both-defined, cleared}
+use Rattle.model.specs.Enumeration.{pairs}
+use Rattle.model.specs.Checks.{balanced, lengthCheck, Side, CubeRule, both-undefined, both-defined, cleared}
 use Rattle.model.proofs.Complete.{complete-same, complete-turn, complete-named}
 use Rattle.model.proofs.Equiv.{Equiv, Homogeneous, total-one}
 use Rattle.theory.proofs.Grid.{Grid, derives-empty, recast}
 use Rattle.theory.proofs.Diagram.{draw}
 use Rattle.theory.proofs.Residuals.{side-grid, grid-side, same-side, rule-turned, open-rule}
-use Rattle.theory.proofs.Checked.{checked-length, checked-rule}
+use Rattle.theory.proofs.Checked.{checked-length, clear-lengths, checked-rule}
 use Rattle.theory.proofs.Completeness.{Cube, Closes, complete-for}
 
 -- WHAT THE RULE SAYS
@@ -49,15 +50,13 @@ module _ (T : Presentation) where
         agree = rw l≡ (derives-empty (draw l r [] [] (ends .1)) .path);
       }
 
--- WHERE THE TABLE CLEARS
+-- WHERE THE LENGTH CHECK IS PASSED
 
-module _ (T : Presentation) (steps width : ℕ) (clear : cleared T steps width ≡ answered tt) where
-  -- HOMOGENEOUS
-
+module _ (T : Presentation) (even : lengthCheck T (pairs (T .size)) ≡ answered tt) where
   ordered-lengths : {a b : ℕ} {x y : Positive} → a < b → complete T a b ≡ complement x y → length x ≡ length y
   ordered-lengths {a} {b} {x} {y} h e =
       let named = complete-named T {a = a} {b = b} (omega arith) e in
-      eqb-true (length x) (length y) (ap balanced (sym e) ∙ checked-length T steps width clear (named .0 .low) h (named .1 .high))
+      eqb-true (length x) (length y) (ap balanced (sym e) ∙ checked-length T even (named .0 .low) h (named .1 .high))
 
   equal-lengths : (a b : ℕ) {x y : Positive} → complete T a b ≡ complement x y → length x ≡ length y
   equal-lengths a b {x} {y} e = go (ℕ-discrete a b) (decLt a b)
@@ -71,8 +70,14 @@ module _ (T : Presentation) (steps width : ℕ) (clear : cleared T steps width �
           let below : b < a = omega arith in
           sym (ordered-lengths below (complete-turn T a b ∙ ap swapped e))
 
+  pub checked-homogeneous : Homogeneous (λ a. 1) (complete T)
+  checked-homogeneous a b x y e = omega (arith, total-one x, total-one y, equal-lengths a b e)
+
+-- WHERE THE TABLE CLEARS
+
+module _ (T : Presentation) (steps width : ℕ) (clear : cleared T steps width ≡ answered tt) where
   pub clear-homogeneous : Homogeneous (λ a. 1) (complete T)
-  clear-homogeneous a b x y e = omega (arith, total-one x, total-one y, equal-lengths a b e)
+  clear-homogeneous = checked-homogeneous T (clear-lengths T steps width clear)
 
   -- THE CUBE RULE
 

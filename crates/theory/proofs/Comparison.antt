@@ -3,26 +3,24 @@
 use mathlib.Core.Path.{_≡_, refl, sym, ap, subst, _∙_}
 use mathlib.Core.Logic.{_≢_}
 use mathlib.Core.List.{[], _∷_, _++_}
-use mathlib.Core.Bool.{not, cond}
+use mathlib.Core.Bool.{cond}
 use Prim.Native.Nat.{ℕ}
-use native.Mathlib.Omega.{arith}
 use native.Mathlib.Decide.{ℕ-discrete}
 use lib.Dec.{eqb}
-use lib.ListN.{length, length-append}
+use lib.ListN.{length}
 use borrow.Author.Tests.{eq-eqb, ne-eqb}
 use Rattle.model.specs.Word.{Positive, positive, negative}
 use Rattle.model.specs.Presentation.{Presentation}
 use Rattle.model.specs.Reversing.{Stop, budget, room, Ending, finished, open-pair, stopped, reversing, Finishes, EndsEmpty, CoversSteps, CoversRoom}
 use Rattle.model.specs.Equivalence.{Joined}
-use Rattle.model.specs.Outcome.{Outcome, answered, refused, _>>=_, unless}
+use Rattle.model.specs.Outcome.{Outcome, answered, refused, _>>=_}
 use Rattle.model.specs.Checks.{stopNumber, cleared}
 use Rattle.model.specs.Services.{Verdict, same-after, different-after, judged, verdictOf, comparison}
 use Rattle.model.proofs.Impossible.{impossible}
 use Rattle.model.proofs.Leftmost.{differing, open-unfinished}
 use Rattle.model.proofs.Endings.{Ends, reversing-ends, ends-reversing}
-use Rattle.model.proofs.Equiv.{weight-kept, total-one}
 use Rattle.model.proofs.Joining.{equiv-joined, joined-equiv, joined-length}
-use Rattle.theory.proofs.Grid.{sound, derives-empty, same-grid}
+use Rattle.theory.proofs.Grid.{derives-empty, same-grid}
 use Rattle.theory.proofs.Diagram.{finishes, draw}
 use Rattle.theory.proofs.Clearing.{clear-homogeneous, clear-complete}
 
@@ -82,12 +80,6 @@ module _ (T : Presentation) (u v : Positive) (steps width : ℕ) where
     empties-joined : {k : ℕ} → Finishes T (negative u ++ positive v) [] [] k → Joined T u v
     empties-joined f = equiv-joined T (derives-empty (draw u v [] [] f) .path)
 
-    -- N and D are equally long
-    ends-even : (n d : Positive) {k : ℕ} → length u ≡ length v → Finishes T (negative u ++ positive v) n d k → length n ≡ length d
-    ends-even n d h f =
-        let kept = weight-kept (λ a. 1) (clear-homogeneous T steps width clear) (sound (draw u v n d f)) in
-        omega (arith, kept, total-one (u ++ n), total-one (v ++ d), length-append u n, length-append v d)
-
     not-empty : (n d : Positive) {k : ℕ} → Finishes T (negative u ++ positive v) n d k → Joined T u v → (n ≡ []) × (d ≡ [])
     not-empty n d f j =
         let e = joined-empties j in
@@ -107,13 +99,11 @@ module _ (T : Presentation) (u v : Positive) (steps width : ℕ) where
     stop-means budget = out-of-budget
     stop-means room = out-of-room
 
-    ending-means : length u ≡ length v → (end : Ending) → Ends T steps width (negative u ++ positive v) end → Meaning T u v (verdictOf end)
-    ending-means h (finished n d k r) t =
-        subst (λ b. Meaning T u v (unless (not b) 14 (judged n d k))) (sym (eq-eqb (length n) (length d) (ends-even n d h (t .run))))
-        (judged-means n d (t .run))
-    ending-means h (open-pair a b k) t =
+    ending-means : (end : Ending) → Ends T steps width (negative u ++ positive v) end → Meaning T u v (verdictOf end)
+    ending-means (finished n d k r) t = judged-means n d (t .run)
+    ending-means (open-pair a b k) t =
         different k (λ j. open-unfinished T (t .reached .run) (t .here) (t .undefined-there) [] [] (joined-empties j .1))
-    ending-means h (stopped s) t = stop-means s
+    ending-means (stopped s) t = stop-means s
 
     pub comparison-means : Meaning T u v (comparison T u v steps width)
     comparison-means = go (ℕ-discrete (length u) (length v))
@@ -121,7 +111,7 @@ module _ (T : Presentation) (u v : Positive) (steps width : ℕ) where
         go : Dec (length u ≡ length v) → Meaning T u v (comparison T u v steps width)
         go (yes h) =
             subst (Meaning T u v) (sym (compared-equal h))
-            (ending-means h (reversing T steps width (negative u ++ positive v)) (reversing-ends T steps width (negative u ++ positive v)))
+            (ending-means (reversing T steps width (negative u ++ positive v)) (reversing-ends T steps width (negative u ++ positive v)))
         go (no h) =
             subst (Meaning T u v) (sym (compared-unequal h))
             (different 0 (λ j. h (joined-length T (clear-homogeneous T steps width clear) u v j)))

@@ -14,6 +14,7 @@ pub mod Totals
 pub mod Derivation
 pub mod Checked
 pub mod Clearing
+pub mod Balance
 pub mod Passages
 pub mod Comparison
 pub mod Verdicts

@@ -1,3 +1,4 @@
+pub mod Balance
 pub mod Beds
 pub mod Cube
 pub mod Orders

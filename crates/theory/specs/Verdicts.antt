@@ -22,7 +22,7 @@ pub record DemandThree (T : Presentation) (u v : Positive) (steps width : ℕ) (
   pub same-joined : (k : ℕ) → outcome ≡ answered (same-after k) → Joined T u v
   -- `different` only if none does
   pub different-apart : (k : ℕ) → outcome ≡ answered (different-after k) → Joined T u v → ⊥
-  -- under a table that clears it is a verdict, as the service tells it, or a stop: never 14
+  -- under a table that clears it is a verdict, as the service tells it, or a stop
   pub verdict-or-stop : cleared T steps width ≡ answered tt → Settled tell outcome
   -- joined words have a reversing that ends empty,
   pub ends-empty : cleared T steps width ≡ answered tt → Joined T u v → EndsEmpty T (negative u ++ positive v)
