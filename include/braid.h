@@ -98,7 +98,7 @@ enum braid_result {
     BRAID_ALLOWANCE_USED = 11,
     BRAID_WORKSPACE_SHORT = 12,
     BRAID_ANSWER_SHORT = 13,
-    BRAID_UNEQUAL_ENDS = 14,
+    /* 14 is unused */
     BRAID_NOT_BRAID_TABLE = 15
 };
 
@@ -132,10 +132,10 @@ static inline const char *braid_text(uint8_t result)
         "the allowance is used",
         "the workspace is too short",
         "the answer area is too short",
-        "a comparison ended with two words of different lengths",
+        NULL, /* 14 is unused */
         "the table isn't the braid table of its number of moves"
     };
-    return result < sizeof texts / sizeof *texts ? texts[result] : "no result of this library";
+    return result < sizeof texts / sizeof *texts && texts[result] ? texts[result] : "no result of this library";
 }
 
 /*
@@ -171,7 +171,7 @@ BRAID_CALL uint8_t braid_clear(const uint8_t *table, size_t table_length, uint16
 
 /*
  * Clears the table and compares two programs of forward moves under it. A verdict is right (6.5): same if a chain joins them, else different.
- * Values: BRAID_SAME or BRAID_DIFFERENT, steps, 0, 0. Refusals: 1 to 9, 11, 12, 14 (which never comes).
+ * Values: BRAID_SAME or BRAID_DIFFERENT, steps, 0, 0. Refusals: 1 to 9, 11, 12.
  */
 BRAID_CALL uint8_t braid_compare(const uint8_t *table, size_t table_length, const uint8_t *first, size_t first_length, const uint8_t *second,
                                  size_t second_length, uint16_t allowance, uint8_t *workspace, size_t workspace_length, uint64_t *values);

@@ -1,7 +1,7 @@
 -- What a comparison makes of each ending, and the outcome of compare after its reading.
 use mathlib.Core.Path.{_≡_, refl, sym, ap, ap₂, subst, _∙_}
 use mathlib.Core.List.{List, [], _∷_, _++_}
-use mathlib.Core.Bool.{Bool, true, false, not, cond}
+use mathlib.Core.Bool.{Bool, true, false, cond}
 use Prim.Native.Nat.{ℕ, suc}
 use native.Mathlib.Omega.{arith}
 use borrow.Author.Tests.{eq-eqb, ne-eqb}
@@ -10,14 +10,13 @@ use lib.ListN.{length, replicate}
 use Rattle.model.specs.Word.{Positive, positive, negative}
 use Rattle.model.specs.Presentation.{Presentation}
 use Rattle.model.specs.Reversing.{Ending, finished, open-pair, stopped, budget, room, reversing}
-use Rattle.model.specs.Outcome.{Outcome, answered, unless}
+use Rattle.model.specs.Outcome.{Outcome, answered}
 use Rattle.model.specs.Checks.{cleared}
 use Rattle.model.specs.Services.{Verdict, different-after, verdictOf, comparison, compare}
 use Rattle.model.specs.Areas.{Compares, workspaceAfter}
 use Rattle.model.specs.Stated.{refusal, compared, endingAnswer}
 use Rattle.model.specs.declared.answers.Ending.{Ending as EndingAnswer}
 use Rattle.model.specs.declared.answers.Refusal.{Refusal}
-use Rattle.model.specs.declared.answers.Refusal.the-variants.{UnequalEnds}
 use Rattle.model.specs.declared.answers.Ending.the-variants.{Finished, Undefined, Stopped}
 use Rattle.model.specs.declared.answers.Stop.the-variants.{Budget, Room}
 use Rattle.model.proofs.Impossible.{impossible}
@@ -34,52 +33,36 @@ use Rattle.loading.proofs.Reading.{programs-refused, programs-run}
 -- JUDGING AN ENDING
 
 -- the tests of `judge`
-pub judged-unequal : (n d k r : ℕ) → (n ≡ d → ⊥) → cond (eqb n d) (cond (eqb n 0) (Same k r) (Different k)) (Refused UnequalEnds) ≡ Refused UnequalEnds
-judged-unequal n d k r h = ap (λ t. cond t (cond (eqb n 0) (Same k r) (Different k)) (Refused UnequalEnds)) (ne-eqb n d h)
+module _ (n d k r : ℕ) where
+  pub judged-over : (n ≡ 0 → ⊥) → judgement (Finished n d k r) ≡ Different k
+  judged-over h = ap (λ t. cond t (cond (eqb d 0) (Same k r) (Different k)) (Different k)) (ne-eqb n 0 h)
 
-module _ (n d k r : ℕ) (h : n ≡ d) where
-  even : cond (eqb n d) (cond (eqb n 0) (Same k r) (Different k)) (Refused UnequalEnds) ≡ cond (eqb n 0) (Same k r) (Different k)
-  even = ap (λ t. cond t (cond (eqb n 0) (Same k r) (Different k)) (Refused UnequalEnds)) (eq-eqb n d h)
+  module _ (h : n ≡ 0) where
+    only-under : judgement (Finished n d k r) ≡ cond (eqb d 0) (Same k r) (Different k)
+    only-under = ap (λ t. cond t (cond (eqb d 0) (Same k r) (Different k)) (Different k)) (eq-eqb n 0 h)
 
-  pub judged-same : n ≡ 0 → cond (eqb n d) (cond (eqb n 0) (Same k r) (Different k)) (Refused UnequalEnds) ≡ Same k r
-  judged-same z = even ∙ ap (λ t. cond t (Same k r) (Different k)) (eq-eqb n 0 z)
+    pub judged-under : (d ≡ 0 → ⊥) → judgement (Finished n d k r) ≡ Different k
+    judged-under z = only-under ∙ ap (λ t. cond t (Same k r) (Different k)) (ne-eqb d 0 z)
 
-  pub judged-different : (n ≡ 0 → ⊥) → cond (eqb n d) (cond (eqb n 0) (Same k r) (Different k)) (Refused UnequalEnds) ≡ Different k
-  judged-different z = even ∙ ap (λ t. cond t (Same k r) (Different k)) (ne-eqb n 0 z)
+    pub judged-same : d ≡ 0 → judgement (Finished n d k r) ≡ Same k r
+    judged-same z = only-under ∙ ap (λ t. cond t (Same k r) (Different k)) (eq-eqb d 0 z)
 
-not-empty : (n : List ℕ) (x : ℕ) → length (x ∷ n) ≡ 0 → ⊥
-not-empty n x e = omega arith
-
+-- what is judged of each ending: a verdict `same` is that of an empty word, and any other is `different` or a stop
 judgement-states : (e : Ending) → judgementAs (judgement (endingAnswer e)) ≡ verdictOf e
 judgement-states (finished [] [] k r) = refl
-judgement-states (finished [] (x ∷ d) k r) =
-    let f = ne-eqb 0 (suc (length d)) (λ e. omega arith) in
-    ap (λ t. judgementAs (cond t (Same k r) (Refused UnequalEnds))) f ∙ sym (ap (λ t. unless (not t) 14 (different-after k)) f)
-judgement-states (finished (x ∷ n) d k r) =
-    ap (λ s. judgementAs (cond (eqb (suc (length n)) (length d)) (cond s (Same k r) (Different k)) (Refused UnequalEnds))) (ne-eqb (suc (length n)) 0 (λ e. omega arith))
-    ∙ by-test (eqb (suc (length n)) (length d))
-  where
-    by-test : (t : Bool) → judgementAs (cond t (Different k) (Refused UnequalEnds)) ≡ unless (not t) 14 (different-after k)
-    by-test true = refl
-    by-test false = refl
+judgement-states (finished [] (x ∷ d) k r) = ap judgementAs (judged-under 0 (suc (length d)) k r refl (λ e. omega arith))
+judgement-states (finished (x ∷ n) d k r) = ap judgementAs (judged-over (suc (length n)) (length d) k r (λ e. omega arith))
 judgement-states (open-pair a b k) = refl
 judgement-states (stopped budget) = refl
 judgement-states (stopped room) = refl
 
--- a verdict `same` is that of an empty word
 judged-empty : (e : Ending) (k r : ℕ) → judgement (endingAnswer e) ≡ Same k r → e ≡ finished [] [] k r
 judged-empty (finished [] [] i j) k r h =
     let a : i ≡ k = cc in
     let b : j ≡ r = cc in
     ap₂ (finished [] []) a b
-judged-empty (finished [] (x ∷ d) i j) k r h =
-    let f = judged-unequal 0 (suc (length d)) i j (λ e. omega arith) in impossible (cc (f, h))
-judged-empty (finished (x ∷ n) d i j) k r h =
-    impossible (no-same (eqb (suc (length n)) (length d)) (ap (λ s. cond (eqb (suc (length n)) (length d)) (cond s (Same i j) (Different i)) (Refused UnequalEnds)) (sym (ne-eqb (suc (length n)) 0 (λ e. omega arith))) ∙ h))
-  where
-    no-same : (t : Bool) → cond t (Different i) (Refused UnequalEnds) ≡ Same k r → _≡_ {A = ℕ} 0 1
-    no-same true q = cc
-    no-same false q = cc
+judged-empty (finished [] (x ∷ d) i j) k r h = let f = judged-under 0 (suc (length d)) i j refl (λ e. omega arith) in impossible (cc (f, h))
+judged-empty (finished (x ∷ n) d i j) k r h = let f = judged-over (suc (length n)) (length d) i j (λ e. omega arith) in impossible (cc (f, h))
 judged-empty (open-pair a b i) k r h = impossible (cc)
 judged-empty (stopped budget) k r h = impossible (cc)
 judged-empty (stopped room) k r h = impossible (cc)
@@ -125,9 +108,9 @@ module _ (T : Presentation) (u v : Positive) (steps width : ℕ) where
 
 -- after any verdict of a reversing the workspace is all zero
 pub judged-wipe : (e : EndingAnswer) (area : List ℕ) → workspaceAfter (judgementAs (judgement e)) area ≡ replicate (length area) 0
-judged-wipe (Finished n d k r) area = by-tests (eqb n d) (eqb n 0)
+judged-wipe (Finished n d k r) area = by-tests (eqb n 0) (eqb d 0)
   where
-    by-tests : (s t : Bool) → workspaceAfter (judgementAs (cond s (cond t (Same k r) (Different k)) (Refused UnequalEnds))) area ≡ replicate (length area) 0
+    by-tests : (s t : Bool) → workspaceAfter (judgementAs (cond s (cond t (Same k r) (Different k)) (Different k))) area ≡ replicate (length area) 0
     by-tests true true = refl
     by-tests true false = refl
     by-tests false t = refl

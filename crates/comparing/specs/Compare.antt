@@ -15,7 +15,6 @@ use Rattle.model.specs.Areas.{Compares, workspaceAfter}
 use Rattle.model.specs.Stated.{refusal}
 use Rattle.model.specs.declared.answers.Ending.{Ending}
 use Rattle.model.specs.declared.answers.Ending.the-variants.{Finished, Undefined, Stopped}
-use Rattle.model.specs.declared.answers.Refusal.the-variants.{UnequalEnds}
 use Rattle.model.specs.declared.answers.Compared.{Compared}
 use Rattle.model.specs.declared.answers.Compared.the-variants.{Same as SameAnswer, Different as DifferentAnswer, Refused as RefusedAnswer}
 use Rattle.theory.specs.Verdicts.{DemandThree}
@@ -26,7 +25,7 @@ use Rattle.comparing.specs.declared.compare.Judgement.the-variants.{Same
 
 -- what an ending is judged, told in numbers
 abbrev pub judgement : Ending → Judgement
-judgement (Finished n d k r) = cond (eqb n d) (cond (eqb n 0) (Same k r) (Different k)) (Refused UnequalEnds)
+judgement (Finished n d k r) = cond (eqb n 0) (cond (eqb d 0) (Same k r) (Different k)) (Different k)
 judgement (Undefined p k) = Different k
 judgement (Stopped s) = Refused (stopRefusal s)
 

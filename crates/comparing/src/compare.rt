@@ -37,13 +37,13 @@ pub fn judge(ending: Ending) -> Judgement
             steps,
             relations,
         } => {
-            if numerator != denominator {
-                return Judgement::Refused(Refusal::UnequalEnds);
+            if numerator != 0 {
+                return Judgement::Different { steps };
             }
-            if numerator == 0 {
-                return Judgement::Same { steps, relations };
+            if denominator != 0 {
+                return Judgement::Different { steps };
             }
-            Judgement::Different { steps }
+            Judgement::Same { steps, relations }
         }
         Ending::Undefined { pair: _, steps } => Judgement::Different { steps },
         Ending::Stopped(stop) => Judgement::Refused(stop_refusal(stop)),

@@ -62,9 +62,9 @@ judged [] [] k = same-after k
 judged [] (x ∷ d) k = different-after k
 judged (x ∷ n) d k = different-after k
 
--- 6.4: what an ending comes to: refusal 14 where N and D have different lengths; after an open pair different
+-- 6.4: what an ending comes to; after an open pair different
 abbrev pub verdictOf : Ending → Outcome Verdict
-verdictOf (finished n d k r) = unless (not (eqb (length n) (length d))) 14 (judged n d k)
+verdictOf (finished n d k r) = answered (judged n d k)
 verdictOf (open-pair a b k) = answered (different-after k)
 verdictOf (stopped s) = refused (stopNumber s) []
 

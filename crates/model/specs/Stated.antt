@@ -10,7 +10,7 @@ use Rattle.model.specs.declared.answers.Stop.the-variants.{Budget, Room}
 use Rattle.model.specs.declared.answers.Ending.{Ending as EndingAnswer}
 use Rattle.model.specs.declared.answers.Ending.the-variants.{Finished, Undefined, Stopped}
 use Rattle.model.specs.declared.answers.Refusal.{Refusal}
-use Rattle.model.specs.declared.answers.Refusal.the-variants.{TableEnds, TableField, TableTail, ImageEnds, ImageField, ImageTail, BackMove, UnequalLengths, CubeFails, OpenPair, AllowanceUsed, WorkspaceShort, AnswerShort, UnequalEnds, NotBraidTable}
+use Rattle.model.specs.declared.answers.Refusal.the-variants.{TableEnds, TableField, TableTail, ImageEnds, ImageField, ImageTail, BackMove, UnequalLengths, CubeFails, OpenPair, AllowanceUsed, WorkspaceShort, AnswerShort, NotBraidTable}
 use Rattle.model.specs.declared.answers.Reversed.{Reversed}
 use Rattle.model.specs.declared.answers.Reversed.the-variants.{Answer, Refused as ReverseRefused}
 use Rattle.model.specs.declared.answers.Cleared.{Cleared}
@@ -33,7 +33,7 @@ abbrev pub placeNumbers : Place → List ℕ
 placeNumbers (Triple t) = t .a ∷ t .b ∷ t .c ∷ []
 placeNumbers Programs = []
 
--- 7.1, 7.3: a refusal's number and place numbers; of 10, `a` is the back letter's
+-- 7.1, 7.3: a refusal's number and place numbers; of 10, `a` is the back letter's. 14 is no refusal's number
 abbrev pub numbered : Refusal → ℕ × List ℕ
 numbered TableEnds = (1, [])
 numbered TableField = (2, [])
@@ -48,7 +48,6 @@ numbered (OpenPair p) = (10, p .a ∷ p .b ∷ [])
 numbered (AllowanceUsed p) = (11, placeNumbers p)
 numbered (WorkspaceShort p) = (12, placeNumbers p)
 numbered AnswerShort = (13, [])
-numbered UnequalEnds = (14, [])
 numbered NotBraidTable = (15, [])
 
 -- 7.1: the outcome, whatever the answer would have been

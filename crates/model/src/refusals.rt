@@ -83,7 +83,6 @@ pub fn refusal_numbers(refusal: Refusal) -> RefusalNumbers
         Refusal::AllowanceUsed(place) => with_place(11, place),
         Refusal::WorkspaceShort(place) => with_place(12, place),
         Refusal::AnswerShort => alone(13),
-        Refusal::UnequalEnds => alone(14),
         Refusal::NotBraidTable => alone(15),
     }
 }

@@ -310,8 +310,7 @@ pub fn compare(table: &[u8], first: &[u8], second: &[u8], allowance: u16, worksp
     let ending = reversing(&cells, workspace, m, end - n, allowance);
     workspace.fill(0);
     match ending {
-        Ending::Finished { numerator, denominator, .. } if numerator != denominator => Err(14),
-        Ending::Finished { numerator, steps, .. } => Ok((numerator == 0, steps)),
+        Ending::Finished { numerator, denominator, steps } => Ok((numerator == 0 && denominator == 0, steps)),
         Ending::Open { steps } => Ok((false, steps)),
         Ending::AllowanceUsed => Err(11),
         Ending::WorkspaceShort => Err(12),

@@ -121,15 +121,8 @@ pub fn compare(table: &[u8], first: &[u8], second: &[u8], limits: Limits, most: 
         return Ok((Verdict::Different, 0));
     }
     match run(&table, [undoing(&first), second].concat(), 0, limits, most) {
-        Ending::Finished { numerator, denominator, steps } => {
-            if numerator.len() != denominator.len() {
-                Err(Refusal::plain(14))
-            } else if numerator.is_empty() {
-                Ok((Verdict::Same, steps))
-            } else {
-                Ok((Verdict::Different, steps))
-            }
-        }
+        Ending::Finished { numerator, denominator, steps } if numerator.is_empty() && denominator.is_empty() => Ok((Verdict::Same, steps)),
+        Ending::Finished { steps, .. } => Ok((Verdict::Different, steps)),
         Ending::Open { steps, .. } => Ok((Verdict::Different, steps)),
         Ending::AllowanceUsed => Err(Refusal::plain(11)),
         Ending::WorkspaceShort => Err(Refusal::plain(12)),

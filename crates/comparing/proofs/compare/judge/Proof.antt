@@ -2,7 +2,7 @@
 use mathlib.Core.Path.{sym, ap, _∙_}
 use Rattle.comparing.specs.Compare.{judgement}
 use Rattle.comparing.specs.declared.compare.Judgement.the-variants.{Refused}
-use Rattle.comparing.proofs.Comparing.{judged-unequal, judged-same, judged-different}
+use Rattle.comparing.proofs.Comparing.{judged-over, judged-under, judged-same}
 use borrow.Author.Needs.{needs}
 use Rattle.comparing.proofs.compare.judge.Statement.{statement}
 use Rattle.comparing.proofs.compare.judge.Tie as tie
@@ -17,7 +17,7 @@ returns c =
     let d = e .given .0 .1 .0 in
     let k = e .given .0 .1 .1 .0 in
     let r = e .given .0 .1 .1 .1 .0 in
-    sym (ap judgement (e .given .1) ∙ judged-unequal n d k r (c .if1 .taken))
+    sym (ap judgement (e .given .1) ∙ judged-over n d k r (c .if1 .taken))
 
 returns-2 : tie.Need-returns-2
 returns-2 c =
@@ -26,7 +26,7 @@ returns-2 c =
     let d = e .given .0 .1 .0 in
     let k = e .given .0 .1 .1 .0 in
     let r = e .given .0 .1 .1 .1 .0 in
-    sym (ap judgement (e .given .1) ∙ judged-same n d k r (c .before .if1 .left) (c .if2 .taken))
+    sym (ap judgement (e .given .1) ∙ judged-under n d k r (c .before .if1 .left) (c .if2 .taken))
 
 enum-known-ending-2 : tie.Need-enum-known-ending-2
 enum-known-ending-2 c = search needs
@@ -44,7 +44,7 @@ returns-3 c =
     let d = e .given .0 .1 .0 in
     let k = e .given .0 .1 .1 .0 in
     let r = e .given .0 .1 .1 .1 .0 in
-    sym (ap judgement (e .given .1) ∙ judged-different n d k r (c .before .if1 .left) (c .if2 .left))
+    sym (ap judgement (e .given .1) ∙ judged-same n d k r (c .before .if1 .left) (c .if2 .left))
 
 returns-4 : tie.Need-returns-4
 returns-4 c = sym (ap judgement (c .before .ending2 .given .1))
