@@ -2,12 +2,12 @@
 use mathlib.Core.Path.{_≡_, refl, sym, ap, ap₂, _∙_}
 use mathlib.Core.List.{List, [], _∷_, _++_, map-append, nil≢cons, head-eq-of-cons-eq, tail-eq-of-cons-eq}
 use mathlib.Core.Bool.{cond}
-use Prim.Native.Nat.{ℕ, _+_, _-_, _≤_, _<_}
+use Prim.Native.Nat.{ℕ, _+_, _-_, _%_, _≤_, _<_}
 use native.Mathlib.Decide.{decLt}
 use native.Mathlib.Omega.{arith}
 use borrow.Author.Tests.{lt-ltb, le-ltb}
 use lib.ListN.{length, length-map}
-use Rattle.model.specs.Word.{Letter, forward, back, letter, positive}
+use Rattle.model.specs.Word.{Letter, forward, back, flip, letter, positive}
 use Rattle.engine.specs.Gap.{letters}
 
 pub letter-forward : (x : ℕ) → x < 128 → letter x ≡ forward x
@@ -15,6 +15,22 @@ letter-forward x h = ap (λ b. cond b (forward x) (back (x - 128))) (lt-ltb x 12
 
 pub letter-back : (x : ℕ) → 128 ≤ x → letter x ≡ back (x - 128)
 letter-back x h = ap (λ b. cond b (forward x) (back (x - 128))) (le-ltb x 128 h)
+
+-- 128 more, modulo 256: a forward letter becomes a back one, and of a back one what it has more is taken away
+abbrev turned : ℕ → ℕ
+turned x = (x + 128) % 256
+
+pub letter-turned : (x : ℕ) → x < 256 → letter (turned x) ≡ flip (letter x)
+letter-turned x fits = go (decLt x 128)
+  where
+    go : Dec (x < 128) → letter (turned x) ≡ flip (letter x)
+    go (yes h) =
+        let e : turned x ≡ 128 + x = omega arith in
+        let n : 128 + x - 128 ≡ x = omega arith in
+        ap letter e ∙ (letter-back (128 + x) (omega arith) ∙ (ap back n ∙ sym (ap flip (letter-forward x h))))
+    go (no h) =
+        let e : turned x ≡ x - 128 = omega arith in
+        ap letter e ∙ (letter-forward (x - 128) (omega arith) ∙ sym (ap flip (letter-back x (omega arith))))
 
 pub letters-append : (xs ys : List ℕ) → letters (xs ++ ys) ≡ letters xs ++ letters ys
 unfolding letters

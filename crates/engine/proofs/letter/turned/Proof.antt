@@ -1,25 +1,21 @@
 -- `engine::letter::turned` meets its contract.
-use mathlib.Core.Path.{sym, ap, _∙_}
-use Prim.Native.Nat.{_+_, _-_}
 use native.Mathlib.Omega.{arith}
 use borrow.Author.Needs.{needs}
-use Rattle.model.specs.Word.{flip, back}
-use Rattle.engine.proofs.Letters.{letter-forward, letter-back}
+use Rattle.engine.proofs.Letters.{letter-turned}
 use Rattle.engine.proofs.letter.turned.Statement.{statement}
 use Rattle.engine.proofs.letter.turned.Tie as tie
+
+cast-result : tie.Need-cast-result
+cast-result c = search needs
 
 add-result : tie.Need-add-result
 add-result c = search needs
 
-returns : tie.Need-returns
-returns c =
-    letter-back (c .before .args .x + 128) (omega arith)
-    ∙ (ap back (omega arith) ∙ sym (ap flip (letter-forward (c .before .args .x) (c .if1 .taken))))
+cast-result-2 : tie.Need-cast-result-2
+cast-result-2 c = search needs
 
-returns-2 : tie.Need-returns-2
-returns-2 c =
-    letter-forward (c .before .args .x - 128) (omega (arith, c .before .fits .x))
-    ∙ sym (ap flip (letter-back (c .before .args .x) (c .if1 .left)))
+returns : tie.Need-returns
+returns c = letter-turned (c .args .x) (omega (arith, c .fits .x))
 
 pub turned-spec : {M : Type 1} → statement M
-turned-spec = tie.close (tie.spec add-result returns returns-2)
+turned-spec = tie.close (tie.spec cast-result add-result cast-result-2 returns)
