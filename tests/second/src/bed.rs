@@ -1,4 +1,4 @@
-//! The bed of a program under a braid table (specification 6.10).
+//! The bed of a program under a braid table (specification 6.11).
 use crate::table::Table;
 
 pub struct Bed {
