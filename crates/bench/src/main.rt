@@ -21,7 +21,7 @@ fn is_stop(refusal: Refusal) -> bool {
 fn endless_stops(allowance: u16, workspace: &mut [u8]) -> bool
     ensures { λ r. ⌜ length (now (workspace .exit)) ≡ length (now (workspace .entry)) ⌝ }
 {
-    let cleared = clear(b"\x29\x21\x0C\xA0\x8A\x52\x4C", allowance, workspace);
+    let cleared = clear(b"\x20\x04\x90\x86\x50\x45\x29\x26", allowance, workspace);
     match cleared {
         Cleared::Passed => false,
         Cleared::Refused(refusal) => is_stop(refusal),
@@ -43,7 +43,7 @@ fn endless_always_stops(workspace: &mut [u8]) -> bool {
 // The program of case 1 at allowance 5.
 fn five_finish(workspace: &mut [u8], answer: &mut [u8]) -> bool {
     let reversed = reverse(
-        b"\x29\x21\x0C\x61\x25\x24\xC0",
+        b"\x20\x04\x90\x86\x30\x92\x92\x60",
         b"\x00\x5C\x28\x20",
         5,
         workspace,

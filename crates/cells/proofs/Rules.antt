@@ -1,15 +1,15 @@
 -- What the cells of a pair tell of its complement.
 use mathlib.Core.Path.{_≡_, refl, ap, subst, _∙_}
 use mathlib.Core.List.{List, [], _∷_}
-use Prim.Native.Nat.{ℕ, _+_, _≤_, _<_}
+use Prim.Native.Nat.{ℕ, suc, _+_, _-_, _*_, _≤_, _<_}
 use native.Mathlib.Omega.{arith}
 use lib.ListN.{length, take, drop, getD, replicate, length-drop, length-replicate, getD-replicate}
 use lib.Seq.{getD-take, getD-drop, length-take-le, ext-getD}
 use Rattle.model.specs.Word.{Positive, positive}
-use Rattle.model.specs.Presentation.{Presentation, Complement, undefined, complement, swapped, complete}
+use Rattle.model.specs.Presentation.{Presentation, Complement, undefined, complement, swapped, complete, weightOf, weigh}
 use Rattle.model.specs.Range.{All, InRange, Lettered}
 use Rattle.model.proofs.Complete.{complete-turn}
-use Rattle.cells.specs.Layout.{cellAt}
+use Rattle.cells.specs.Layout.{cellAt, weightAt}
 use Rattle.cells.specs.Stands.{HoldsWord, HoldsFirst, Stands, Blank}
 
 lettered-all : (n : ℕ) (x : Positive) → All (InRange n) x → Lettered n (positive x)
@@ -81,3 +81,21 @@ module _ (cells : List ℕ) (T : Presentation) (s : Stands cells T) (a b : ℕ) 
 -- cells of zeros
 pub blank-zeros : Blank (replicate 4096 0)
 blank-zeros = record { full = length-replicate {A = ℕ} 4096 0; diagonal = λ a l. getD-replicate {A = ℕ} 4096 (cellAt a a) 0 0 (omega (arith, l .low, l .high)) }
+
+-- the weight that stands in a letter's place is the letter's
+module _ (cells : List ℕ) (T : Presentation) (s : Stands cells T) (a : ℕ) (ra : InRange (T .size) a) where
+  place : getD cells (weightAt a) 0 ≡ getD (T .excess) (a - 1) 0
+  place =
+      let back : 1 + (a - 1) ≡ a = omega (arith, ra .low) in
+      subst (λ i. getD cells (weightAt i) 0 ≡ getD (T .excess) (a - 1) 0) back (s .weights .holds (a - 1) (omega (arith, s .weights .many, ra .low, ra .high)))
+
+  pub held-weight : suc (getD cells (weightAt a) 0) ≡ weightOf T a
+  held-weight = ap suc place
+
+  pub light-letter : weightOf T a ≤ 8
+  light-letter = omega (arith, s .weights .light (a - 1) (omega (arith, s .weights .many, ra .low, ra .high)))
+
+-- so a word of the table's letters weighs at most 8 times its length
+pub weight-within : (cells : List ℕ) (T : Presentation) → Stands cells T → (u : Positive) → Lettered (T .size) (positive u) → weigh T u ≤ 8 * length u
+weight-within cells T s [] h = omega arith
+weight-within cells T s (a ∷ u) h = omega (arith, light-letter cells T s a (h .0), weight-within cells T s u (h .1))

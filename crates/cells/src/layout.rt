@@ -1,5 +1,6 @@
 ghost use mathlib.Core.Path.{_≡_};
-ghost use Rattle.cells.specs.Layout.{Letters, cellAt};
+ghost use Rattle.model.specs.Range.{InRange};
+ghost use Rattle.cells.specs.Layout.{Letters, cellAt, weightAt};
 
 // The bytes of all cells.
 pub const CELLS: usize = 4096;
@@ -15,4 +16,12 @@ pub fn cell_at(a: u8, b: u8) -> usize
     ensures { λ r. ⌜ r ≡ cellAt a b ⌝ }
 {
     ((a as usize - 1) * 16 + (b as usize - 1)) * 16
+}
+
+// Where the weight of a letter lies, less 1.
+pub fn weight_at(a: u8) -> usize
+    requires { ⌜ InRange 16 a ⌝ }
+    ensures { λ r. ⌜ r ≡ weightAt a ⌝ }
+{
+    cell_at(a, a) + 1
 }

@@ -1,2 +1,3 @@
-// The cells of a table: where the complement of each two letters lies.
+// The cells of a table: where the complement of each two letters and the weight of each letter lie.
 pub mod layout;
+pub mod weights;

@@ -1,5 +1,5 @@
 -- Listing a chain after a comparison, and the outcome of chain after its reading.
-use mathlib.Core.Path.{_≡_, refl, sym, ap, subst, _∙_}
+use mathlib.Core.Path.{_≡_, refl, sym, ap, ap₂, subst, _∙_}
 use mathlib.Core.List.{List, [], _++_}
 use mathlib.Core.Bool.{Bool, true, false}
 use Prim.Native.Nat.{ℕ, _+_, _≤_, _<_}
@@ -9,7 +9,7 @@ use borrow.Author.Tests.{lt-ltb, le-ltb}
 use lib.Dec.{ltb}
 use lib.ListN.{length, length-append}
 use Rattle.model.specs.Word.{Word, Positive, positive, negative}
-use Rattle.model.specs.Presentation.{Presentation, complete}
+use Rattle.model.specs.Presentation.{Presentation, complete, weightOf, weigh}
 use Rattle.model.specs.Reversing.{finished, room, reversing}
 use Rattle.model.specs.Outcome.{Outcome, answered, refused, _>>=_, unless}
 use Rattle.model.specs.Images.{readProgram, chainImage}
@@ -34,10 +34,10 @@ use Rattle.model.specs.Range.{ProgramInRange, Lettered}
 use Rattle.images.specs.Programs.{ForwardOf}
 use Rattle.images.proofs.RoundTrip.{chain-reads-back, program-in-range}
 use Rattle.cells.specs.Stands.{Of}
+use Rattle.cells.proofs.Rules.{weight-within}
 use Rattle.engine.proofs.Lettering.{length-positive, length-negative}
 use Rattle.chains.specs.Listing.{Chained}
 use Rattle.chains.specs.Listing.{Compared as Listed-from}
-use Rattle.chains.proofs.Courses.{even-of}
 use Rattle.chains.proofs.Layouts.{room-for-fewer}
 use Rattle.loading.specs.Loading.{Images, readPrograms}
 use Rattle.comparing.specs.Compare.{toldAs, Ended, Judged, Meaning}
@@ -136,8 +136,8 @@ module _ (cells : List ℕ) (size : ℕ) (T : Presentation) (o : Of cells size T
       record {
         stands = o .stands;
         size-is = sym (o .sized);
-        even = even-of T (clear-homogeneous T steps width (e .clear));
-        short = omega (arith, first-range .short, length-positive u);
+        even = clear-homogeneous T steps width (e .clear);
+        short = omega (arith, first-range .short, length-positive u, weight-within cells T (o .stands) u (lettered u first-range));
         first-named = lettered u first-range;
         second-named = lettered v second-range;
         ordered = l .searched .ordered;
@@ -195,9 +195,9 @@ module _ (table first second before after : List ℕ) where
 
 -- and what check says of it
 module _ (table first second : List ℕ) (steps width : ℕ) (before after : List ℕ) where
-  -- the table cleared, so the relations keep lengths
+  -- the table cleared, so the relations keep weights
   even-after : (T : Presentation) (u v : Positive) → Compares table first second T u v → (k : ℕ)
-      → answered (same-after k) ≡ chain table first second steps width (length before) → Homogeneous (λ a. 1) (complete T)
+      → answered (same-after k) ≡ chain table first second steps width (length before) → Homogeneous (weightOf T) (complete T)
   even-after T u v c k e =
       clear-homogeneous T steps width
       (answered-clear T u v steps width (same-told table first second steps width (length before) T u v c k e))
@@ -211,17 +211,18 @@ module _ (table first second : List ℕ) (steps width : ℕ) (before after : Lis
         written = l .written;
         joined = λ T′ u′ v′ c′ room h.
             check-runs table first second (chainImage (T .size) (l .entries)) room T u v c (T .size) refl (l .entries) (l .readable)
-            ∙ lead-joins T (even-after T u v c k e) room u (l .entries) v (l .leads) (omega (arith, h, ap length (same-first T′ u′ v′ c′)));
+            ∙ lead-joins T (even-after T u v c k e) room u (l .entries) v (l .leads) (omega (arith, h, same-weight T′ u′ v′ c′));
       }
     where
-      same-first : (T′ : Presentation) (u′ v′ : Positive) → Compares table first second T′ u′ v′ → u ≡ u′
-      same-first T′ u′ v′ c′ =
+      same-weight : (T′ : Presentation) (u′ v′ : Positive) → Compares table first second T′ u′ v′ → weigh T u ≡ weigh T′ u′
+      same-weight T′ u′ v′ c′ =
           let one = c .table-read in
           let two = c′ .table-read in
-          let sizes : T .size ≡ T′ .size = cc in
-          let read : readForward (T .size) first ≡ answered u′ = rw sizes (c′ .first-read) in
+          let tables : T ≡ T′ = cc in
+          let read : readForward (T .size) first ≡ answered u′ = rw tables (c′ .first-read) in
           let first-one = c .first-read in
-          cc
+          let words : u ≡ u′ = cc in
+          ap₂ weigh tables words
 
   pub listed-checks : (o : Outcome Verdict) → o ≡ chain table first second steps width (length before) → ChainArea table first second before after o
       → ListedChecks table first second before after o

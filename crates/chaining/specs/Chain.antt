@@ -4,7 +4,7 @@ use mathlib.Core.Path.{_≡_}
 use Prim.Native.Nat.{ℕ, _≤_}
 use lib.ListN.{length}
 use Rattle.model.specs.Word.{Positive}
-use Rattle.model.specs.Presentation.{Presentation}
+use Rattle.model.specs.Presentation.{Presentation, weigh}
 use Rattle.model.specs.Outcome.{Outcome, answered, refused, _>>=_}
 use Rattle.model.specs.Services.{Verdict, same-after, different-after, readForward, comparison, listable, joins, check}
 use Rattle.model.specs.Areas.{begins, Compares, Listed, workspaceAfter}
@@ -27,12 +27,12 @@ pub record Lists (cells : List ℕ) (size : ℕ) (first second : List ℕ) (budg
   pub lists : (T : Presentation) → Of cells size T → (u v : Positive) → readForward size first ≡ answered u → readForward size second ≡ answered v
       → ListedAs T u v budget (length workspace) before after r
 
--- the area begins with an image that check answers with `joins`, in every workspace that holds the first program: under a table that clears
--- no word on the way is longer
+-- the area begins with an image that check answers with `joins`, in every workspace of at least the first program's weight in bytes:
+-- under a table that clears no word on the way has more letters
 pub record JoinsChecked (table first second before after : List ℕ) : Type 0 where
   pub image : List ℕ
   pub written : after ≡ begins image before
-  pub joined : (T : Presentation) (u v : Positive) → Compares table first second T u v → (room : ℕ) → length u ≤ room
+  pub joined : (T : Presentation) (u v : Positive) → Compares table first second T u v → (room : ℕ) → weigh T u ≤ room
       → check table first second image room ≡ answered joins
 
 -- what is listed passes check

@@ -2,17 +2,18 @@
 use mathlib.Core.Path.{_≡_, refl, sym, ap, ap₂, subst, _∙_}
 use mathlib.Core.List.{List, [], _∷_, _++_, append-assoc, append-nil}
 use mathlib.Core.Option.{some}
-use Prim.Native.Nat.{ℕ, _+_, _≤_}
+use Prim.Native.Nat.{ℕ, _+_, _^_, _≤_, _<_}
 use native.Mathlib.Omega.{arith}
 use lib.ListN.{length, length-append}
 use Rattle.model.specs.Word.{Word, Positive, positive, negative}
-use Rattle.model.specs.Presentation.{Presentation, complement, swapped, complete}
+use Rattle.model.specs.Presentation.{Presentation, complement, swapped, complete, weightOf, weigh}
+use Rattle.model.specs.Images.{offsetWidth}
 use Rattle.model.specs.Equivalence.{Entry, applied, Leads}
 use Rattle.model.proofs.Words.{negative-append, positive-append}
 use Rattle.model.proofs.Complete.{complete-same, complete-turn, complete-named}
-use Rattle.model.proofs.Equiv.{Swap, Homogeneous, total-one}
+use Rattle.model.proofs.Equiv.{Swap, length-total}
 use Rattle.model.proofs.Entries.{swap-applied, applied-applies, entry-inside}
-use Rattle.model.proofs.Joining.{joined-length}
+use Rattle.model.proofs.Joining.{joined-weight}
 use Rattle.model.specs.Range.{InRange, Lettered, All, EntryInRange}
 use Rattle.cells.proofs.Rules.{cell-word, WordAt}
 use Rattle.cells.specs.Layout.{cellAt}
@@ -29,29 +30,26 @@ pub leads-more : (T : Presentation) (u : Positive) (es : List Entry) (v : Positi
 leads-more T u [] v e w h a = (w, ap (λ x. applied T x e) h ∙ a, refl)
 leads-more T u (f ∷ es) v e w h a = (h .0, h .1, leads-more T (h .0) es v e w (h .2) a)
 
--- LENGTHS AND RANGES
+-- WEIGHTS AND RANGES
 
-homogeneous : (T : Presentation) → Even T → Homogeneous (λ a. 1) (complete T)
-homogeneous T even a b x y e = omega (arith, total-one x, total-one y, even a b x y e)
+pub led-weight : (T : Presentation) → Even T → (u : Positive) (es : List Entry) (v : Positive) → Leads T u es v → weigh T u ≡ weigh T v
+led-weight T even u es v h = joined-weight T (weightOf T) even u v (es, h)
 
--- a table that clears is even: its relations weigh the same on both sides where every letter weighs 1
-pub even-of : (T : Presentation) → Homogeneous (λ a. 1) (complete T) → Even T
-even-of T h a b x y e = omega (arith, total-one x, total-one y, h a b x y e)
-
-pub led-length : (T : Presentation) → Even T → (u : Positive) (es : List Entry) (v : Positive) → Leads T u es v → length u ≡ length v
-led-length T even u es v h = joined-length T (homogeneous T even) u v (es, h)
+-- every letter weighs 1 or more
+pub length-weight : (T : Presentation) (u : Positive) → length u ≤ weigh T u
+length-weight T = length-total (weightOf T) (λ a. omega arith)
 
 -- every entry of a chain fits its fields
-pub entries-fit : (T : Presentation) → Even T → (u : Positive) (es : List Entry) (v : Positive) → length u ≤ 4095 → Leads T u es v → All (EntryInRange (T .size)) es
+pub entries-fit : (T : Presentation) → Even T → (u : Positive) (es : List Entry) (v : Positive) → weigh T u < 2 ^ offsetWidth → Leads T u es v → All (EntryInRange (T .size)) es
 entries-fit T even u [] v short h = tt
 entries-fit T even u (e ∷ es) v short h =
     let p = applied-applies T u e (h .0) (h .1) in
     let n = complete-named T (p .differ) (p .swap .rule) in
     let a : p .swap .a ≡ e .a = ap (λ x. x .a) (p .same) in
     let b : p .swap .b ≡ e .b = ap (λ x. x .b) (p .same) in
-    let kept : length u ≡ length (h .0) = led-length T even u (e ∷ []) (h .0) (h .0, h .1, refl) in (
+    let kept : weigh T u ≡ weigh T (h .0) = led-weight T even u (e ∷ []) (h .0) (h .0, h .1, refl) in (
       record {
-        offset-small = omega (arith, entry-inside T u e (h .0) (h .1));
+        offset-small = omega (arith, entry-inside T u e (h .0) (h .1), length-weight T u);
         a-names = record { low = omega (arith, n .0 .low, a); high = omega (arith, n .0 .high, a) };
         b-names = record { low = omega (arith, n .1 .low, b); high = omega (arith, n .1 .high, b) };
       },
@@ -162,12 +160,13 @@ module _ {t : Task} {size total : ℕ} where
         (complete-turn (t .table) (f .a) (f .b) ∙ ap swapped (c .stacked .0 .rule))
 
     -- its letters are no more than the word that the entries have led to
-    pub passed-short : length (passedOf (f ∷ fs) done) ≤ 4095
+    pub passed-short : length (passedOf (f ∷ fs) done) < 2 ^ offsetWidth
     passed-short =
         omega (
           arith,
           settled .short,
-          led-length (t .table) (settled .even) (t .first) entries (passedOf (f ∷ fs) done ++ rest) (c .leads),
+          led-weight (t .table) (settled .even) (t .first) entries (passedOf (f ∷ fs) done ++ rest) (c .leads),
+          length-weight (t .table) (passedOf (f ∷ fs) done ++ rest),
           length-append (passedOf (f ∷ fs) done) rest,
         )
 

@@ -1,12 +1,12 @@
 -- The top face is done: its entry takes a slot, and C(b,a) goes to the front of the rest, in the workspace and the answer area.
 use mathlib.Core.Path.{_≡_, sym, ap, ap₂, subst, _∙_}
 use mathlib.Core.List.{List, [], _∷_, _++_}
-use Prim.Native.Nat.{ℕ, suc, _+_, _-_, _≤_, _<_}
+use Prim.Native.Nat.{ℕ, suc, _+_, _-_, _^_, _≤_, _<_}
 use native.Mathlib.Omega.{arith}
 use lib.ListN.{length, take, drop, getD, length-append}
 use Rattle.model.specs.Word.{Positive, positive, negative, inverse}
 use Rattle.model.specs.Equivalence.{Entry}
-use Rattle.model.specs.Images.{entryBits, entryPosition}
+use Rattle.model.specs.Images.{offsetWidth, entryBits, entryPosition}
 use Rattle.engine.specs.Gap.{letters}
 use Rattle.engine.specs.Turn.{Pushed}
 use Rattle.cells.specs.Layout.{cellAt}
@@ -89,7 +89,7 @@ module _ {t : Task} {cells : List ℕ} {size total : ℕ} {bytes answer : List �
   pub passed-is : at .passed ≡ length (passedOf (top .others) (s .done)) + suc (length (f .done))
   passed-is = passed-of s (top .top) ∙ length-append (passedOf (top .others) (s .done)) (f .a ∷ f .done)
 
-  pub passed-few : at .passed ≤ 4095
+  pub passed-few : at .passed < 2 ^ offsetWidth
   passed-few = omega (arith, passed-of s (top .top), passed-short (s .settled) course)
 
   pub stacked-some : 1 ≤ at .stacked

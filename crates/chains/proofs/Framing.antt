@@ -10,7 +10,7 @@ use lib.Seq.{take-at, drop-at, drop-drop, length-take-le, getD-drop}
 use Rattle.model.specs.Bits.{bitsOf, digits, letterWidth, bytesFor, pack, filling}
 use Rattle.model.specs.Equivalence.{Entry}
 use Rattle.model.specs.Enumeration.{concatMap}
-use Rattle.model.specs.Images.{entryBits, letterBits, chainImage, entryWidth, entryPosition}
+use Rattle.model.specs.Images.{offsetWidth, entryBits, letterBits, chainImage, entryWidth, entryPosition}
 use Rattle.model.specs.Services.{chainBytes}
 use Rattle.model.specs.Areas.{begins}
 use Rattle.bits.specs.Fields.{Inside, Written}
@@ -121,7 +121,7 @@ entries-are-bits : (n : ℕ) (es : List Entry) → AreBits (concatMap (entryBits
 entries-are-bits n [] = tt
 entries-are-bits n (e ∷ es) =
     bits-append (entryBits n e) (concatMap (entryBits n) es)
-    (bits-append (digits 12 (e .offset)) (letterBits n (e .a) ++ letterBits n (e .b)) (digits-are-bits 12 (e .offset))
+    (bits-append (digits offsetWidth (e .offset)) (letterBits n (e .a) ++ letterBits n (e .b)) (digits-are-bits offsetWidth (e .offset))
     (bits-append (letterBits n (e .a)) (letterBits n (e .b)) (digits-are-bits (letterWidth n) (e .a - 1)) (digits-are-bits (letterWidth n) (e .b - 1))))
     (entries-are-bits n es)
 

@@ -1,13 +1,13 @@
 -- A letter that was taken off meets the first letter of the rest, in the workspace and the answer area.
 use mathlib.Core.Path.{_≡_, refl, sym, ap, ap₂, subst, _∙_}
 use mathlib.Core.List.{List, [], _∷_, _++_, map}
-use Prim.Native.Nat.{ℕ, _+_, _-_, _≤_, _<_}
+use Prim.Native.Nat.{ℕ, _+_, _-_, _^_, _≤_, _<_}
 use native.Mathlib.Omega.{arith}
 use lib.ListN.{length, take, getD, length-append, length-map}
 use Rattle.model.specs.Word.{Positive, positive, negative}
 use Rattle.model.specs.Presentation.{complement, complete}
 use Rattle.model.specs.Equivalence.{Entry}
-use Rattle.model.specs.Images.{entryBits, entryPosition}
+use Rattle.model.specs.Images.{offsetWidth, entryBits, entryPosition}
 use Rattle.model.proofs.Words.{positive-append}
 use Rattle.model.proofs.Complete.{complete-named}
 use Rattle.engine.specs.Gap.{letters}
@@ -23,7 +23,7 @@ use Rattle.bits.specs.Fields.{Appended}
 use Rattle.chains.specs.Course.{Task, Fixed, Course, Situation}
 use Rattle.chains.proofs.Ends.{relations-within}
 use Rattle.chains.proofs.Marks.{marked, markedDone, passed-marked, slots-marked, length-marked}
-use Rattle.chains.proofs.Courses.{led-length, met, met-equal, made, met-different, never-empty}
+use Rattle.chains.proofs.Courses.{led-weight, length-weight, met, met-equal, made, met-different, never-empty}
 use Rattle.bits.proofs.Appending.{appended-as}
 use Rattle.chains.proofs.Layouts.{slot-fits, pushed}
 use Rattle.chains.proofs.Rests.{First, first-letter}
@@ -76,14 +76,15 @@ module _ {t : Task} {cells : List ℕ} {size total : ℕ} (h : Fixed t cells siz
       let rb : InRange size (f .b) = sized (record { low = n .1 .low; high = n .1 .high }) in
       sized (middle-named (t .table .size) (f .done) b (f .left) (cell-of ra rb (e .0 .rule) .lettered))
 
-  -- the word that the entries lead to keeps the first word's length
+  -- the word that the entries lead to keeps the first word's weight
   pub passed-within : {taken rest done left : Positive} {faces : List Face} {entries : List Entry} → Course t size total taken rest faces done left entries
-      → length (passedOf faces done) + length rest ≤ 4095
+      → length (passedOf faces done) + length rest < 2 ^ offsetWidth
   passed-within {rest} {done} {faces} {entries} c =
       omega (
         arith,
         h .short,
-        led-length (t .table) (h .even) (t .first) entries (passedOf faces done ++ rest) (c .leads),
+        led-weight (t .table) (h .even) (t .first) entries (passedOf faces done ++ rest) (c .leads),
+        length-weight (t .table) (passedOf faces done ++ rest),
         length-append (passedOf faces done) rest,
       )
 
@@ -121,7 +122,7 @@ module _ {t : Task} {cells : List ℕ} {size total b : ℕ} {bytes answer : List
   pub left-inside : at .left ≤ length bytes
   left-inside = omega (arith, s .held .ordered, s .held .inside)
 
-  pub passed-small : at .passed ≤ 4095
+  pub passed-small : at .passed < 2 ^ offsetWidth
   passed-small = omega (arith, s .held .passed, passed-within (s .settled) (s .course))
 
   pub a-here : InRange size meeting

@@ -1,10 +1,11 @@
 -- How far the listing of a chain has come.
 use mathlib.Core.List.{List, [], _∷_, _++_, map}
 use mathlib.Core.Path.{_≡_}
-use Prim.Native.Nat.{ℕ, _+_, _-_, _*_, _≤_, _<_}
+use Prim.Native.Nat.{ℕ, _+_, _-_, _*_, _^_, _≤_, _<_}
 use lib.ListN.{length, take, drop}
 use Rattle.model.specs.Word.{Word, Positive, positive, negative}
-use Rattle.model.specs.Presentation.{Presentation, complement, complete}
+use Rattle.model.specs.Presentation.{Presentation, complement, complete, weigh}
+use Rattle.model.specs.Images.{offsetWidth}
 use Rattle.model.specs.Equivalence.{Entry, Leads}
 use Rattle.model.specs.Reversing.{finished, run}
 use Rattle.model.specs.Services.{chainBytes}
@@ -24,16 +25,16 @@ pub record Task : Type 0 where
   pub width : ℕ
   pub area : List ℕ
 
--- relations keep length
+-- relations keep weight
 abbrev pub Even : Presentation → Type 0
-Even T = (a b : ℕ) (x y : Positive) → complete T a b ≡ complement x y → length x ≡ length y
+Even T = (a b : ℕ) (x y : Positive) → complete T a b ≡ complement x y → weigh T (a ∷ x) ≡ weigh T (b ∷ y)
 
 -- what does not change
 pub record Fixed (t : Task) (cells : List ℕ) (size total : ℕ) : Type 0 where
   pub stands : Stands cells (t .table)
   pub size-is : size ≡ t .table .size
   pub even : Even (t .table)
-  pub short : length (t .first) ≤ 4095
+  pub short : weigh (t .table) (t .first) < 2 ^ offsetWidth
   pub named : Lettered size (positive (t .second))
   pub few : total < 65536
   pub room : chainBytes size total ≤ length (t .area)

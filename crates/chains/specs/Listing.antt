@@ -1,13 +1,13 @@
 -- What the listing of a chain is given, and what it leaves in the answer area.
 use mathlib.Core.List.{List, [], _++_}
 use mathlib.Core.Path.{_≡_}
-use Prim.Native.Nat.{ℕ, _≤_, _<_}
+use Prim.Native.Nat.{ℕ, _^_, _≤_, _<_}
 use lib.ListN.{length}
 use Rattle.model.specs.Word.{Positive, positive, negative}
-use Rattle.model.specs.Presentation.{Presentation}
+use Rattle.model.specs.Presentation.{Presentation, weigh}
 use Rattle.model.specs.Equivalence.{Entry, Leads}
 use Rattle.model.specs.Reversing.{finished, reversing}
-use Rattle.model.specs.Images.{chainImage}
+use Rattle.model.specs.Images.{offsetWidth, chainImage}
 use Rattle.model.specs.Services.{chainBytes}
 use Rattle.model.specs.Areas.{begins}
 use Rattle.engine.specs.Gap.{wordAt}
@@ -20,7 +20,7 @@ pub record Compared (cells : List ℕ) (size : ℕ) (bytes : List ℕ) (left rig
   pub stands : Stands cells T
   pub size-is : size ≡ T .size
   pub even : Even T
-  pub short : length u ≤ 4095
+  pub short : weigh T u < 2 ^ offsetWidth
   pub first-named : Lettered (T .size) (positive u)
   pub second-named : Lettered (T .size) (positive v)
   pub ordered : left ≤ right

@@ -5,4 +5,5 @@ pub mod Triples
 pub mod BothSides
 pub mod Remaining
 pub mod Passing
+pub mod Weighing
 pub mod Searching

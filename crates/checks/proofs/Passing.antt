@@ -1,72 +1,59 @@
 -- The two checks go on over what is left: the laws of one pair and of one triple.
-use mathlib.Core.Path.{_≡_, refl, sym, ap, subst, _∙_}
+use mathlib.Core.Path.{_≡_, refl, sym, ap, ap₂, _∙_}
 use mathlib.Core.List.{List, [], _∷_, _++_}
 use mathlib.Core.Bool.{Bool, true, false, cond}
 use Prim.Native.Nat.{ℕ, _≤_}
 use native.Mathlib.Omega.{arith}
-use borrow.Author.Tests.{eq-eqb, ne-eqb}
-use lib.ListN.{length, getD}
+use lib.Dec.{eqb}
+use lib.ListN.{getD}
 use Rattle.model.specs.Word.{positive}
-use Rattle.model.specs.Presentation.{Presentation, Complement, undefined, complement, swapped, complete}
+use Rattle.model.specs.Presentation.{Presentation, swapped, complete}
 use Rattle.model.specs.Reversing.{budget, room}
 use Rattle.model.specs.Enumeration.{Two, Three}
 use Rattle.model.specs.Outcome.{Outcome, refused, _>>=_}
-use Rattle.model.specs.Checks.{balanced, lengthCheck, CubeVerdict, holds, fails, halts, reported, cubeAt, cubeCheck}
+use Rattle.model.specs.Checks.{balanced, weightCheck, CubeVerdict, holds, fails, halts, reported, cubeAt, cubeCheck}
 use Rattle.model.specs.declared.answers.Stop.{Stop}
 use Rattle.model.specs.declared.answers.Stop.the-variants.{Budget, Room}
 use Rattle.model.proofs.Complete.{complete-turn}
 use Rattle.model.proofs.Impossible.{impossible}
 use Rattle.cells.specs.Layout.{cellAt}
 use Rattle.model.specs.Range.{InRange}
-use Rattle.cells.specs.Stands.{HoldsFirst, Stands, Serves, Of}
+use Rattle.cells.specs.Stands.{Serves, Of}
+use Rattle.cells.proofs.Rules.{open-cell, word-cell}
 use Rattle.checks.specs.Cube.{cubeAnswer}
-use Rattle.checks.specs.Table.{stoppedAs}
+use Rattle.checks.specs.Table.{SideWeighs, stoppedAs}
 use Rattle.checks.specs.declared.cube.CubeVerdict.the-variants.{Holds, Fails, Halts}
 
--- LENGTHS
+-- WEIGHTS
 
-module _ (cells : List ℕ) (T : Presentation) (s : Stands cells T) (a b : ℕ) (ra : InRange (T .size) a) (rb : InRange (T .size) b) where
-  -- the first bytes of the two cells of a pair
-  both-cells : (c : Complement) → complete T a b ≡ c → HoldsFirst (T .size) cells (cellAt a b) c × HoldsFirst (T .size) cells (cellAt b a) (swapped c)
-  both-cells c e = (
-    subst (HoldsFirst (T .size) cells (cellAt a b)) e (s .cell a b ra rb),
-    subst (HoldsFirst (T .size) cells (cellAt b a)) (complete-turn T a b ∙ ap swapped e) (s .cell b a rb ra),
-  )
+module _ (cells : List ℕ) (size : ℕ) (T : Presentation) (o : Of cells size T) (a b : ℕ) (ra : InRange (T .size) a) (rb : InRange (T .size) b) where
+  -- an open pair has no sides
+  pub open-balanced : getD cells (cellAt a b) 0 ≡ 255 → balanced T a b (complete T a b) ≡ true
+  open-balanced h = ap (balanced T a b) (open-cell cells T (o .stands) a b ra rb h)
 
-  pub equal-bytes : getD cells (cellAt a b) 0 ≡ getD cells (cellAt b a) 0 → balanced (complete T a b) ≡ true
-  equal-bytes h = go (complete T a b) refl
-    where
-      go : (c : Complement) → complete T a b ≡ c → balanced (complete T a b) ≡ true
-      go undefined e = ap balanced e
-      go (complement x y) e =
-          let p = both-cells (complement x y) e in
-          ap balanced e ∙ eq-eqb (length x) (length y) (sym (p .0 .count) ∙ (h ∙ p .1 .count))
-
-  pub unequal-bytes : (getD cells (cellAt a b) 0 ≡ getD cells (cellAt b a) 0 → ⊥) → balanced (complete T a b) ≡ false
-  unequal-bytes h = go (complete T a b) refl
-    where
-      go : (c : Complement) → complete T a b ≡ c → balanced (complete T a b) ≡ false
-      go undefined e = let p = both-cells undefined e in absurd (h (p .0 ∙ sym (p .1)))
-      go (complement x y) e =
-          let p = both-cells (complement x y) e in
-          ap balanced e ∙ ne-eqb (length x) (length y) (λ g. h (p .0 .count ∙ (g ∙ sym (p .1 .count))))
+  module _ (d : getD cells (cellAt a b) 0 ≡ 255 → ⊥) (r l : ℕ) (there : SideWeighs cells size a b r) (back : SideWeighs cells size b a l) where
+    -- both sides, as they were weighed
+    pub sides-weighed : eqb r l ≡ balanced T a b (complete T a b)
+    sides-weighed =
+        let w = word-cell cells T (o .stands) a b ra rb d in
+        ap₂ eqb (there T o (w .x) (w .y) (w .rule)) (back T o (w .y) (w .x) (complete-turn T a b ∙ ap swapped (w .rule))) ∙ sym (ap (balanced T a b) (w .rule))
 
 module _ (T : Presentation) (p : Two) (ps : List Two) where
-  pub pair-passes : balanced (complete T (p .a) (p .b)) ≡ true → lengthCheck T (p ∷ ps) ≡ lengthCheck T ps
-  pair-passes e = ap (λ t. cond t (lengthCheck T ps) (refused 8 (p .a ∷ p .b ∷ []))) e
+  pub pair-passes : balanced T (p .a) (p .b) (complete T (p .a) (p .b)) ≡ true → weightCheck T (p ∷ ps) ≡ weightCheck T ps
+  pair-passes e = ap (λ t. cond t (weightCheck T ps) (refused 8 (p .a ∷ p .b ∷ []))) e
 
-  pub pair-fails : balanced (complete T (p .a) (p .b)) ≡ false → lengthCheck T (p ∷ ps) ≡ refused 8 (p .a ∷ p .b ∷ [])
-  pair-fails e = ap (λ t. cond t (lengthCheck T ps) (refused 8 (p .a ∷ p .b ∷ []))) e
+  pub pair-fails : balanced T (p .a) (p .b) (complete T (p .a) (p .b)) ≡ false → weightCheck T (p ∷ ps) ≡ refused 8 (p .a ∷ p .b ∷ [])
+  pair-fails e = ap (λ t. cond t (weightCheck T ps) (refused 8 (p .a ∷ p .b ∷ []))) e
 
-lengths-by : (T : Presentation) (t : Bool) (p : Two) (x y : Outcome (Unit {0})) → (cond t x (refused 8 (p .a ∷ p .b ∷ [])) >>= λ ok. y) ≡ cond t (x >>= λ ok. y) (refused 8 (p .a ∷ p .b ∷ []))
-lengths-by T true p x y = refl
-lengths-by T false p x y = refl
+weights-by : (T : Presentation) (t : Bool) (p : Two) (x y : Outcome (Unit {0})) → (cond t x (refused 8 (p .a ∷ p .b ∷ [])) >>= λ ok. y) ≡ cond t (x >>= λ ok. y) (refused 8 (p .a ∷ p .b ∷ []))
+weights-by T true p x y = refl
+weights-by T false p x y = refl
 
-pub lengths-append : (T : Presentation) (xs ys : List Two) → lengthCheck T (xs ++ ys) ≡ (lengthCheck T xs >>= λ ok. lengthCheck T ys)
-lengths-append T [] ys = refl
-lengths-append T (p ∷ xs) ys =
-    ap (λ o. cond (balanced (complete T (p .a) (p .b))) o (refused 8 (p .a ∷ p .b ∷ []))) (lengths-append T xs ys)
-    ∙ sym (lengths-by T (balanced (complete T (p .a) (p .b))) p (lengthCheck T xs) (lengthCheck T ys))
+pub weights-append : (T : Presentation) (xs ys : List Two) → weightCheck T (xs ++ ys) ≡ (weightCheck T xs >>= λ ok. weightCheck T ys)
+weights-append T [] ys = refl
+weights-append T (p ∷ xs) ys =
+    ap (λ o. cond (balanced T (p .a) (p .b) (complete T (p .a) (p .b))) o (refused 8 (p .a ∷ p .b ∷ []))) (weights-append T xs ys)
+    ∙ sym (weights-by T (balanced T (p .a) (p .b) (complete T (p .a) (p .b))) p (weightCheck T xs) (weightCheck T ys))
 
 -- TRIPLES
 

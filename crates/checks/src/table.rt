@@ -1,17 +1,20 @@
 ghost use mathlib.Core.Path.{_≡_};
 ghost use Prim.Native.Nat.{_≤_};
 ghost use lib.ListN.{length};
+ghost use Rattle.model.specs.Range.{InRange};
 ghost use Rattle.cells.specs.Stands.{Sized};
-ghost use Rattle.checks.specs.Table.{RowMeans, LengthsMean, TriplesMean};
+ghost use Rattle.checks.specs.Table.{Related, SideWeighs, PairMeans, RowMeans, WeightsMean, TriplesMean};
 use crate::cube::CubeVerdict;
 use crate::cube::cube_at;
+use cells::layout::UNDEFINED;
 use cells::layout::cell_at;
+use cells::weights::letter_weight;
 use model::answers::Pair;
 use model::answers::Stop;
 use model::answers::Triple;
 
-// Whether both words of every pair are equally long, or the first pair where they are not.
-pub enum Lengths {
+// Whether both sides of every relation weigh the same, or the first pair where they do not.
+pub enum Weights {
     Equal,
     Unequal(Pair),
 }
@@ -23,39 +26,66 @@ pub enum Triples {
     Halt(Stop, Triple),
 }
 
-// The pairs of one letter with those after it. The cells of an undefined pair begin with the same byte.
-pub fn row_lengths(cells: &[u8], size: u8, a: u8) -> Lengths
+// The weight of the side of a relation that begins with a: a followed by C(a,b).
+pub fn side_weight(cells: &[u8], size: u8, a: u8, b: u8) -> u16
+    requires table { ⌜ Sized (now cells) size ⌝ }
+    requires pair { ⌜ Related (now cells) size a b ⌝ }
+    ensures { λ r. ⌜ SideWeighs (now (cells .entry)) size a b r ⌝ }
+{
+    let cell = cell_at(a, b);
+    let count = cells[cell] as usize;
+    let mut weight = letter_weight(cells, a);
+    let mut k: usize = 0;
+    while k < count {
+        weight = weight + letter_weight(cells, cells[cell + 1 + k]);
+        k += 1;
+    }
+    weight
+}
+
+// Whether the two sides of a pair's relation weigh the same; an open pair has none.
+pub fn sides_balanced(cells: &[u8], size: u8, a: u8, b: u8) -> bool
+    requires { ⌜ Sized (now cells) size × InRange size a × InRange size b ⌝ }
+    ensures { λ r. ⌜ PairMeans (now (cells .entry)) size a b r ⌝ }
+{
+    let cell = cell_at(a, b);
+    if cells[cell] == UNDEFINED {
+        return true;
+    }
+    side_weight(cells, size, a, b) == side_weight(cells, size, b, a)
+}
+
+// The pairs of one letter with those after it.
+pub fn row_weights(cells: &[u8], size: u8, a: u8) -> Weights
     requires { ⌜ Sized (now cells) size × (1 ≤ a) × (a ≤ size) ⌝ }
     ensures { λ r. ⌜ RowMeans (now (cells .entry)) size a r ⌝ }
 {
     let mut b = a + 1;
     while b <= size {
-        let to_b = cell_at(a, b);
-        let to_a = cell_at(b, a);
-        if cells[to_b] != cells[to_a] {
-            return Lengths::Unequal(Pair { a, b });
+        if !sides_balanced(cells, size, a, b) {
+            return Weights::Unequal(Pair { a, b });
         }
         b += 1;
     }
-    Lengths::Equal
+    Weights::Equal
 }
 
-// The length check.
-pub fn check_lengths(cells: &[u8], size: u8) -> Lengths
+// The weight check.
+pub fn check_weights(cells: &[u8], size: u8) -> Weights
     requires { ⌜ Sized (now cells) size ⌝ }
-    ensures { λ r. ⌜ LengthsMean (now (cells .entry)) size r ⌝ }
+    ensures { λ r. ⌜ WeightsMean (now (cells .entry)) size r ⌝ }
 {
     let mut a: u8 = 1;
     while a <= size {
-        let row = row_lengths(cells, size, a);
+        let row = row_weights(cells, size, a);
         match row {
-            Lengths::Unequal(pair) => return Lengths::Unequal(pair),
-            Lengths::Equal => {
+            Weights::Unequal(pair) => return Weights::Unequal(pair),
+            Weights::Equal => {
                 a += 1;
             }
         }
     }
-    Lengths::Equal
+    Weights::Equal
 }
 
 // The cube check: the first triple that fails, or at which a reversing is stopped, ends the search.

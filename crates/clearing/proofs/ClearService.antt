@@ -6,7 +6,7 @@ use lib.ListN.{length, replicate}
 use Rattle.model.specs.Presentation.{Presentation}
 use Rattle.model.specs.Enumeration.{pairs, triples}
 use Rattle.model.specs.Outcome.{Outcome, answered}
-use Rattle.model.specs.Checks.{lengthCheck, cubeCheck, cleared}
+use Rattle.model.specs.Checks.{weightCheck, cubeCheck, cleared}
 use Rattle.model.specs.Images.{readTable}
 use Rattle.model.specs.Services.{clear}
 use Rattle.model.specs.Areas.{workspaceAfter}
@@ -14,12 +14,12 @@ use Rattle.model.specs.Stated.{refusal, clearedAs}
 use Rattle.model.specs.declared.answers.Pair.{Pair}
 use Rattle.model.specs.declared.answers.Stop.the-variants.{Budget, Room}
 use Rattle.model.specs.declared.answers.Refusal.{Refusal}
-use Rattle.model.specs.declared.answers.Refusal.the-variants.{UnequalLengths}
+use Rattle.model.specs.declared.answers.Refusal.the-variants.{UnequalWeights}
 use Rattle.model.specs.declared.answers.Cleared.the-variants.{Refused}
-use Rattle.theory.proofs.Balance.{length-meaning}
+use Rattle.theory.proofs.Balance.{weight-meaning}
 use Rattle.theory.proofs.Checked.{cube-exactly}
-use Rattle.checks.specs.Table.{triplesAs, LengthsMean, TriplesMean}
-use Rattle.checks.specs.declared.table.Lengths.the-variants.{Equal, Unequal}
+use Rattle.checks.specs.Table.{triplesAs, WeightsMean, TriplesMean}
+use Rattle.checks.specs.declared.table.Weights.the-variants.{Equal, Unequal}
 use Rattle.checks.specs.declared.table.Triples.{Triples}
 use Rattle.checks.specs.declared.table.Triples.the-variants.{Hold, Fail, Halt}
 use Rattle.clearing.specs.Clear.{triplesRefusal, ClearMeans, ChecksMeaning, ClearMeaning}
@@ -39,20 +39,20 @@ triples-wipe (Halt Budget t) area = refl
 triples-wipe (Halt Room t) area = refl
 
 module _ (cells : List ℕ) (size budget width : ℕ) where
-  pub lengths-refuse : (p : Pair) → LengthsMean cells size (Unequal p) → ClearMeans cells size budget width (Refused (UnequalLengths p))
+  pub weights-refuse : (p : Pair) → WeightsMean cells size (Unequal p) → ClearMeans cells size budget width (Refused (UnequalWeights p))
   unfolding cleared
-  lengths-refuse p m T o =
-      let e : lengthCheck T (pairs (T .size)) ≡ refusal (UnequalLengths p) = ap (λ n. lengthCheck T (pairs n)) (o .sized) ∙ sym (m T o) in
-      sym (still-refused (lengthCheck T (pairs (T .size))) (UnequalLengths p) e (λ ok. cubeCheck T budget width (triples (T .size))))
+  weights-refuse p m T o =
+      let e : weightCheck T (pairs (T .size)) ≡ refusal (UnequalWeights p) = ap (λ n. weightCheck T (pairs n)) (o .sized) ∙ sym (m T o) in
+      sym (still-refused (weightCheck T (pairs (T .size))) (UnequalWeights p) e (λ ok. cubeCheck T budget width (triples (T .size))))
 
-  pub triples-clear : (f : Triples) → LengthsMean cells size Equal → TriplesMean cells size width budget f → ClearMeans cells size budget width (triplesRefusal f)
+  pub triples-clear : (f : Triples) → WeightsMean cells size Equal → TriplesMean cells size width budget f → ClearMeans cells size budget width (triplesRefusal f)
   unfolding cleared
   triples-clear f m t T o =
-      let e : lengthCheck T (pairs (T .size)) ≡ answered tt = ap (λ n. lengthCheck T (pairs n)) (o .sized) ∙ sym (m T o) in
+      let e : weightCheck T (pairs (T .size)) ≡ answered tt = ap (λ n. weightCheck T (pairs n)) (o .sized) ∙ sym (m T o) in
       triples-stated f
       ∙ (t T o
       ∙ (ap (λ n. cubeCheck T budget width (triples n)) (sym (o .sized))
-      ∙ sym (goes-on (lengthCheck T (pairs (T .size))) tt e (λ ok. cubeCheck T budget width (triples (T .size))))))
+      ∙ sym (goes-on (weightCheck T (pairs (T .size))) tt e (λ ok. cubeCheck T budget width (triples (T .size))))))
 
 module _ (table : List ℕ) (steps width : ℕ) where
   pub clear-no-table : (r : Refusal) → readTable table ≡ refusal r → clear table steps width ≡ refusal r
@@ -65,4 +65,4 @@ module _ (table : List ℕ) (steps width : ℕ) where
 
   pub clear-says : (o : Outcome (Unit {0})) → o ≡ clear table steps width → ClearMeaning table o
   clear-says o e T t =
-      subst (ChecksMeaning T) (sym (e ∙ clear-runs T t)) (record { lengths = length-meaning T steps width; cube = cube-exactly T steps width })
+      subst (ChecksMeaning T) (sym (e ∙ clear-runs T t)) (record { weights = weight-meaning T steps width; cube = cube-exactly T steps width })

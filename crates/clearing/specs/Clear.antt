@@ -12,7 +12,7 @@ use Rattle.model.specs.declared.answers.Place.the-variants.{Triple}
 use Rattle.model.specs.declared.answers.Refusal.the-variants.{CubeFails, AllowanceUsed, WorkspaceShort}
 use Rattle.model.specs.declared.answers.Cleared.{Cleared}
 use Rattle.model.specs.declared.answers.Cleared.the-variants.{Passed, Refused}
-use Rattle.theory.specs.Balance.{LengthMeaning}
+use Rattle.theory.specs.Balance.{WeightMeaning}
 use Rattle.theory.specs.Cube.{CubeMeaning}
 use Rattle.cells.specs.Stands.{Of}
 use Rattle.checks.specs.declared.table.Triples.{Triples}
@@ -28,9 +28,9 @@ triplesRefusal (Halt Room t) = Refused (WorkspaceShort (Triple t))
 abbrev pub ClearMeans : List ℕ → ℕ → ℕ → ℕ → Cleared → Type 0
 ClearMeans cells size budget width r = (T : Presentation) → Of cells size T → clearedAs r ≡ cleared T budget width
 
--- what the outcome says of the two checks: of lengths that reversing keeps in balance, and of the cube rule
+-- what the outcome says of the two checks: of weights that reversing keeps in balance, and of the cube rule
 pub record ChecksMeaning (T : Presentation) (outcome : Outcome (Unit {0})) : Type 0 where
-  pub lengths : LengthMeaning T outcome
+  pub weights : WeightMeaning T outcome
   pub cube : CubeMeaning T outcome
 
 -- of the table in the image

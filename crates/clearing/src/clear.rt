@@ -1,4 +1,4 @@
-// Clear (specification 6.3): both checks of a table, that of lengths first.
+// Clear (specification 6.3): both checks of a table, that of weights first.
 ghost use mathlib.Core.Path.{_≡_};
 ghost use lib.ListN.{length};
 ghost use Rattle.model.specs.Services.{clear};
@@ -8,10 +8,10 @@ ghost use Rattle.cells.specs.Stands.{Sized};
 ghost use Rattle.clearing.specs.Clear.{triplesRefusal, ClearMeans, ClearMeaning};
 use areas::bytes::wipe;
 use cells::layout::CELLS;
-use checks::table::Lengths;
 use checks::table::Triples;
-use checks::table::check_lengths;
+use checks::table::Weights;
 use checks::table::check_triples;
+use checks::table::check_weights;
 use images::tables::TableRead;
 use images::tables::read_table;
 use model::answers::Cleared;
@@ -33,16 +33,16 @@ pub fn triples_answer(found: Triples) -> Cleared
     }
 }
 
-// Clears a table that was loaded. The workspace is wiped, unless a pair failed the length check before the work began.
+// Clears a table that was loaded. The workspace is wiped, unless a pair failed the weight check before the work began.
 pub fn clear_cells(cells: &[u8], size: u8, budget: u16, workspace: &mut [u8]) -> Cleared
     requires { ⌜ Sized (now cells) size ⌝ }
     ensures clear { λ r. ⌜ ClearMeans (now (cells .entry)) size budget (length (now (workspace .entry))) r ⌝ }
     ensures workspace { λ r. ⌜ now (workspace .exit) ≡ workspaceAfter (clearedAs r) (now (workspace .entry)) ⌝ }
 {
-    let lengths = check_lengths(cells, size);
-    match lengths {
-        Lengths::Unequal(pair) => Cleared::Refused(Refusal::UnequalLengths(pair)),
-        Lengths::Equal => {
+    let weights = check_weights(cells, size);
+    match weights {
+        Weights::Unequal(pair) => Cleared::Refused(Refusal::UnequalWeights(pair)),
+        Weights::Equal => {
             let found = check_triples(cells, size, workspace, budget);
             wipe(workspace);
             triples_answer(found)

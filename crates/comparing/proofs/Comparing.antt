@@ -8,7 +8,7 @@ use borrow.Author.Tests.{eq-eqb, ne-eqb}
 use lib.Dec.{eqb}
 use lib.ListN.{length, replicate}
 use Rattle.model.specs.Word.{Positive, positive, negative}
-use Rattle.model.specs.Presentation.{Presentation}
+use Rattle.model.specs.Presentation.{Presentation, weigh}
 use Rattle.model.specs.Reversing.{Ending, finished, open-pair, stopped, budget, room, reversing}
 use Rattle.model.specs.Outcome.{Outcome, answered}
 use Rattle.model.specs.Checks.{cleared}
@@ -75,19 +75,19 @@ module _ (T : Presentation) (u v : Positive) (steps width : ℕ) where
 
   module _ (clear : answered tt ≡ cleared T steps width) where
     after-clear : comparison T u v steps width
-        ≡ cond (eqb (length u) (length v)) (verdictOf (reversing T steps width (negative u ++ positive v))) (answered (different-after 0))
+        ≡ cond (eqb (weigh T u) (weigh T v)) (verdictOf (reversing T steps width (negative u ++ positive v))) (answered (different-after 0))
     unfolding comparison
     after-clear = goes-on (cleared T steps width) tt (sym clear) _
 
-    pub unequal-programs : (length u ≡ length v → ⊥) → Judged T u v steps width (Different 0)
+    pub unequal-programs : (weigh T u ≡ weigh T v → ⊥) → Judged T u v steps width (Different 0)
     unequal-programs h =
         record {
           verdict =
-              sym (after-clear ∙ ap (λ t. cond t (verdictOf (reversing T steps width (negative u ++ positive v))) (answered (different-after 0))) (ne-eqb (length u) (length v) h));
+              sym (after-clear ∙ ap (λ t. cond t (verdictOf (reversing T steps width (negative u ++ positive v))) (answered (different-after 0))) (ne-eqb (weigh T u) (weigh T v) h));
           ended = tt;
         }
 
-    pub equal-programs : length u ≡ length v → (area : List ℕ) → length area ≡ width → (e : EndingAnswer) → Reverses T (negative u ++ positive v) steps area e
+    pub equal-programs : weigh T u ≡ weigh T v → (area : List ℕ) → length area ≡ width → (e : EndingAnswer) → Reverses T (negative u ++ positive v) steps area e
         → Judged T u v steps width (judgement e)
     equal-programs h area n e p =
         let end = reversing T steps width (negative u ++ positive v) in
@@ -96,13 +96,13 @@ module _ (T : Presentation) (u v : Positive) (steps width : ℕ) where
           verdict =
               ap (λ x. judgementAs (judgement x)) a
               ∙ (judgement-states end
-              ∙ sym (after-clear ∙ ap (λ t. cond t (verdictOf end) (answered (different-after 0))) (eq-eqb (length u) (length v) h)));
+              ∙ sym (after-clear ∙ ap (λ t. cond t (verdictOf end) (answered (different-after 0))) (eq-eqb (weigh T u) (weigh T v) h)));
           ended = if-same (judgement e) (sym (ap judgement a));
         }
       where
         if-same : (j : Judgement) → judgement (endingAnswer (reversing T steps width (negative u ++ positive v))) ≡ j → EndedIf T u v steps width j
         if-same (Same k r) q =
-            record { clear = sym clear; same-length = h; empty = judged-empty (reversing T steps width (negative u ++ positive v)) k r q }
+            record { clear = sym clear; same-weight = h; empty = judged-empty (reversing T steps width (negative u ++ positive v)) k r q }
         if-same (Different k) q = tt
         if-same (Refused r) q = tt
 

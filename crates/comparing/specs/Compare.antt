@@ -6,7 +6,7 @@ use Prim.Native.Nat.{ℕ, _-_}
 use lib.Dec.{eqb}
 use lib.ListN.{length}
 use Rattle.model.specs.Word.{Positive, positive, negative}
-use Rattle.model.specs.Presentation.{Presentation}
+use Rattle.model.specs.Presentation.{Presentation, weigh}
 use Rattle.model.specs.Reversing.{finished, reversing}
 use Rattle.model.specs.Outcome.{Outcome, answered}
 use Rattle.model.specs.Checks.{cleared}
@@ -42,7 +42,7 @@ judgementAs (Refused r) = refusal r
 -- a verdict `same` comes from a reversing that ended empty, after a table that cleared
 pub record Ended (T : Presentation) (u v : Positive) (budget width k r : ℕ) : Type 0 where
   pub clear : cleared T budget width ≡ answered tt
-  pub same-length : length u ≡ length v
+  pub same-weight : weigh T u ≡ weigh T v
   pub empty : reversing T budget width (negative u ++ positive v) ≡ finished [] [] k r
 
 abbrev pub EndedIf : Presentation → Positive → Positive → ℕ → ℕ → Judgement → Type 0

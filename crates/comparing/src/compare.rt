@@ -13,6 +13,7 @@ use clearing::clear::clear_cells;
 use loading::comparison::run_programs;
 use loading::loading::ProgramsRead;
 use loading::loading::read_programs;
+use loading::weighing::program_weight;
 use model::answers::Cleared;
 use model::answers::Compared;
 use model::answers::Ending;
@@ -50,7 +51,7 @@ pub fn judge(ending: Ending) -> Judgement
     }
 }
 
-// Two accepted forward programs under a table that was loaded. The workspace is wiped, unless the length check refused.
+// Two accepted forward programs under a table that was loaded. The workspace is wiped, unless the weight check refused.
 pub fn compare_programs(
     cells: &[u8],
     size: u8,
@@ -68,7 +69,9 @@ pub fn compare_programs(
     match clear {
         Cleared::Refused(refusal) => Judgement::Refused(refusal),
         Cleared::Passed => {
-            if m != n {
+            let one = program_weight(cells, size, first, m);
+            let two = program_weight(cells, size, second, n);
+            if one != two {
                 return Judgement::Different { steps: 0 };
             }
             let ending = run_programs(cells, size, first, m, second, n, budget, workspace);

@@ -21,10 +21,10 @@ use Rattle.entries.specs.Entry.{EntryInside, Same}
 
 -- POSITIONS
 
-product-small : (index width : ℕ) → index < 65536 → width ≤ 4 → index * (12 + 2 * width) ≤ 65536 * 20
-product-small index width h w = mul-le-mul {n₁ = index} {m₁ = 12 + 2 * width} {n₂ = 65536} {m₂ = 20} (omega arith) (omega arith)
+product-small : (index width : ℕ) → index < 65536 → width ≤ 4 → index * (15 + 2 * width) ≤ 65536 * 23
+product-small index width h w = mul-le-mul {n₁ = index} {m₁ = 15 + 2 * width} {n₂ = 65536} {m₂ = 23} (omega arith) (omega arith)
 
-pub position-small : (n index width : ℕ) → index < 65536 → width ≡ letterWidth n → index * (12 + 2 * width) ≤ 2000000
+pub position-small : (n index width : ℕ) → index < 65536 → width ≡ letterWidth n → index * (15 + 2 * width) ≤ 2000000
 position-small n index width h e = omega (arith, product-small index width h (omega (arith, width-small n)))
 
 pub entry-small : (n index : ℕ) → index < 65536 → entryPosition n index + entryWidth n ≤ 2000000
@@ -32,7 +32,7 @@ entry-small n index h = omega (arith, product-small index (letterWidth n) h (wid
 
 pub length-entry : (n : ℕ) (e : Entry) → length (entryBits n e) ≡ entryWidth n
 length-entry n e =
-    length-append (digits 12 (e .offset)) (letterBits n (e .a) ++ letterBits n (e .b))
+    length-append (digits 15 (e .offset)) (letterBits n (e .a) ++ letterBits n (e .b))
     ∙ omega (
       arith,
       length-append (letterBits n (e .a)) (letterBits n (e .b)),
@@ -42,14 +42,14 @@ length-entry n e =
 
 -- where the fields of an entry lie
 module _ {n index : ℕ} {answer : List ℕ} (h : EntryInside n index answer) where
-  pub first-inside : (at : ℕ) → at ≡ entryPosition n index → Inside answer at 12
+  pub first-inside : (at : ℕ) → at ≡ entryPosition n index → Inside answer at 15
   first-inside at e = record { narrow = omega arith; inside = omega (arith, h .inside); small = omega (arith, entry-small n index (h .low)) }
 
-  pub second-inside : (at width : ℕ) → at ≡ entryPosition n index → width ≡ letterWidth n → Inside answer (at + 12) width
+  pub second-inside : (at width : ℕ) → at ≡ entryPosition n index → width ≡ letterWidth n → Inside answer (at + 15) width
   second-inside at width e f =
       record { narrow = omega (arith, width-small n); inside = omega (arith, h .inside); small = omega (arith, entry-small n index (h .low)) }
 
-  pub third-inside : (at width : ℕ) → at ≡ entryPosition n index → width ≡ letterWidth n → Inside answer (at + 12 + width) width
+  pub third-inside : (at width : ℕ) → at ≡ entryPosition n index → width ≡ letterWidth n → Inside answer (at + 15 + width) width
   third-inside at width e f =
       record { narrow = omega (arith, width-small n); inside = omega (arith, h .inside); small = omega (arith, entry-small n index (h .low)) }
 
@@ -60,26 +60,26 @@ inside-as e h = record { some = h .some; few = h .few; low = h .low; inside = om
 -- an entry from its three fields
 module _ {n index : ℕ} {before : List ℕ} (h : EntryInside n index before) (e : Entry) (at width : ℕ) (ea : at ≡ entryPosition n index) (ew : width ≡ letterWidth n)
     (one two three : List ℕ) where
-  pub entry-placed : Written before at 12 (e .offset) one → Written one (at + 12) width (e .a - 1) two → Written two (at + 12 + width) width (e .b - 1) three
+  pub entry-placed : Written before at 15 (e .offset) one → Written one (at + 15) width (e .a - 1) two → Written two (at + 15 + width) width (e .b - 1) three
       → Appended before (entryPosition n index) (entryBits n e) three
   entry-placed p q r =
-      let pa : Appended before at (digits 12 (e .offset)) one = appended-field _ _ _ _ _ p in
-      let pb : Appended one (at + 12) (digits width (e .a - 1)) two = appended-field _ _ _ _ _ q in
-      let pc : Appended two (at + 12 + width) (digits width (e .b - 1)) three = appended-field _ _ _ _ _ r in
-      let la : length (digits 12 (e .offset)) ≡ 12 = length-digits 12 (e .offset) in
+      let pa : Appended before at (digits 15 (e .offset)) one = appended-field _ _ _ _ _ p in
+      let pb : Appended one (at + 15) (digits width (e .a - 1)) two = appended-field _ _ _ _ _ q in
+      let pc : Appended two (at + 15 + width) (digits width (e .b - 1)) three = appended-field _ _ _ _ _ r in
+      let la : length (digits 15 (e .offset)) ≡ 15 = length-digits 15 (e .offset) in
       let lb : length (digits width (e .a - 1)) ≡ width = length-digits width (e .a - 1) in
       let lc : length (digits width (e .b - 1)) ≡ width = length-digits width (e .b - 1) in
-      let lab : length (digits 12 (e .offset) ++ digits width (e .a - 1)) ≡ 12 + width =
-      length-append (digits 12 (e .offset)) (digits width (e .a - 1)) ∙ ap₂ (λ i j. i + j) la lb in
+      let lab : length (digits 15 (e .offset) ++ digits width (e .a - 1)) ≡ 15 + width =
+      length-append (digits 15 (e .offset)) (digits width (e .a - 1)) ∙ ap₂ (λ i j. i + j) la lb in
       let ab =
-      appended-more before at (digits 12 (e .offset)) one (digits width (e .a - 1)) two (omega (arith, h .inside))
+      appended-more before at (digits 15 (e .offset)) one (digits width (e .a - 1)) two (omega (arith, h .inside))
       pa (appended-as (ap (λ i. at + i) (sym la)) refl pb) in
       let abc =
-      appended-more before at (digits 12 (e .offset) ++ digits width (e .a - 1)) two (digits width (e .b - 1)) three (omega (arith, h .inside))
+      appended-more before at (digits 15 (e .offset) ++ digits width (e .a - 1)) two (digits width (e .b - 1)) three (omega (arith, h .inside))
       ab (appended-as (omega arith) refl pc) in
       appended-as ea
-      (append-assoc (digits 12 (e .offset)) (digits width (e .a - 1)) (digits width (e .b - 1))
-      ∙ ap (λ w. digits 12 (e .offset) ++ (digits w (e .a - 1) ++ digits w (e .b - 1))) ew) abc
+      (append-assoc (digits 15 (e .offset)) (digits width (e .a - 1)) (digits width (e .b - 1))
+      ∙ ap (λ w. digits 15 (e .offset) ++ (digits w (e .a - 1) ++ digits w (e .b - 1))) ew) abc
 
 -- FIELDS READ
 
@@ -98,39 +98,39 @@ module _ {n index : ℕ} {answer : List ℕ} (h : EntryInside n index answer) (a
       omega (arith, field-fits answer from width i width (omega arith))
 
   module _ (e : Entry) (rest : List ℕ) (fit : EntryInRange n e) (there : drop (entryPosition n index) (bitsOf answer) ≡ entryBits n e ++ rest) where
-    bits-there : drop at (bitsOf answer) ≡ digits 12 (e .offset) ++ (digits width (e .a - 1) ++ (digits width (e .b - 1) ++ rest))
+    bits-there : drop at (bitsOf answer) ≡ digits 15 (e .offset) ++ (digits width (e .a - 1) ++ (digits width (e .b - 1) ++ rest))
     bits-there =
         ap (λ i. drop i (bitsOf answer)) ea
         ∙ (there
-        ∙ (regroup (digits 12 (e .offset)) (digits (letterWidth n) (e .a - 1)) (digits (letterWidth n) (e .b - 1)) rest
-        ∙ ap (λ w. digits 12 (e .offset) ++ (digits w (e .a - 1) ++ (digits w (e .b - 1) ++ rest))) (sym ew)))
+        ∙ (regroup (digits 15 (e .offset)) (digits (letterWidth n) (e .a - 1)) (digits (letterWidth n) (e .b - 1)) rest
+        ∙ ap (λ w. digits 15 (e .offset) ++ (digits w (e .a - 1) ++ (digits w (e .b - 1) ++ rest))) (sym ew)))
 
-    pub entry-read : (s : ChainEntry) (x y : ℕ) → s .offset ≡ number 0 (take 12 (drop at (bitsOf answer))) → x ≡ number 0 (take width (drop (at + 12) (bitsOf answer)))
-        → y ≡ number 0 (take width (drop (at + 12 + width) (bitsOf answer))) → s .a ≡ x + 1 → s .b ≡ y + 1 → Same e s
+    pub entry-read : (s : ChainEntry) (x y : ℕ) → s .offset ≡ number 0 (take 15 (drop at (bitsOf answer))) → x ≡ number 0 (take width (drop (at + 15) (bitsOf answer)))
+        → y ≡ number 0 (take width (drop (at + 15 + width) (bitsOf answer))) → s .a ≡ x + 1 → s .b ≡ y + 1 → Same e s
     entry-read s x y ec ex ey xa yb =
-        let la : length (digits 12 (e .offset)) ≡ 12 = length-digits 12 (e .offset) in
+        let la : length (digits 15 (e .offset)) ≡ 15 = length-digits 15 (e .offset) in
         let lb : length (digits width (e .a - 1)) ≡ width = length-digits width (e .a - 1) in
         let lc : length (digits width (e .b - 1)) ≡ width = length-digits width (e .b - 1) in
-        let lab : length (digits 12 (e .offset) ++ digits width (e .a - 1)) ≡ 12 + width =
-        length-append (digits 12 (e .offset)) (digits width (e .a - 1)) ∙ ap₂ (λ i j. i + j) la lb in
+        let lab : length (digits 15 (e .offset) ++ digits width (e .a - 1)) ≡ 15 + width =
+        length-append (digits 15 (e .offset)) (digits width (e .a - 1)) ∙ ap₂ (λ i j. i + j) la lb in
         let fa : e .a - 1 < 2 ^ width = rw ew (letter-fits n (e .a) (h .few) (fit .a-names .low) (fit .a-names .high)) in
         let fb : e .b - 1 < 2 ^ width = rw ew (letter-fits n (e .b) (h .few) (fit .b-names .low) (fit .b-names .high)) in
         let c : s .offset ≡ e .offset =
         ec
-        ∙ (ap (number 0) (ap (take 12) bits-there ∙ take-at (digits 12 (e .offset)) (digits width (e .a - 1) ++ (digits width (e .b - 1) ++ rest)) 12 la)
-        ∙ number-of-digits 12 (e .offset) (omega (arith, fit .offset-small))) in
+        ∙ (ap (number 0) (ap (take 15) bits-there ∙ take-at (digits 15 (e .offset)) (digits width (e .a - 1) ++ (digits width (e .b - 1) ++ rest)) 15 la)
+        ∙ number-of-digits 15 (e .offset) (omega (arith, fit .offset-small))) in
         let a : x ≡ e .a - 1 =
         ex
         ∙ (ap (number 0)
-        (field-at (bitsOf answer) at (digits 12 (e .offset)) (digits width (e .a - 1)) (digits width (e .b - 1) ++ rest) 12 width bits-there la lb)
+        (field-at (bitsOf answer) at (digits 15 (e .offset)) (digits width (e .a - 1)) (digits width (e .b - 1) ++ rest) 15 width bits-there la lb)
         ∙ number-of-digits width (e .a - 1) fa) in
-        let place : at + 12 + width ≡ at + (12 + width) = omega arith in
+        let place : at + 15 + width ≡ at + (15 + width) = omega arith in
         let b : y ≡ e .b - 1 =
         ey
         ∙ (ap (λ i. number 0 (take width (drop i (bitsOf answer)))) place
         ∙ (ap (number 0)
-        (field-at (bitsOf answer) at (digits 12 (e .offset) ++ digits width (e .a - 1)) (digits width (e .b - 1)) rest (12 + width) width
-        (bits-there ∙ sym (append-assoc (digits 12 (e .offset)) (digits width (e .a - 1)) (digits width (e .b - 1) ++ rest))) lab lc)
+        (field-at (bitsOf answer) at (digits 15 (e .offset) ++ digits width (e .a - 1)) (digits width (e .b - 1)) rest (15 + width) width
+        (bits-there ∙ sym (append-assoc (digits 15 (e .offset)) (digits width (e .a - 1)) (digits width (e .b - 1) ++ rest))) lab lc)
         ∙ number-of-digits width (e .b - 1) fb)) in
         record {
           offset = c;

@@ -11,7 +11,7 @@ use bits::write_field;
 // The bits of a chain's count, and of an entry's offset.
 pub const COUNT_BITS: usize = 16;
 
-pub const OFFSET_BITS: usize = 12;
+pub const OFFSET_BITS: usize = 15;
 
 // An entry (specification 2.3): which side of the relation of a, b is exchanged, and where. While a chain is listed, an entry may stand for a
 // face that is not done, with the number of its letters left as the offset.

@@ -15,7 +15,7 @@ use Rattle.model.specs.Word.{forward, back, letter}
 use Rattle.model.specs.Presentation.{Presentation, Complement}
 use Rattle.model.specs.Enumeration.{concatMap}
 use Rattle.model.specs.Bits.{bitsOf, digits, bytesFor, pack, letterWidth}
-use Rattle.model.specs.Images.{letterBits, signedBits, programImage, pairBits, tableImage}
+use Rattle.model.specs.Images.{weightWidth, letterBits, signedBits, programImage, pairBits, tableImage}
 use Rattle.model.specs.Plain.{namesLetter}
 use Rattle.model.specs.Areas.{begins}
 use Rattle.bits.specs.Fields.{Appended}
@@ -206,10 +206,15 @@ zero-image n after bits r fits bs w =
     ∙ sym (pack-bits bits r))))))
 
 -- the bits of a table
-pub table-bits : (size : ℕ) (rows : List (List Complement)) → AreBits (digits 4 (size - 1) ++ concatMap (concatMap (pairBits size)) rows)
-table-bits size rows =
-    bits-append (digits 4 (size - 1)) (concatMap (concatMap (pairBits size)) rows) (digits-are-bits 4 (size - 1)) (concat-bits (concatMap (pairBits size)) (concat-bits (pairBits size) (pair-are-bits size)) rows)
+abbrev tableBits : ℕ → List ℕ → List (List Complement) → List ℕ
+tableBits size excess rows = digits 4 (size - 1) ++ (concatMap (digits weightWidth) excess ++ concatMap (concatMap (pairBits size)) rows)
 
-pub table-image : (T : Presentation) (size : ℕ) → T .size ≡ size → tableImage T ≡ pack (digits 4 (size - 1) ++ concatMap (concatMap (pairBits size)) (T .rows))
+pub table-bits : (size : ℕ) (excess : List ℕ) (rows : List (List Complement)) → AreBits (tableBits size excess rows)
+table-bits size excess rows =
+    bits-append (digits 4 (size - 1)) (concatMap (digits weightWidth) excess ++ concatMap (concatMap (pairBits size)) rows) (digits-are-bits 4 (size - 1))
+    (bits-append (concatMap (digits weightWidth) excess) (concatMap (concatMap (pairBits size)) rows) (concat-bits (digits weightWidth) (digits-are-bits weightWidth) excess)
+    (concat-bits (concatMap (pairBits size)) (concat-bits (pairBits size) (pair-are-bits size)) rows))
+
+pub table-image : (T : Presentation) (size : ℕ) → T .size ≡ size → tableImage T ≡ pack (tableBits size (T .excess) (T .rows))
 unfolding tableImage
-table-image T size e = ap (λ n. pack (digits 4 (n - 1) ++ concatMap (concatMap (pairBits n)) (T .rows))) e
+table-image T size e = ap (λ n. pack (tableBits n (T .excess) (T .rows))) e

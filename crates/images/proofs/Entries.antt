@@ -31,27 +31,27 @@ module _ (image : List ℕ) (at size width : ℕ) where
   unfolding second
   first o = letterField 4 5 size (o .rest) >>= second (o .value)
 
-  pub offset-ends : ((early : ℕ) → field early 12 (from image at) ≡ refused early []) → entryField size (from image at) ≡ refused 4 []
+  pub offset-ends : ((early : ℕ) → field early 15 (from image at) ≡ refused early []) → entryField size (from image at) ≡ refused 4 []
   unfolding first second last
   offset-ends e = ap (λ o. o >>= first) (e 4)
 
-  module _ (offset : ℕ) (h : FieldAt image at 12 offset) where
-    after-offset : entryField size (from image at) ≡ (letterField 4 5 size (from image (at + 12)) >>= second offset)
+  module _ (offset : ℕ) (h : FieldAt image at 15 offset) where
+    after-offset : entryField size (from image at) ≡ (letterField 4 5 size (from image (at + 15)) >>= second offset)
     unfolding first second last
     after-offset = ap (λ o. o >>= first) (h .read 4)
 
-    pub first-refused : (n : ℕ) → letterField 4 5 size (from image (at + 12)) ≡ refused n [] → entryField size (from image at) ≡ refused n []
+    pub first-refused : (n : ℕ) → letterField 4 5 size (from image (at + 15)) ≡ refused n [] → entryField size (from image at) ≡ refused n []
     first-refused n e = after-offset ∙ ap (λ o. o >>= second offset) e
 
-    module _ (a : ℕ) (x : LetterAt image (at + 12) size width a) where
-      after-first : entryField size (from image at) ≡ (letterField 4 5 size (from image (at + 12 + width)) >>= last offset a)
+    module _ (a : ℕ) (x : LetterAt image (at + 15) size width a) where
+      after-first : entryField size (from image at) ≡ (letterField 4 5 size (from image (at + 15 + width)) >>= last offset a)
       unfolding second last
       after-first = after-offset ∙ ap (λ o. o >>= second offset) (x .read 4 5)
 
-      pub second-refused : (n : ℕ) → letterField 4 5 size (from image (at + 12 + width)) ≡ refused n [] → entryField size (from image at) ≡ refused n []
+      pub second-refused : (n : ℕ) → letterField 4 5 size (from image (at + 15 + width)) ≡ refused n [] → entryField size (from image at) ≡ refused n []
       second-refused n e = after-first ∙ ap (λ o. o >>= last offset a) e
 
-      pub entry-read : (b : ℕ) → LetterAt image (at + 12 + width) size width b → EntryAt image at size width (record { offset = offset; a = a; b = b })
+      pub entry-read : (b : ℕ) → LetterAt image (at + 15 + width) size width b → EntryAt image at size width (record { offset = offset; a = a; b = b })
       unfolding last
       entry-read b y = record { inside = y .inside; read = after-first ∙ ap (λ o. o >>= last offset a) (y .read 4 5) }
 

@@ -14,6 +14,7 @@ pub mod Refusals
 pub mod Entries
 pub mod Forward
 pub mod Appending
+pub mod Weights
 pub mod Naming
 pub mod PlainTrip
 pub mod Plainly

@@ -1,8 +1,8 @@
 -- Every table and program in range is read back from its plain form. A plain form that is accepted is that of what was read.
 use mathlib.Core.Path.{_≡_, refl, sym, ap, subst, _∙_}
-use mathlib.Core.List.{List, [], _∷_, _++_, append-assoc, append-nil}
+use mathlib.Core.List.{List, [], _∷_, _++_, map, append-assoc, append-nil}
 use mathlib.Core.Bool.{Bool, true, false, cond, not, _&&_, _||_}
-use Prim.Native.Nat.{ℕ, suc, _+_, _-_, _%_, _≤_, _<_}
+use Prim.Native.Nat.{ℕ, suc, _+_, _-_, _%_, _^_, _≤_, _<_}
 use native.Mathlib.Omega.{arith}
 use borrow.Author.Tests.{lt-ltb, le-ltb, le-leb, ltb-true, ltb-false, ne-eqb, not-false}
 use lib.Dec.{ltb, leb, eqb}
@@ -12,10 +12,11 @@ use Rattle.model.specs.Presentation.{Presentation, Complement, undefined, compl
 use Rattle.model.specs.Enumeration.{concatMap}
 use Rattle.model.specs.Outcome.{Outcome, answered, _>>=_, unless}
 use Rattle.model.specs.Bits.{Read}
-use Rattle.model.specs.Images.{several, rowsOf}
-use Rattle.model.specs.Plain.{plainWord, plainPair, plainTable, plainProgram, nextByte, plainLetter, plainLetters, plainDefined, plainPairAt, readPlainTable, namesLetter, plainLettersSigned, readPlainProgram}
+use Rattle.model.specs.Images.{weightWidth, several, rowsOf}
+use Rattle.model.specs.Plain.{plainWord, plainPair, plainTable, plainProgram, nextByte, plainLetter, plainWeight, plainLetters, plainDefined, plainPairAt, readPlainTable, namesLetter, plainLettersSigned, readPlainProgram}
 use Rattle.model.specs.Range.{AreBytes, All, Rows, InRange, LetterInRange, WordInRange, PairInRange, ProgramInRange, TableInRange}
 use Rattle.images.proofs.Appending.{named-positive, named-small}
+use Rattle.images.proofs.Weights.{weightByte, weight-bytes}
 use Rattle.images.proofs.Several.{answer-of, same-answer}
 use Rattle.images.proofs.Codec.{Codec, then, several-codec, rows-codec, not-refused}
 
@@ -163,48 +164,88 @@ module _ (n : ℕ) where
   pub plain-rows : Codec Any (rowsOf (plainPairAt n) n) (concatMap (concatMap plainPair)) (Rows (PairInRange n) n)
   plain-rows = rows-codec Any any-suffix (plainPairAt n) plainPair (PairInRange n) pair-codec n
 
-tableEnd : ℕ → Read (List (List Complement)) → Outcome Presentation
-tableEnd n rs = unless (ltb 0 (length (rs .rest))) 3 (record { size = n; rows = rs .value })
+-- WEIGHTS
 
-tableRows : Read ℕ → Outcome Presentation
+weight-parts : (input : List ℕ) (r : Read ℕ) → plainWeight input ≡ answered r → (input ≡ weightByte (r .value) ++ r .rest) × (r .value < 2 ^ weightWidth)
+weight-parts input r e =
+    let f = answer-of (plainLetter 8 input) (λ r. answered (record { value = r .value - 1; rest = r .rest })) r e in
+    let p = letter-parts 8 input (f .0) (f .1) in
+    let whole : f .0 .value ≡ suc (f .0 .value - 1) = omega (arith, p .1 .low) in
+    subst (λ r. (input ≡ weightByte (r .value) ++ r .rest) × (r .value < 2 ^ weightWidth)) (same-answer (record { value = f .0 .value - 1; rest = f .0 .rest }) r (f .2))
+    (p .0 ∙ ap (λ v. v ∷ f .0 .rest) whole, omega (arith, p .1 .low, p .1 .high))
+
+weight-codec : Codec Any plainWeight weightByte (λ w. w < 2 ^ weightWidth)
+weight-codec =
+    record {
+      reads-back = λ w h rest.
+          then (plainLetter 8 (suc w ∷ rest)) _ (record { value = suc w; rest = rest }) _
+          (letter-codec 8 .reads-back (suc w) (record { low = omega arith; high = omega arith }) rest)
+          (ap (λ v. answered (record { value = v; rest = rest })) {x = suc w - 1} {y = w} (omega arith));
+      stood-there = λ input i r e. weight-parts input r e .0;
+      in-range = λ input i r e. weight-parts input r e .1;
+    }
+
+plain-weights : (n : ℕ) → Codec Any (several plainWeight n) (concatMap weightByte) (λ ws. (length ws ≡ n) × All (λ w. w < 2 ^ weightWidth) ws)
+plain-weights n = several-codec Any any-suffix plainWeight weightByte (λ w. w < 2 ^ weightWidth) weight-codec n
+
+-- TABLES
+
+tableEnd : ℕ → List ℕ → Read (List (List Complement)) → Outcome Presentation
+tableEnd n excess rs = unless (ltb 0 (length (rs .rest))) 3 (record { size = n; excess = excess; rows = rs .value })
+
+tableRows : ℕ → Read (List ℕ) → Outcome Presentation
 unfolding tableEnd
-tableRows n = rowsOf (plainPairAt (n .value)) (n .value) (n .rest) >>= tableEnd (n .value)
+tableRows n ws = rowsOf (plainPairAt n) n (ws .rest) >>= tableEnd n (ws .value)
+
+tableWeights : Read ℕ → Outcome Presentation
+unfolding tableRows tableEnd
+tableWeights n = several plainWeight (n .value) (n .rest) >>= tableRows (n .value)
 
 tableSize : Read ℕ → Outcome Presentation
-unfolding tableRows tableEnd
-tableSize n = unless (ltb (n .value) 1 || ltb 16 (n .value)) 2 n >>= tableRows
+unfolding tableWeights tableRows tableEnd
+tableSize n = unless (ltb (n .value) 1 || ltb 16 (n .value)) 2 n >>= tableWeights
 
 pub plain-table-reads-back : (T : Presentation) → TableInRange T → readPlainTable (plainTable T) ≡ answered T
-unfolding readPlainTable plainTable tableRows tableEnd
+unfolding readPlainTable plainTable tableWeights tableRows tableEnd
 plain-table-reads-back T h =
-    let body = concatMap (concatMap plainPair) (T .rows) in
-    ap (λ t. unless t 2 (record { value = T .size; rest = body }) >>= tableRows) (or-neither (ltb (T .size) 1) (ltb 16 (T .size)) (le-ltb (T .size) 1 (h .some)) (le-ltb 16 (T .size) (h .few)))
-    ∙ (ap (λ l. rowsOf (plainPairAt (T .size)) (T .size) l >>= tableEnd (T .size)) (sym (append-nil body))
-    ∙ ap (λ o. o >>= tableEnd (T .size)) (plain-rows (T .size) .reads-back (T .rows) (h .pairs) []))
+    let rows = concatMap (concatMap plainPair) (T .rows) in
+    let weights = map suc (T .excess) in
+    ap (λ t. unless t 2 (record { value = T .size; rest = weights ++ rows }) >>= tableWeights) (or-neither (ltb (T .size) 1) (ltb 16 (T .size)) (le-ltb (T .size) 1 (h .some)) (le-ltb 16 (T .size) (h .few)))
+    ∙ (ap (λ l. several plainWeight (T .size) (l ++ rows) >>= tableRows (T .size)) (sym (weight-bytes (T .excess)))
+    ∙ then (several plainWeight (T .size) (concatMap weightByte (T .excess) ++ rows)) (tableRows (T .size)) (record { value = T .excess; rest = rows }) _
+    (plain-weights (T .size) .reads-back (T .excess) (h .weighed, h .light) rows)
+    (ap (λ l. rowsOf (plainPairAt (T .size)) (T .size) l >>= tableEnd (T .size) (T .excess)) (sym (append-nil rows))
+    ∙ ap (λ o. o >>= tableEnd (T .size) (T .excess)) (plain-rows (T .size) .reads-back (T .rows) (h .pairs) [])))
 
 no-rest : (l : List ℕ) → length l ≤ 0 → l ≡ []
 no-rest [] h = refl
 no-rest (x ∷ l) h = absurd (omega arith)
 
 pub plain-table-of : (bytes : List ℕ) (T : Presentation) → readPlainTable bytes ≡ answered T → (bytes ≡ plainTable T) × TableInRange T
-unfolding readPlainTable plainTable tableSize tableRows tableEnd
+unfolding readPlainTable plainTable tableSize tableWeights tableRows tableEnd
 plain-table-of bytes T e =
     let h = answer-of (nextByte bytes) tableSize T e in
-    let s = answer-of (unless (ltb (h .0 .value) 1 || ltb 16 (h .0 .value)) 2 (h .0)) tableRows T (h .2) in
+    let s = answer-of (unless (ltb (h .0 .value) 1 || ltb 16 (h .0 .value)) 2 (h .0)) tableWeights T (h .2) in
     let p = not-refused (ltb (h .0 .value) 1 || ltb 16 (h .0 .value)) 2 (h .0) (s .0) (s .1) in
-    let t : tableRows (h .0) ≡ answered T = ap tableRows (p .1) ∙ s .2 in
-    let r = answer-of (rowsOf (plainPairAt (h .0 .value)) (h .0 .value) (h .0 .rest)) (tableEnd (h .0 .value)) T t in
-    let q = not-refused (ltb 0 (length (r .0 .rest))) 3 (record { size = h .0 .value; rows = r .0 .value }) T (r .2) in
+    let t : tableWeights (h .0) ≡ answered T = ap tableWeights (p .1) ∙ s .2 in
+    let w = answer-of (several plainWeight (h .0 .value) (h .0 .rest)) (tableRows (h .0 .value)) T t in
+    let r = answer-of (rowsOf (plainPairAt (h .0 .value)) (h .0 .value) (w .0 .rest)) (tableEnd (h .0 .value) (w .0 .value)) T (w .2) in
+    let q = not-refused (ltb 0 (length (r .0 .rest))) 3 (record { size = h .0 .value; excess = w .0 .value; rows = r .0 .value }) T (r .2) in
     let z : r .0 .rest ≡ [] = no-rest (r .0 .rest) (ltb-false 0 (length (r .0 .rest)) (q .0)) in
     subst (λ T. (bytes ≡ plainTable T) × TableInRange T) (q .1) (
       byte-stood bytes (h .0) (h .1)
           ∙ ap (λ l. h .0 .value ∷ l)
-          (plain-rows (h .0 .value) .stood-there (h .0 .rest) tt (r .0) (r .1)
-          ∙ (ap (λ l. concatMap (concatMap plainPair) (r .0 .value) ++ l) z ∙ append-nil (concatMap (concatMap plainPair) (r .0 .value)))),
+          (plain-weights (h .0 .value) .stood-there (h .0 .rest) tt (w .0) (w .1)
+          ∙ (ap (λ l. l ++ w .0 .rest) (weight-bytes (w .0 .value))
+          ∙ ap (λ l. map suc (w .0 .value) ++ l)
+          (plain-rows (h .0 .value) .stood-there (w .0 .rest) tt (r .0) (r .1)
+          ∙ (ap (λ l. concatMap (concatMap plainPair) (r .0 .value) ++ l) z ∙ append-nil (concatMap (concatMap plainPair) (r .0 .value)))))),
       record {
         some = ltb-false (h .0 .value) 1 (or-first (ltb (h .0 .value) 1) (ltb 16 (h .0 .value)) (p .0));
         few = ltb-false 16 (h .0 .value) (or-second (ltb (h .0 .value) 1) (ltb 16 (h .0 .value)) (p .0));
-        pairs = plain-rows (h .0 .value) .in-range (h .0 .rest) tt (r .0) (r .1);
+        weighed = plain-weights (h .0 .value) .in-range (h .0 .rest) tt (w .0) (w .1) .0;
+        light = plain-weights (h .0 .value) .in-range (h .0 .rest) tt (w .0) (w .1) .1;
+        pairs = plain-rows (h .0 .value) .in-range (w .0 .rest) tt (r .0) (r .1);
       },
     )
 

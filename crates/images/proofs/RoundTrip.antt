@@ -12,13 +12,13 @@ use Rattle.model.specs.Equivalence.{Entry}
 use Rattle.model.specs.Enumeration.{concatMap}
 use Rattle.model.specs.Outcome.{Outcome, answered, refused, _>>=_}
 use Rattle.model.specs.Bits.{Read, field, finish, filling, digits, bitsOf, bytesFor, pack, letterWidth}
-use Rattle.model.specs.Images.{several, rowsOf, letterBits, wordBits, pairField, pairBits, signedField, signedBits, entryField, entryBits, readTable, tableImage, readProgram, programImage, readChain, chainImage}
+use Rattle.model.specs.Images.{weightWidth, several, rowsOf, letterBits, wordBits, pairField, pairBits, signedField, signedBits, entryField, entryBits, readTable, tableImage, readProgram, programImage, readChain, chainImage}
 use Rattle.bits.proofs.Digits.{AreBits, digits-are-bits, bits-append}
 use Rattle.bits.proofs.Bytes.{bits-are-bits}
 use Rattle.model.specs.Range.{AreBytes, All, Rows, LetterInRange, PairInRange, EntryInRange, ProgramInRange, TableInRange, ChainInRange}
 use Rattle.bits.proofs.Packing.{pack-bits, pack-filling, packed-of}
 use Rattle.images.proofs.Several.{answer-of, same-answer, bind-assoc}
-use Rattle.images.proofs.Codec.{Codec, then, field-codec, rows-codec, input-rest, bits-suffix}
+use Rattle.images.proofs.Codec.{Codec, then, several-codec, field-codec, rows-codec, input-rest, bits-suffix}
 use Rattle.images.proofs.Inverse.{counted, counted-codec, signed-codec, pair-codec, entry-codec}
 
 -- an image: what a codec reads and writes, then the filling
@@ -72,7 +72,7 @@ signed-are-bits n (forward a) = (omega arith, letter-are-bits n a)
 signed-are-bits n (back a) = (omega arith, letter-are-bits n a)
 
 entry-are-bits : (n : ℕ) (e : Entry) → AreBits (entryBits n e)
-entry-are-bits n e = bits-append (digits 12 (e .offset)) (letterBits n (e .a) ++ letterBits n (e .b)) (digits-are-bits 12 (e .offset)) (bits-append (letterBits n (e .a)) (letterBits n (e .b)) (letter-are-bits n (e .a)) (letter-are-bits n (e .b)))
+entry-are-bits n e = bits-append (digits 15 (e .offset)) (letterBits n (e .a) ++ letterBits n (e .b)) (digits-are-bits 15 (e .offset)) (bits-append (letterBits n (e .a)) (letterBits n (e .b)) (letter-are-bits n (e .a)) (letter-are-bits n (e .b)))
 
 -- PROGRAMS
 module _ (n : ℕ) (few : n ≤ 16) where
@@ -133,48 +133,98 @@ module _ (n : ℕ) (few : n ≤ 16) where
 rows-of : (n : ℕ) → n ≤ 16 → Codec AreBits (rowsOf (pairField n) n) (concatMap (concatMap (pairBits n))) (Rows (PairInRange n) n)
 rows-of n few = rows-codec AreBits bits-suffix (pairField n) (pairBits n) (PairInRange n) (pair-codec n few) n
 
-tableRows : Read ℕ → Outcome (Read Presentation)
-tableRows head =
-    rowsOf (pairField (head .value + 1)) (head .value + 1) (head .rest) >>= λ rs.
-    answered (record { value = record { size = head .value + 1; rows = rs .value }; rest = rs .rest })
+weights-of : (n : ℕ) → Codec AreBits (several (field 1 weightWidth) n) (concatMap (digits weightWidth)) (λ ws. (length ws ≡ n) × All (λ w. w < 2 ^ weightWidth) ws)
+weights-of n = several-codec AreBits bits-suffix (field 1 weightWidth) (digits weightWidth) (λ w. w < 2 ^ weightWidth) (field-codec 1 weightWidth) n
+
+-- what comes after the number of letters: the weights, then the rows
+bodyBits : ℕ → Presentation → List ℕ
+bodyBits n T = concatMap (digits weightWidth) (T .excess) ++ concatMap (concatMap (pairBits n)) (T .rows)
+
+afterWeights : ℕ → Read (List ℕ) → Outcome (Read Presentation)
+afterWeights n ws =
+    rowsOf (pairField n) n (ws .rest) >>= λ rs.
+    answered (record { value = record { size = n; excess = ws .value; rows = rs .value }; rest = rs .rest })
+
+body : ℕ → List ℕ → Outcome (Read Presentation)
+unfolding afterWeights
+body n input = several (field 1 weightWidth) n input >>= afterWeights n
+
+-- a table of n letters whose weights and pairs are in range
+record BodyInRange (n : ℕ) (T : Presentation) : Type 0 where
+  pub sized : T .size ≡ n
+  pub weighed : length (T .excess) ≡ n
+  pub light : All (λ w. w < 2 ^ weightWidth) (T .excess)
+  pub pairs : Rows (PairInRange n) n (T .rows)
+
+module _ (n : ℕ) (few : n ≤ 16) where
+  body-back : (T : Presentation) → BodyInRange n T → (rest : List ℕ) → body n (bodyBits n T ++ rest) ≡ answered (record { value = T; rest = rest })
+  unfolding body afterWeights bodyBits
+  body-back T h rest =
+      let rows = concatMap (concatMap (pairBits n)) (T .rows) in
+      ap (λ l. several (field 1 weightWidth) n l >>= afterWeights n) (append-assoc (concatMap (digits weightWidth) (T .excess)) rows rest)
+      ∙ then (several (field 1 weightWidth) n (concatMap (digits weightWidth) (T .excess) ++ (rows ++ rest))) (afterWeights n) (record { value = T .excess; rest = rows ++ rest }) _
+      (weights-of n .reads-back (T .excess) (h .weighed, h .light) (rows ++ rest))
+      (then (rowsOf (pairField n) n (rows ++ rest)) _ (record { value = T .rows; rest = rest }) _
+      (rows-of n few .reads-back (T .rows) (h .pairs) rest)
+      (ap (λ k. answered (record { value = record { size = k; excess = T .excess; rows = T .rows }; rest = rest })) (sym (h .sized))))
+
+  body-parts : (input : List ℕ) → AreBits input → (r : Read Presentation) → body n input ≡ answered r → (input ≡ bodyBits n (r .value) ++ r .rest) × BodyInRange n (r .value)
+  unfolding body afterWeights bodyBits
+  body-parts input i r e =
+      let w = answer-of (several (field 1 weightWidth) n input) (afterWeights n) r e in
+      let j = input-rest AreBits bits-suffix (weights-of n) input i (w .0) (w .1) in
+      let t = answer-of (rowsOf (pairField n) n (w .0 .rest)) (λ rs. answered (record { value = record { size = n; excess = w .0 .value; rows = rs .value }; rest = rs .rest })) r (w .2) in
+      subst (λ r. (input ≡ bodyBits n (r .value) ++ r .rest) × BodyInRange n (r .value))
+      (same-answer (record { value = record { size = n; excess = w .0 .value; rows = t .0 .value }; rest = t .0 .rest }) r (t .2)) (
+        weights-of n .stood-there input i (w .0) (w .1)
+            ∙ (ap (λ l. concatMap (digits weightWidth) (w .0 .value) ++ l) (rows-of n few .stood-there (w .0 .rest) j (t .0) (t .1))
+            ∙ sym (append-assoc (concatMap (digits weightWidth) (w .0 .value)) (concatMap (concatMap (pairBits n)) (t .0 .value)) (t .0 .rest))),
+        record {
+          sized = refl;
+          weighed = weights-of n .in-range input i (w .0) (w .1) .0;
+          light = weights-of n .in-range input i (w .0) (w .1) .1;
+          pairs = rows-of n few .in-range (w .0 .rest) j (t .0) (t .1);
+        },
+      )
 
 tableBody : List ℕ → Outcome (Read Presentation)
-unfolding tableRows
-tableBody input = field 1 4 input >>= tableRows
+unfolding body
+tableBody input = field 1 4 input >>= λ head. body (head .value + 1) (head .rest)
 
 tableBits : Presentation → List ℕ
-tableBits T = digits 4 (T .size - 1) ++ concatMap (concatMap (pairBits (T .size))) (T .rows)
+unfolding bodyBits
+tableBits T = digits 4 (T .size - 1) ++ bodyBits (T .size) T
 
 table-are-bits : (T : Presentation) → AreBits (tableBits T)
-unfolding tableBits
+unfolding tableBits bodyBits
 table-are-bits T =
-    bits-append (digits 4 (T .size - 1)) (concatMap (concatMap (pairBits (T .size))) (T .rows)) (digits-are-bits 4 (T .size - 1)) (concat-bits (concatMap (pairBits (T .size))) (concat-bits (pairBits (T .size)) (pair-are-bits (T .size))) (T .rows))
-
--- reading the rows under m + 1 letters
-rows-back : (m n : ℕ) → m + 1 ≡ n → n ≤ 16 → (rows : List (List Complement)) → Rows (PairInRange n) n rows → (rest : List ℕ)
-    → tableRows (record { value = m; rest = concatMap (concatMap (pairBits n)) rows ++ rest }) ≡ answered (record { value = record { size = n; rows = rows }; rest = rest })
-unfolding tableRows
-rows-back m n s few rows h rest =
-    ap (λ k. rowsOf (pairField k) k (concatMap (concatMap (pairBits n)) rows ++ rest) >>= λ rs. answered (record { value = record { size = k; rows = rs .value }; rest = rs .rest })) s
-    ∙ then (rowsOf (pairField n) n (concatMap (concatMap (pairBits n)) rows ++ rest)) (λ rs. answered (record { value = record { size = n; rows = rs .value }; rest = rs .rest })) (record { value = rows; rest = rest }) _
-    (rows-of n few .reads-back rows h rest) refl
+    bits-append (digits 4 (T .size - 1)) (bodyBits (T .size) T) (digits-are-bits 4 (T .size - 1))
+    (bits-append (concatMap (digits weightWidth) (T .excess)) (concatMap (concatMap (pairBits (T .size))) (T .rows))
+    (concat-bits (digits weightWidth) (digits-are-bits weightWidth) (T .excess))
+    (concat-bits (concatMap (pairBits (T .size))) (concat-bits (pairBits (T .size)) (pair-are-bits (T .size))) (T .rows)))
 
 table-parts : (input : List ℕ) → AreBits input → (r : Read Presentation) → tableBody input ≡ answered r → (input ≡ tableBits (r .value) ++ r .rest) × TableInRange (r .value)
-unfolding tableBody tableRows tableBits
+unfolding tableBody tableBits
 table-parts input i r e =
-    let h = answer-of (field 1 4 input) tableRows r e in
+    let h = answer-of (field 1 4 input) (λ head. body (head .value + 1) (head .rest)) r e in
     let small : h .0 .value < 2 ^ 4 = field-codec 1 4 .in-range input i (h .0) (h .1) in
     let j = input-rest AreBits bits-suffix (field-codec 1 4) input i (h .0) (h .1) in
-    let t = answer-of (rowsOf (pairField (h .0 .value + 1)) (h .0 .value + 1) (h .0 .rest)) (λ rs. answered (record { value = record { size = h .0 .value + 1; rows = rs .value }; rest = rs .rest })) r (h .2) in
     let few : h .0 .value + 1 ≤ 16 = omega arith in
-    let less : h .0 .value + 1 - 1 ≡ h .0 .value = omega arith in
-    subst (λ r. (input ≡ tableBits (r .value) ++ r .rest) × TableInRange (r .value))
-    (same-answer (record { value = record { size = h .0 .value + 1; rows = t .0 .value }; rest = t .0 .rest }) r (t .2)) (
+    let p = body-parts (h .0 .value + 1) few (h .0 .rest) j r (h .2) in
+    let size : r .value .size ≡ h .0 .value + 1 = p .1 .sized in
+    let less : h .0 .value ≡ r .value .size - 1 = omega arith in (
       field-codec 1 4 .stood-there input i (h .0) (h .1)
-          ∙ (ap (λ l. digits 4 (h .0 .value) ++ l) (rows-of (h .0 .value + 1) few .stood-there (h .0 .rest) j (t .0) (t .1))
-          ∙ (ap (λ v. digits 4 v ++ (concatMap (concatMap (pairBits (h .0 .value + 1))) (t .0 .value) ++ t .0 .rest)) (sym less)
-          ∙ sym (append-assoc (digits 4 (h .0 .value + 1 - 1)) (concatMap (concatMap (pairBits (h .0 .value + 1))) (t .0 .value)) (t .0 .rest)))),
-      record { some = omega arith; few = few; pairs = rows-of (h .0 .value + 1) few .in-range (h .0 .rest) j (t .0) (t .1) },
+          ∙ (ap (λ l. digits 4 (h .0 .value) ++ l) (p .0)
+          ∙ (ap (λ v. digits 4 v ++ (bodyBits (h .0 .value + 1) (r .value) ++ r .rest)) less
+          ∙ (ap (λ k. digits 4 (r .value .size - 1) ++ (bodyBits k (r .value) ++ r .rest)) (sym size)
+          ∙ sym (append-assoc (digits 4 (r .value .size - 1)) (bodyBits (r .value .size) (r .value)) (r .rest))))),
+      record {
+        some = omega arith;
+        few = omega arith;
+        weighed = p .1 .weighed ∙ sym size;
+        light = p .1 .light;
+        pairs = subst (λ k. Rows (PairInRange k) k (r .value .rows)) (sym size) (p .1 .pairs);
+      },
     )
 
 table-codec : Codec AreBits tableBody tableBits TableInRange
@@ -182,29 +232,35 @@ unfolding tableBody tableBits
 table-codec =
     record {
       reads-back = λ T h rest.
-          ap tableBody (append-assoc (digits 4 (T .size - 1)) (concatMap (concatMap (pairBits (T .size))) (T .rows)) rest)
-          ∙ then (field 1 4 (digits 4 (T .size - 1) ++ (concatMap (concatMap (pairBits (T .size))) (T .rows) ++ rest))) tableRows (record { value = T .size - 1; rest = concatMap (concatMap (pairBits (T .size))) (T .rows) ++ rest }) _
-          (field-codec 1 4 .reads-back (T .size - 1) (omega (arith, h .few)) (concatMap (concatMap (pairBits (T .size))) (T .rows) ++ rest))
-          (rows-back (T .size - 1) (T .size) (omega (arith, h .some)) (h .few) (T .rows) (h .pairs) rest);
+          ap tableBody (append-assoc (digits 4 (T .size - 1)) (bodyBits (T .size) T) rest)
+          ∙ then (field 1 4 (digits 4 (T .size - 1) ++ (bodyBits (T .size) T ++ rest))) (λ head. body (head .value + 1) (head .rest)) (record { value = T .size - 1; rest = bodyBits (T .size) T ++ rest }) _
+          (field-codec 1 4 .reads-back (T .size - 1) (omega (arith, h .few)) (bodyBits (T .size) T ++ rest))
+          (ap (λ k. body k (bodyBits (T .size) T ++ rest)) {x = T .size - 1 + 1} {y = T .size} (omega (arith, h .some))
+          ∙ body-back (T .size) (h .few) T (record { sized = refl; weighed = h .weighed; light = h .light; pairs = h .pairs }) rest);
       stood-there = λ input i r e. table-parts input i r e .0;
       in-range = λ input i r e. table-parts input i r e .1;
     }
 
 table-is : (bytes : List ℕ) → readTable bytes ≡ (tableBody (bitsOf bytes) >>= finish 3)
-unfolding readTable tableBody tableRows
-table-is bytes = sym (bind-assoc (field 1 4 (bitsOf bytes)) tableRows (finish 3) ∙ at-head (field 1 4 (bitsOf bytes)))
+unfolding readTable tableBody body afterWeights
+table-is bytes = sym (bind-assoc (field 1 4 (bitsOf bytes)) (λ head. body (head .value + 1) (head .rest)) (finish 3) ∙ at-head (field 1 4 (bitsOf bytes)))
   where
-    at-head : (o : Outcome (Read ℕ)) → (o >>= λ head. tableRows head >>= finish 3)
-        ≡ (o >>= λ head. rowsOf (pairField (head .value + 1)) (head .value + 1) (head .rest) >>= λ rs. finish 3 (record { value = record { size = head .value + 1; rows = rs .value }; rest = rs .rest }))
-    at-head (answered head) = bind-assoc (rowsOf (pairField (head .value + 1)) (head .value + 1) (head .rest)) (λ rs. answered (record { value = record { size = head .value + 1; rows = rs .value }; rest = rs .rest })) (finish 3)
+    at-rows : (n : ℕ) (o : Outcome (Read (List ℕ))) → (o >>= λ ws. afterWeights n ws >>= finish 3)
+        ≡ (o >>= λ ws. rowsOf (pairField n) n (ws .rest) >>= λ rs. finish 3 (record { value = record { size = n; excess = ws .value; rows = rs .value }; rest = rs .rest }))
+    at-rows n (answered ws) = bind-assoc (rowsOf (pairField n) n (ws .rest)) _ (finish 3)
+    at-rows n (refused k ps) = refl
+
+    at-head : (o : Outcome (Read ℕ)) → (o >>= λ head. body (head .value + 1) (head .rest) >>= finish 3)
+        ≡ (o >>= λ head. several (field 1 weightWidth) (head .value + 1) (head .rest) >>= λ ws. rowsOf (pairField (head .value + 1)) (head .value + 1) (ws .rest) >>= λ rs. finish 3 (record { value = record { size = head .value + 1; excess = ws .value; rows = rs .value }; rest = rs .rest }))
+    at-head (answered head) = bind-assoc (several (field 1 weightWidth) (head .value + 1) (head .rest)) (afterWeights (head .value + 1)) (finish 3) ∙ at-rows (head .value + 1) (several (field 1 weightWidth) (head .value + 1) (head .rest))
     at-head (refused n ps) = refl
 
 pub table-reads-back : (T : Presentation) → TableInRange T → readTable (tableImage T) ≡ answered T
-unfolding tableImage tableBits
+unfolding tableImage tableBits bodyBits
 table-reads-back T h = table-is (tableImage T) ∙ image-reads-back 3 tableBody tableBits TableInRange table-codec T h (table-are-bits T)
 
 pub table-image-of : (bytes : List ℕ) → AreBytes bytes → (T : Presentation) → readTable bytes ≡ answered T → (bytes ≡ tableImage T) × TableInRange T
-unfolding tableImage tableBits
+unfolding tableImage tableBits bodyBits
 table-image-of bytes bs T e = image-stood-there 3 tableBody tableBits TableInRange table-codec bytes bs T (λ T h. table-are-bits T) (sym (table-is bytes) ∙ e)
 
 pub table-in-range : (bytes : List ℕ) (T : Presentation) → readTable bytes ≡ answered T → TableInRange T

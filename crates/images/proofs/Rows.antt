@@ -14,15 +14,15 @@ use lib.Seq.{getD-at}
 use Rattle.model.specs.Presentation.{Presentation, Complement, undefined, complement, swapped, listed, complete}
 use Rattle.model.specs.Outcome.{Outcome, answered, refused, _>>=_, unless}
 use Rattle.model.specs.Bits.{Read, field, finish, filling}
-use Rattle.model.specs.Images.{pairField, several, rowsOf, readTable}
-use Rattle.model.specs.Plain.{plainPairAt, readPlainTable}
+use Rattle.model.specs.Images.{weightWidth, pairField, several, rowsOf, readTable}
+use Rattle.model.specs.Plain.{plainWeight, plainPairAt, readPlainTable}
 use Rattle.bits.proofs.Packing.{below-or}
 use Rattle.images.specs.Fields.{FieldAt, from}
-use Rattle.cells.specs.Layout.{Letters, cellAt}
+use Rattle.cells.specs.Layout.{Letters, cellAt, weightAt}
 use Rattle.model.specs.Range.{InRange}
 use Rattle.model.proofs.Complete.{complete-same}
-use Rattle.cells.specs.Stands.{HoldsFirst, Stands, Blank}
-use Rattle.images.specs.Tables.{SameCell, HoldsPair, HoldsRow, PairFrom, RowFrom, RowAt, RowsHeld, TableOf, TableDone, SizeDone, bytesFrom, PlainTableOf}
+use Rattle.cells.specs.Stands.{HoldsFirst, HoldsWeights, Stands, Blank}
+use Rattle.images.specs.Tables.{SameCell, HoldsPair, HoldsRow, PairFrom, RowFrom, RowAt, RowsHeld, rowsThen, plainRowsThen, LoadedOr, TableOf, TableDone, SizeDone, bytesFrom, PlainTableOf, PlainTableDone}
 use Rattle.images.specs.declared.tables.TableRead.{TableRead}
 use Rattle.images.specs.declared.tables.TableRead.the-variants.{Table, Refused}
 use Rattle.images.proofs.Several.{after, after-none, several-step, several-refused, several-done, several-length, rows-step, rows-refused, rows-done}
@@ -137,12 +137,23 @@ module _ (reader : List ℕ → Outcome (Read Complement)) (source : ℕ → Lis
 
 -- ROWS
 
-pub record RowsFilled (reader : List ℕ → Outcome (Read Complement)) (source : ℕ → List ℕ) (limit begin size : ℕ) (cells : List ℕ) (at a : ℕ) : Type 0 where
+-- weights stand where they stood, if no place of one changed
+weights-kept : (size : ℕ) → size ≤ 16 → (before after excess : List ℕ) → ((p : ℕ) → InRange 16 p → getD after (weightAt p) 0 ≡ getD before (weightAt p) 0)
+    → HoldsWeights size before excess → HoldsWeights size after excess
+weights-kept size few before after excess same h =
+    record {
+      many = h .many;
+      holds = λ k l. same (1 + k) (record { low = omega arith; high = omega (arith, h .many) }) ∙ h .holds k l;
+      light = h .light;
+    }
+
+pub record RowsFilled (reader : List ℕ → Outcome (Read Complement)) (source : ℕ → List ℕ) (limit begin size : ℕ) (start cells : List ℕ) (at a : ℕ) : Type 0 where
   pub positive : 1 ≤ a
   pub some-left : a ≤ size + 1
   pub inside : at ≤ limit
   pub near : at + 2064 ≤ begin + 2064 * a
   pub blank : Blank cells
+  pub weighed : (excess : List ℕ) → HoldsWeights size start excess → HoldsWeights size cells excess
   pub done : List (List Complement)
   pub done-length : 1 + length done ≡ a
   pub resumed : rowsOf reader size (source begin) ≡ after done (rowsOf reader (size + 1 - a) (source at))
@@ -152,9 +163,9 @@ pub record RowsFilled (reader : List ℕ → Outcome (Read Complement)) (source 
 -- the pair a, b, whichever way round, from its row
 module _ (cells : List ℕ) (size : ℕ) (rows : List (List Complement)) (few : size ≤ 16)
     (holds : (i : ℕ) → i < length rows → HoldsRow size cells (1 + i) (getD rows i []))
-    (many : length rows ≡ size) (widths : (i : ℕ) → i < length rows → length (getD rows i []) ≡ size - (1 + i)) where
+    (many : length rows ≡ size) (widths : (i : ℕ) → i < length rows → length (getD rows i []) ≡ size - (1 + i)) (excess : List ℕ) where
   abbrev T : Presentation
-  T = record { size = size; rows = rows }
+  T = record { size = size; excess = excess; rows = rows }
 
   listed-is : (a b : ℕ) → 1 ≤ a → b ≤ size → listed T a b ≡ getD (getD rows (a - 1) []) (b - a - 1) undefined
   listed-is a b ha hb =
@@ -185,7 +196,7 @@ module _ (cells : List ℕ) (size : ℕ) (rows : List (List Complement)) (few : 
       differ h = ⊎-elim (λ (x : b < a). x) (λ (x : a ≤ b). let e : a ≡ b = omega arith in absurd (d e)) (below-or b a)
 
 module _ (reader : List ℕ → Outcome (Read Complement)) (source : ℕ → List ℕ) (limit begin size : ℕ) (some : 1 ≤ size) (few : size ≤ 16) where
-  pub rows-none : (cells : List ℕ) → begin ≤ limit → Blank cells → RowsFilled reader source limit begin size cells begin 1
+  pub rows-none : (cells : List ℕ) → begin ≤ limit → Blank cells → RowsFilled reader source limit begin size cells cells begin 1
   rows-none cells inside blank =
       record {
         positive = omega arith;
@@ -193,6 +204,7 @@ module _ (reader : List ℕ → Outcome (Read Complement)) (source : ℕ → Lis
         inside = inside;
         near = omega arith;
         blank = blank;
+        weighed = λ excess h. h;
         done = [];
         done-length = refl;
         resumed = sym (after-none (rowsOf reader (size + 1 - 1) (source begin)) ∙ ap (λ k. rowsOf reader k (source begin)) {x = size + 1 - 1} {y = size} (omega arith));
@@ -200,11 +212,11 @@ module _ (reader : List ℕ → Outcome (Read Complement)) (source : ℕ → Lis
         holds = λ i h. absurd (omega arith);
       }
 
-  module _ (cells : List ℕ) (at a : ℕ) (f : RowsFilled reader source limit begin size cells at a) where
+  module _ (start cells : List ℕ) (at a : ℕ) (f : RowsFilled reader source limit begin size start cells at a) where
     rows-left : a ≤ size → size + 1 - a ≡ suc (size - a)
     rows-left h = omega arith
 
-    pub rows-more : a ≤ size → (cells' : List ℕ) (next : ℕ) → length cells' ≡ length cells → RowFrom reader source limit at size cells a cells' next → RowsFilled reader source limit begin size cells' next (a + 1)
+    pub rows-more : a ≤ size → (cells' : List ℕ) (next : ℕ) → length cells' ≡ length cells → RowFrom reader source limit at size cells a cells' next → RowsFilled reader source limit begin size start cells' next (a + 1)
     rows-more h cells' next same r =
         let n : 1 + length (f .done) ≡ a = f .done-length in
         let wide : length (r .row) ≡ size - a = several-length reader (size - a) (source at) (record { value = r .row; rest = source next }) (r .read) in
@@ -220,6 +232,7 @@ module _ (reader : List ℕ → Outcome (Read Complement)) (source : ℕ → Lis
                     let e : cellAt p p + 0 ≡ cellAt p p = omega arith in
                     subst (λ i. getD cells' i 0 ≡ getD cells i 0) e (r .diagonal p l 0 (omega arith)) ∙ f .blank .diagonal p l;
               };
+          weighed = λ excess w. weights-kept size few cells cells' excess (λ p l. r .diagonal p l 1 (omega arith)) (f .weighed excess w);
           done = f .done ++ (r .row ∷ []);
           done-length = omega (arith, length-append (f .done) (r .row ∷ []));
           resumed =
@@ -255,17 +268,18 @@ module _ (reader : List ℕ → Outcome (Read Complement)) (source : ℕ → Lis
     pub rows-listed : size < a → RowsHeld size cells (f .done)
     rows-listed h = record { many = omega (arith, f .done-length, f .some-left); widths = f .widths; holds = f .holds }
 
-    pub rows-stand : size < a → Stands cells (record { size = size; rows = f .done })
-    rows-stand h =
+    pub rows-stand : size < a → (excess : List ℕ) → HoldsWeights size start excess → Stands cells (record { size = size; excess = excess; rows = f .done })
+    rows-stand h excess w =
         record {
           full = f .blank .full;
           some = some;
           few = few;
+          weights = f .weighed excess w;
           cell = λ a b ra rb. by-letters a b ra rb (ℕ-discrete a b);
         }
       where
         T : Presentation
-        T = record { size = size; rows = f .done }
+        T = record { size = size; excess = excess; rows = f .done }
 
         by-letters : (a b : ℕ) → InRange size a → InRange size b → Dec (a ≡ b) → HoldsFirst size cells (cellAt a b) (complete T a b)
         by-letters a b ra rb (yes e) =
@@ -277,61 +291,78 @@ module _ (reader : List ℕ → Outcome (Read Complement)) (source : ℕ → Lis
               in-range = record { short = omega arith; letters = tt };
             })
         by-letters a b ra rb (no e) =
-            complete-holds cells size (f .done) few (f .holds) (omega (arith, f .done-length, f .some-left)) (f .widths) a b (ra .low) (ra .high) (rb .low) (rb .high) e
+            complete-holds cells size (f .done) few (f .holds) (omega (arith, f .done-length, f .some-left)) (f .widths) excess a b (ra .low) (ra .high) (rb .low) (rb .high) e
 
 -- FROM A TABLE IMAGE
 
-unfoldable afterHead : Read ℕ → Outcome Presentation
-afterHead head =
-    rowsOf (pairField (head .value + 1)) (head .value + 1) (head .rest) >>= λ rs.
-    finish 3 (record { value = record { size = head .value + 1; rows = rs .value }; rest = rs .rest })
+module _ (image : List ℕ) (begin size : ℕ) (some : 1 ≤ size) (few : size ≤ 16) where
+  pub image-rows-none : (cells : List ℕ) → begin ≤ 8 * length image → Blank cells → RowsFilled (pairField size) (from image) (8 * length image) begin size cells cells begin 1
+  image-rows-none cells inside blank = rows-none (pairField size) (from image) (8 * length image) begin size some few cells inside blank
 
-unfoldable afterRows : ℕ → Outcome (Read (List (List Complement))) → Outcome Presentation
-afterRows size o = o >>= λ rs. finish 3 (record { value = record { size = size; rows = rs .value }; rest = rs .rest })
+  module _ (start cells : List ℕ) (at a : ℕ) (f : RowsFilled (pairField size) (from image) (8 * length image) begin size start cells at a) where
+    pub image-rows-more : a ≤ size → (cells' : List ℕ) (next : ℕ) → length cells' ≡ length cells → RowAt image at size cells a cells' next → RowsFilled (pairField size) (from image) (8 * length image) begin size start cells' next (a + 1)
+    image-rows-more h cells' next same r = rows-more (pairField size) (from image) (8 * length image) begin size some few start cells at a f h cells' next same r
+
+    module _ (excess : List ℕ) where
+      pub row-refused : (n : ℕ) → a ≤ size → several (pairField size) (size - a) (from image at) ≡ refused n [] → rowsThen size excess (from image begin) ≡ refused n []
+      unfolding rowsThen
+      row-refused n h e = ap (λ o. o >>= (λ rs. finish 3 (record { value = record { size = size; excess = excess; rows = rs .value }; rest = rs .rest }))) (rows-row-refused (pairField size) (from image) (8 * length image) begin size some few start cells at a f n h e)
+
+      ended : size < a → rowsThen size excess (from image begin) ≡ finish 3 (record { value = record { size = size; excess = excess; rows = f .done }; rest = from image at })
+      unfolding rowsThen
+      ended h = ap (λ o. o >>= (λ rs. finish 3 (record { value = record { size = size; excess = excess; rows = rs .value }; rest = rs .rest }))) (rows-ended (pairField size) (from image) (8 * length image) begin size some few start cells at a f h)
+
+      pub rows-answered : size < a → filling (from image at) ≡ true → HoldsWeights size start excess → LoadedOr (rowsThen size excess (from image begin)) cells size (Table size)
+      unfolding finish
+      rows-answered h t w = (
+        refl,
+        record {
+          table = record { size = size; excess = excess; rows = f .done };
+          read = ended h ∙ ap (λ t. cond t (answered (record { size = size; excess = excess; rows = f .done })) (refused 3 [])) t;
+          listed = rows-listed (pairField size) (from image) (8 * length image) begin size some few start cells at a f h;
+          of = record { stands = rows-stand (pairField size) (from image) (8 * length image) begin size some few start cells at a f h excess w; sized = refl };
+        },
+      )
+
+      pub rows-tail : size < a → filling (from image at) ≡ false → rowsThen size excess (from image begin) ≡ refused 3 []
+      unfolding finish
+      rows-tail h t = ended h ∙ ap (λ t. cond t (answered (record { size = size; excess = excess; rows = f .done })) (refused 3 [])) t
+
+-- the whole table: its number of letters, its weights, then its rows
+unfoldable afterHead : Read ℕ → Outcome Presentation
+unfolding rowsThen
+afterHead head = several (field 1 weightWidth) (head .value + 1) (head .rest) >>= λ ws. rowsThen (head .value + 1) (ws .value) (ws .rest)
 
 pub head-ends : (image : List ℕ) → ((early : ℕ) → field early 4 (from image 0) ≡ refused early []) → readTable image ≡ refused 1 []
 unfolding readTable afterHead
 head-ends image e = ap (λ o. o >>= afterHead) (e 1)
 
 module _ (image : List ℕ) (m size : ℕ) (head : FieldAt image 0 4 m) (size-is : m + 1 ≡ size) where
-  table-is : readTable image ≡ afterRows size (rowsOf (pairField size) size (from image 4))
-  unfolding readTable afterHead afterRows
-  table-is = ap (λ o. o >>= afterHead) (head .read 1) ∙ ap (λ k. afterRows k (rowsOf (pairField k) k (from image 4))) size-is
+  weights-next : readTable image ≡ (several (field 1 weightWidth) size (from image 4) >>= λ ws. rowsThen size (ws .value) (ws .rest))
+  unfolding readTable afterHead rowsThen
+  weights-next =
+      ap (λ o. o >>= afterHead) (head .read 1)
+      ∙ ap (λ k. several (field 1 weightWidth) k (from image 4) >>= λ ws. rowsThen k (ws .value) (ws .rest)) size-is
 
-  size-some : 1 ≤ size
-  size-some = omega arith
+  pub weights-refused : (n : ℕ) → several (field 1 weightWidth) size (from image 4) ≡ refused n [] → readTable image ≡ refused n []
+  weights-refused n e = weights-next ∙ ap (λ o. o >>= λ ws. rowsThen size (ws .value) (ws .rest)) e
 
-  size-few : size ≤ 16
-  size-few = omega (arith, head .small)
+  -- the rows are left
+  pub rows-next : (excess : List ℕ) (at : ℕ) → several (field 1 weightWidth) size (from image 4) ≡ answered (record { value = excess; rest = from image at })
+      → rowsThen size excess (from image at) ≡ readTable image
+  rows-next excess at e = sym (weights-next ∙ ap (λ o. o >>= λ ws. rowsThen size (ws .value) (ws .rest)) e)
 
-  pub image-rows-none : (cells : List ℕ) → Blank cells → RowsFilled (pairField size) (from image) (8 * length image) 4 size cells 4 1
-  image-rows-none cells blank = rows-none (pairField size) (from image) (8 * length image) 4 size size-some size-few cells (head .inside) blank
+-- an answer about the rows is one about the table
+pub loaded-as : {o o′ : Outcome Presentation} → o ≡ o′ → (cells : List ℕ) (size : ℕ) (r : TableRead) → LoadedOr o cells size r → LoadedOr o′ cells size r
+loaded-as e cells size r h = subst (λ o. LoadedOr o cells size r) e h
 
-  module _ (cells : List ℕ) (at a : ℕ) (f : RowsFilled (pairField size) (from image) (8 * length image) 4 size cells at a) where
-    pub image-rows-more : a ≤ size → (cells' : List ℕ) (next : ℕ) → length cells' ≡ length cells → RowAt image at size cells a cells' next → RowsFilled (pairField size) (from image) (8 * length image) 4 size cells' next (a + 1)
-    image-rows-more h cells' next same r = rows-more (pairField size) (from image) (8 * length image) 4 size size-some size-few cells at a f h cells' next same r
+pub table-done : (image cells : List ℕ) (size : ℕ) (r : TableRead) → LoadedOr (readTable image) cells size r → TableDone image cells r
+table-done image cells size (Table n) h = subst (TableOf image cells) (sym (h .0)) (h .1)
+table-done image cells size (Refused r) h = h
 
-    pub row-refused : (n : ℕ) → a ≤ size → several (pairField size) (size - a) (from image at) ≡ refused n [] → readTable image ≡ refused n []
-    unfolding afterRows
-    row-refused n h e = table-is ∙ ap (afterRows size) (rows-row-refused (pairField size) (from image) (8 * length image) 4 size size-some size-few cells at a f n h e)
-
-    ended : size < a → readTable image ≡ finish 3 (record { value = record { size = size; rows = f .done }; rest = from image at })
-    unfolding afterRows
-    ended h = table-is ∙ ap (afterRows size) (rows-ended (pairField size) (from image) (8 * length image) 4 size size-some size-few cells at a f h)
-
-    pub table-answered : size < a → filling (from image at) ≡ true → TableOf image cells size
-    unfolding finish
-    table-answered h t =
-        record {
-          table = record { size = size; rows = f .done };
-          read = ended h ∙ ap (λ t. cond t (answered (record { size = size; rows = f .done })) (refused 3 [])) t;
-          listed = rows-listed (pairField size) (from image) (8 * length image) 4 size size-some size-few cells at a f h;
-          of = record { stands = rows-stand (pairField size) (from image) (8 * length image) 4 size size-some size-few cells at a f h; sized = refl };
-        }
-
-    pub table-tail : size < a → filling (from image at) ≡ false → readTable image ≡ refused 3 []
-    unfolding finish
-    table-tail h t = ended h ∙ ap (λ t. cond t (answered (record { size = size; rows = f .done })) (refused 3 [])) t
+pub plain-table-done : (plain cells : List ℕ) (size : ℕ) (r : TableRead) → LoadedOr (readPlainTable plain) cells size r → PlainTableDone plain cells r
+plain-table-done plain cells size (Table n) h = subst (PlainTableOf plain cells) (sym (h .0)) (h .1)
+plain-table-done plain cells size (Refused r) h = h
 
 -- what the cells stand for has the number of letters
 pub size-done : (image cells : List ℕ) (r : TableRead) → TableDone image cells r → SizeDone image r
@@ -347,24 +378,45 @@ size-done image cells (Refused r) e = e
 
 -- FROM A PLAIN FORM
 
-unfoldable plainRows : ℕ → Outcome (Read (List (List Complement))) → Outcome Presentation
-plainRows size o = o >>= λ rs. unless (ltb 0 (length (rs .rest))) 3 (record { size = size; rows = rs .value })
+module _ (plain : List ℕ) (begin size : ℕ) (some : 1 ≤ size) (few : size ≤ 16) (start cells : List ℕ) (at a : ℕ)
+    (f : RowsFilled (plainPairAt size) (bytesFrom plain) (length plain) begin size start cells at a) (excess : List ℕ) where
+  pub plain-row-refused : (n : ℕ) → a ≤ size → several (plainPairAt size) (size - a) (bytesFrom plain at) ≡ refused n [] → plainRowsThen size excess (bytesFrom plain begin) ≡ refused n []
+  unfolding plainRowsThen
+  plain-row-refused n h e = ap (λ o. o >>= (λ rs. unless (ltb 0 (length (rs .rest))) 3 (record { size = size; excess = excess; rows = rs .value }))) (rows-row-refused (plainPairAt size) (bytesFrom plain) (length plain) begin size some few start cells at a f n h e)
+
+  plain-ended : size < a → plainRowsThen size excess (bytesFrom plain begin) ≡ unless (ltb 0 (length (bytesFrom plain at))) 3 (record { size = size; excess = excess; rows = f .done })
+  unfolding plainRowsThen
+  plain-ended h = ap (λ o. o >>= (λ rs. unless (ltb 0 (length (rs .rest))) 3 (record { size = size; excess = excess; rows = rs .value }))) (rows-ended (plainPairAt size) (bytesFrom plain) (length plain) begin size some few start cells at a f h)
+
+  pub plain-answered : size < a → length plain ≤ at → HoldsWeights size start excess → LoadedOr (plainRowsThen size excess (bytesFrom plain begin)) cells size (Table size)
+  plain-answered h l w = (
+    refl,
+    record {
+      table = record { size = size; excess = excess; rows = f .done };
+      read = plain-ended h ∙ ap (λ t. unless t 3 (record { size = size; excess = excess; rows = f .done })) (le-ltb 0 (length (bytesFrom plain at)) (omega (arith, length-drop at plain)));
+      listed = rows-listed (plainPairAt size) (bytesFrom plain) (length plain) begin size some few start cells at a f h;
+      of = record { stands = rows-stand (plainPairAt size) (bytesFrom plain) (length plain) begin size some few start cells at a f h excess w; sized = refl };
+    },
+  )
+
+  pub plain-tail : size < a → at < length plain → plainRowsThen size excess (bytesFrom plain begin) ≡ refused 3 []
+  plain-tail h l = plain-ended h ∙ ap (λ t. unless t 3 (record { size = size; excess = excess; rows = f .done })) (lt-ltb 0 (length (bytesFrom plain at)) (omega (arith, length-drop at plain)))
 
 unfoldable plainSized : Read ℕ → Outcome Presentation
-unfolding plainRows
-plainSized n = plainRows (n .value) (rowsOf (plainPairAt (n .value)) (n .value) (n .rest))
+unfolding plainRowsThen
+plainSized n = several plainWeight (n .value) (n .rest) >>= λ ws. plainRowsThen (n .value) (ws .value) (ws .rest)
 
 unfoldable plainSize : Read ℕ → Outcome Presentation
-unfolding plainSized plainRows
+unfolding plainSized plainRowsThen
 plainSize n = unless (ltb (n .value) 1 || ltb 16 (n .value)) 2 n >>= plainSized
 
 pub plain-ends : (plain : List ℕ) → length plain ≤ 0 → readPlainTable plain ≡ refused 1 []
-unfolding readPlainTable plainSize plainSized plainRows
+unfolding readPlainTable plainSize plainSized plainRowsThen
 plain-ends plain h = ap (λ o. o >>= plainSize) (byte-ends plain 0 h)
 
 module _ (plain : List ℕ) (inside : 0 < length plain) where
   plain-size-is : readPlainTable plain ≡ plainSize (record { value = getD plain 0 0; rest = bytesFrom plain 1 })
-  unfolding readPlainTable plainSize plainSized plainRows
+  unfolding readPlainTable plainSize plainSized plainRowsThen
   plain-size-is = ap (λ o. o >>= plainSize) (byte-at plain 0 inside)
 
   pub plain-no-letters : getD plain 0 0 < 1 → readPlainTable plain ≡ refused 2 []
@@ -378,32 +430,17 @@ module _ (plain : List ℕ) (inside : 0 < length plain) where
       ∙ (ap (λ t. unless (t || ltb 16 (getD plain 0 0)) 2 (record { value = getD plain 0 0; rest = bytesFrom plain 1 }) >>= plainSized) (le-ltb (getD plain 0 0) 1 l)
       ∙ ap (λ t. unless t 2 (record { value = getD plain 0 0; rest = bytesFrom plain 1 }) >>= plainSized) (lt-ltb 16 (getD plain 0 0) h))
 
-  module _ (size : ℕ) (size-is : getD plain 0 0 ≡ size) (some : 1 ≤ size) (few : size ≤ 16) where
-    plain-is : readPlainTable plain ≡ plainRows size (rowsOf (plainPairAt size) size (bytesFrom plain 1))
+  module _ (some : 1 ≤ getD plain 0 0) (few : getD plain 0 0 ≤ 16) where
+    plain-weights-next : readPlainTable plain ≡ (several plainWeight (getD plain 0 0) (bytesFrom plain 1) >>= λ ws. plainRowsThen (getD plain 0 0) (ws .value) (ws .rest))
     unfolding plainSize plainSized
-    plain-is =
+    plain-weights-next =
         plain-size-is
-        ∙ (ap (λ n. unless (ltb n 1 || ltb 16 n) 2 (record { value = n; rest = bytesFrom plain 1 }) >>= plainSized) size-is
-        ∙ (ap (λ t. unless (t || ltb 16 size) 2 (record { value = size; rest = bytesFrom plain 1 }) >>= plainSized) (le-ltb size 1 some)
-        ∙ ap (λ t. unless t 2 (record { value = size; rest = bytesFrom plain 1 }) >>= plainSized) (le-ltb 16 size few)))
+        ∙ (ap (λ t. unless (t || ltb 16 (getD plain 0 0)) 2 (record { value = getD plain 0 0; rest = bytesFrom plain 1 }) >>= plainSized) (le-ltb (getD plain 0 0) 1 some)
+        ∙ ap (λ t. unless t 2 (record { value = getD plain 0 0; rest = bytesFrom plain 1 }) >>= plainSized) (le-ltb 16 (getD plain 0 0) few))
 
-    module _ (cells : List ℕ) (at a : ℕ) (f : RowsFilled (plainPairAt size) (bytesFrom plain) (length plain) 1 size cells at a) where
-      pub plain-row-refused : (n : ℕ) → a ≤ size → several (plainPairAt size) (size - a) (bytesFrom plain at) ≡ refused n [] → readPlainTable plain ≡ refused n []
-      unfolding plainRows
-      plain-row-refused n h e = plain-is ∙ ap (plainRows size) (rows-row-refused (plainPairAt size) (bytesFrom plain) (length plain) 1 size some few cells at a f n h e)
+    pub plain-weights-refused : (n : ℕ) → several plainWeight (getD plain 0 0) (bytesFrom plain 1) ≡ refused n [] → readPlainTable plain ≡ refused n []
+    plain-weights-refused n e = plain-weights-next ∙ ap (λ o. o >>= λ ws. plainRowsThen (getD plain 0 0) (ws .value) (ws .rest)) e
 
-      plain-ended : size < a → readPlainTable plain ≡ unless (ltb 0 (length (bytesFrom plain at))) 3 (record { size = size; rows = f .done })
-      unfolding plainRows
-      plain-ended h = plain-is ∙ ap (plainRows size) (rows-ended (plainPairAt size) (bytesFrom plain) (length plain) 1 size some few cells at a f h)
-
-      pub plain-answered : size < a → length plain ≤ at → PlainTableOf plain cells size
-      plain-answered h l =
-          record {
-            table = record { size = size; rows = f .done };
-            read = plain-ended h ∙ ap (λ t. unless t 3 (record { size = size; rows = f .done })) (le-ltb 0 (length (bytesFrom plain at)) (omega (arith, length-drop at plain)));
-            listed = rows-listed (plainPairAt size) (bytesFrom plain) (length plain) 1 size some few cells at a f h;
-            of = record { stands = rows-stand (plainPairAt size) (bytesFrom plain) (length plain) 1 size some few cells at a f h; sized = refl };
-          }
-
-      pub plain-tail : size < a → at < length plain → readPlainTable plain ≡ refused 3 []
-      plain-tail h l = plain-ended h ∙ ap (λ t. unless t 3 (record { size = size; rows = f .done })) (lt-ltb 0 (length (bytesFrom plain at)) (omega (arith, length-drop at plain)))
+    pub plain-rows-next : (excess : List ℕ) (at : ℕ) → several plainWeight (getD plain 0 0) (bytesFrom plain 1) ≡ answered (record { value = excess; rest = bytesFrom plain at })
+        → plainRowsThen (getD plain 0 0) excess (bytesFrom plain at) ≡ readPlainTable plain
+    plain-rows-next excess at e = sym (plain-weights-next ∙ ap (λ o. o >>= λ ws. plainRowsThen (getD plain 0 0) (ws .value) (ws .rest)) e)

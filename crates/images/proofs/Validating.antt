@@ -11,11 +11,11 @@ use Rattle.model.specs.Images.{several, signedField, readProgram, entryField, r
 use Rattle.images.specs.Fields.{FieldAt, from}
 use Rattle.images.proofs.Several.{after, after-none, several-step, several-refused, several-done}
 
--- a value has at most 20 bits
+-- a value has at most 23 bits
 pub record Validated {A : Type 0} (reader : List ℕ → Outcome (Read A)) (head : ℕ) (image : List ℕ) (count at i : ℕ) : Type 0 where
   pub some-left : i ≤ count
   pub inside : at ≤ 8 * length image
-  pub near : at ≤ head + 20 * i
+  pub near : at ≤ head + 23 * i
   pub done : List A
   pub done-length : length done ≡ i
   pub resumed : several reader count (from image head) ≡ after done (several reader (count - i) (from image at))
@@ -58,7 +58,7 @@ module _ {A : Type 0} (reader : List ℕ → Outcome (Read A)) (head : ℕ) wher
       left : i < count → count - i ≡ suc (count - (i + 1))
       left h = omega arith
 
-      pub validated-more : (x : A) (next : ℕ) → next ≤ at + 20 → next ≤ 8 * length image → i < count → reader (from image at) ≡ answered (record { value = x; rest = from image next })
+      pub validated-more : (x : A) (next : ℕ) → next ≤ at + 23 → next ≤ 8 * length image → i < count → reader (from image at) ≡ answered (record { value = x; rest = from image next })
           → Validated reader head image count next (i + 1)
       validated-more x next short inside h e =
           record {

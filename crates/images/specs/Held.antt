@@ -5,7 +5,7 @@ use Prim.Native.Nat.{ℕ, _+_, _≤_}
 use lib.ListN.{length}
 use Rattle.model.specs.Word.{Positive}
 use Rattle.model.specs.Presentation.{Complement}
-use Rattle.cells.specs.Stands.{HoldsWord}
+use Rattle.cells.specs.Stands.{HoldsWord, HoldsWeights}
 use Rattle.images.specs.Tables.{HoldsPair, HoldsRow, RowsHeld}
 
 -- a cell holds some word
@@ -31,5 +31,7 @@ pub record HoldsSomeRow (size : ℕ) (cells : List ℕ) (a : ℕ) : Type 0 where
 pub record HoldsSomeTable (size : ℕ) (cells : List ℕ) : Type 0 where
   pub some : 1 ≤ size
   pub few : size ≤ 16
+  pub excess : List ℕ
+  pub weights : HoldsWeights size cells excess
   pub rows : List (List Complement)
   pub listed : RowsHeld size cells rows

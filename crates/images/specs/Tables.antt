@@ -2,19 +2,20 @@
 use mathlib.Core.List.{List, []}
 use mathlib.Core.Path.{_≡_}
 use mathlib.Core.Logic.{_⊎_}
-use Prim.Native.Nat.{ℕ, _+_, _-_, _*_, _≤_, _<_}
+use Prim.Native.Nat.{ℕ, _+_, _-_, _*_, _^_, _≤_, _<_}
+use lib.Dec.{ltb}
 use lib.ListN.{length, getD, drop}
 use Rattle.model.specs.Word.{Positive}
 use Rattle.model.specs.Presentation.{Presentation, Complement, undefined, swapped}
-use Rattle.model.specs.Outcome.{Outcome, answered, refused}
-use Rattle.model.specs.Bits.{Read}
-use Rattle.model.specs.Images.{wordField, pairField, several, readTable}
-use Rattle.model.specs.Plain.{plainLetters, plainPairAt, readPlainTable}
+use Rattle.model.specs.Outcome.{Outcome, answered, refused, _>>=_, unless}
+use Rattle.model.specs.Bits.{Read, field, finish}
+use Rattle.model.specs.Images.{weightWidth, wordField, pairField, several, rowsOf, readTable}
+use Rattle.model.specs.Plain.{plainWeight, plainLetters, plainPairAt, readPlainTable}
 use Rattle.model.specs.Stated.{refusal}
 use Rattle.images.specs.Fields.{from}
 use Rattle.model.specs.Range.{InRange}
 use Rattle.cells.specs.Layout.{Letters, cellAt}
-use Rattle.cells.specs.Stands.{Of, HoldsWord, HoldsFirst}
+use Rattle.cells.specs.Stands.{Of, HoldsWord, HoldsFirst, HoldsWeights, Blank}
 use Rattle.images.specs.declared.tables.TablePart.{TablePart}
 use Rattle.images.specs.declared.tables.TablePart.the-variants.{Next, Ends, Wrong}
 use Rattle.images.specs.declared.tables.TableRead.{TableRead}
@@ -129,19 +130,74 @@ pub record RowsHeld (size : ℕ) (cells : List ℕ) (rows : List (List Complemen
   pub widths : (i : ℕ) → i < length rows → length (getD rows i []) ≡ size - (1 + i)
   pub holds : (i : ℕ) → i < length rows → HoldsRow size cells (1 + i) (getD rows i [])
 
--- the cells stand for the table that the image holds
-pub record TableOf (image cells : List ℕ) (size : ℕ) : Type 0 where
+-- WEIGHTS: those of so many letters stand in their places, and the lengths in the cells of letters with themselves are as they were
+pub record WeightsFrom (reader : List ℕ → Outcome (Read ℕ)) (source : ℕ → List ℕ) (limit most at size : ℕ) (before after : List ℕ) (next : ℕ) : Type 0 where
+  pub excess : List ℕ
+  pub read : several reader size (source at) ≡ answered (record { value = excess; rest = source next })
+  pub position : After limit at most next
+  pub holds : HoldsWeights size after excess
+  pub kept : (p : ℕ) → InRange 16 p → getD after (cellAt p p) 0 ≡ getD before (cellAt p p) 0
+
+abbrev pub WeightsDoneFrom : (List ℕ → Outcome (Read ℕ)) → (ℕ → List ℕ) → ℕ → ℕ → ℕ → ℕ → List ℕ → List ℕ → TablePart → Type 0
+WeightsDoneFrom reader source limit most at size before after (Next next) = WeightsFrom reader source limit most at size before after next
+WeightsDoneFrom reader source limit most at size before after Ends = several reader size (source at) ≡ refused 1 []
+WeightsDoneFrom reader source limit most at size before after Wrong = several reader size (source at) ≡ refused 2 []
+
+abbrev pub WeightsDone : List ℕ → ℕ → ℕ → List ℕ → List ℕ → TablePart → Type 0
+WeightsDone image at size before after r = WeightsDoneFrom (field 1 weightWidth) (from image) (8 * length image) 48 at size before after r
+
+abbrev pub PlainWeightsDone : List ℕ → ℕ → ℕ → List ℕ → List ℕ → TablePart → Type 0
+PlainWeightsDone plain at size before after r = WeightsDoneFrom plainWeight (bytesFrom plain) (length plain) 16 at size before after r
+
+pub record WeightsBefore (image : List ℕ) (at size : ℕ) (cells : List ℕ) : Type 0 where
+  pub inside : at ≤ 8 * length image
+  pub small : at ≤ 2 ^ 40
+  pub few : size ≤ 16
+  pub full : length cells ≡ 4096
+
+-- ALL ROWS, after the weights: what the model's reader makes of them and of the end
+unfoldable pub rowsThen : ℕ → List ℕ → List ℕ → Outcome Presentation
+rowsThen size excess bits =
+    rowsOf (pairField size) size bits >>= λ rs.
+    finish 3 (record { value = record { size = size; excess = excess; rows = rs .value }; rest = rs .rest })
+
+unfoldable pub plainRowsThen : ℕ → List ℕ → List ℕ → Outcome Presentation
+plainRowsThen size excess bytes =
+    rowsOf (plainPairAt size) size bytes >>= λ rs.
+    unless (ltb 0 (length (rs .rest))) 3 (record { size = size; excess = excess; rows = rs .value })
+
+pub record RowsBefore (image : List ℕ) (begin size : ℕ) (cells : List ℕ) : Type 0 where
+  pub inside : begin ≤ 8 * length image
+  pub small : begin ≤ 64
+  pub some : 1 ≤ size
+  pub few : size ≤ 16
+  pub blank : Blank cells
+
+-- the cells stand for the table that reading comes to
+pub record Loaded (outcome : Outcome Presentation) (cells : List ℕ) (size : ℕ) : Type 0 where
   pub table : Presentation
-  pub read : readTable image ≡ answered table
+  pub read : outcome ≡ answered table
   pub of : Of cells size table
   pub listed : RowsHeld size cells (table .rows)
 
--- the cells stand for the table that the plain form says
-pub record PlainTableOf (plain cells : List ℕ) (size : ℕ) : Type 0 where
-  pub table : Presentation
-  pub read : readPlainTable plain ≡ answered table
-  pub of : Of cells size table
-  pub listed : RowsHeld size cells (table .rows)
+abbrev pub LoadedOr : Outcome Presentation → List ℕ → ℕ → TableRead → Type 0
+LoadedOr outcome cells size (Table n) = (n ≡ size) × Loaded outcome cells size
+LoadedOr outcome cells size (Refused r) = outcome ≡ refusal r
+
+abbrev pub RowsDone : List ℕ → ℕ → ℕ → List ℕ → List ℕ → TableRead → Type 0
+RowsDone image begin size before after r =
+    (excess : List ℕ) → HoldsWeights size before excess → LoadedOr (rowsThen size excess (from image begin)) after size r
+
+abbrev pub PlainRowsDone : List ℕ → ℕ → ℕ → List ℕ → List ℕ → TableRead → Type 0
+PlainRowsDone plain begin size before after r =
+    (excess : List ℕ) → HoldsWeights size before excess → LoadedOr (plainRowsThen size excess (bytesFrom plain begin)) after size r
+
+-- the cells stand for the table that the image holds, or that the plain form says
+abbrev pub TableOf : List ℕ → List ℕ → ℕ → Type 0
+TableOf image cells size = Loaded (readTable image) cells size
+
+abbrev pub PlainTableOf : List ℕ → List ℕ → ℕ → Type 0
+PlainTableOf plain cells size = Loaded (readPlainTable plain) cells size
 
 abbrev pub PlainTableDone : List ℕ → List ℕ → TableRead → Type 0
 PlainTableDone plain cells (Table size) = PlainTableOf plain cells size

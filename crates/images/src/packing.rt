@@ -3,18 +3,20 @@
 use crate::tables::DEFINED_BITS;
 use crate::tables::LENGTH_BITS;
 use crate::tables::SIZE_BITS;
+use crate::tables::WEIGHT_BITS;
 use cells::layout::UNDEFINED;
 use cells::layout::cell_at;
+use cells::layout::weight_at;
 ghost use mathlib.Core.Path.{_≡_};
 ghost use mathlib.Core.List.{List, _++_};
-ghost use Prim.Native.Nat.{_+_, _-_, _≤_, _<_};
+ghost use Prim.Native.Nat.{ℕ, _+_, _-_, _≤_, _<_};
 ghost use lib.ListN.{length};
 ghost use Rattle.model.specs.Word.{Positive};
 ghost use Rattle.model.specs.Presentation.{Complement};
 ghost use Rattle.model.specs.Enumeration.{concatMap};
 ghost use Rattle.model.specs.Bits.{digits};
-ghost use Rattle.model.specs.Images.{wordBits, pairBits};
-ghost use Rattle.cells.specs.Stands.{HoldsWord};
+ghost use Rattle.model.specs.Images.{weightWidth, wordBits, pairBits};
+ghost use Rattle.cells.specs.Stands.{HoldsWord, HoldsWeights};
 ghost use Rattle.cells.specs.Layout.{Letters};
 ghost use Rattle.images.specs.Tables.{HoldsPair, HoldsRow, RowsHeld};
 ghost use Rattle.images.specs.Written.{WidthOf};
@@ -91,20 +93,49 @@ pub fn pack_row(cells: &[u8], size: u8, width: usize, a: u8, out: &mut [u8], at:
     next
 }
 
-// A table image, from its cells; how many bits it has.
-pub fn pack_cells(cells: &[u8], size: u8, out: &mut [u8]) -> usize
-    requires { ⌜ HoldsSomeTable size (now cells) × (length (now cells) ≡ 4096) × (length (now out) ≡ 8192) ⌝ }
-    ensures table { λ r. ⌜ ((rows : List (List Complement)) → RowsHeld size (now (cells .entry)) rows → AppendedTo (now (out .entry)) 0 (digits 4 (size - 1) ++ concatMap (concatMap (pairBits size)) rows) (now (out .exit)) r) ⌝ }
+// The weights of the letters of a table image, from their places; the position after them.
+pub fn pack_weights(cells: &[u8], size: u8, out: &mut [u8], at: usize) -> usize
+    requires { ⌜ HoldsSomeTable size (now cells) × (length (now cells) ≡ 4096) × Room (now out) at 48 ⌝ }
+    ensures weights { λ r. ⌜ ((excess : List ℕ) → HoldsWeights size (now (cells .entry)) excess → AppendedTo (now (out .entry)) at (concatMap (digits weightWidth) excess) (now (out .exit)) r) ⌝ }
+    ensures length { λ r. ⌜ length (now (out .exit)) ≡ length (now (out .entry)) ⌝ }
+    ensures near { λ r. ⌜ r ≤ at + 48 ⌝ }
+{
+    let mut next = at;
+    let mut a: u8 = 1;
+    while a <= size {
+        let place = weight_at(a);
+        bits::write_field(out, next, WEIGHT_BITS, cells[place] as u16);
+        next = next + WEIGHT_BITS;
+        a += 1;
+    }
+    next
+}
+
+// The pairs of a table image, from their cells; the position after them.
+pub fn pack_rows(cells: &[u8], size: u8, out: &mut [u8], begin: usize) -> usize
+    requires { ⌜ HoldsSomeTable size (now cells) × (length (now cells) ≡ 4096) × (length (now out) ≡ 8192) × (begin ≤ 52) ⌝ }
+    ensures rows { λ r. ⌜ ((rows : List (List Complement)) → RowsHeld size (now (cells .entry)) rows → AppendedTo (now (out .entry)) begin (concatMap (concatMap (pairBits size)) rows) (now (out .exit)) r) ⌝ }
     ensures length { λ r. ⌜ length (now (out .exit)) ≡ length (now (out .entry)) ⌝ }
     ensures near { λ r. ⌜ r ≤ 65528 ⌝ }
 {
     let width = bits::letter_width(size) as usize;
-    bits::write_field(out, 0, SIZE_BITS, (size - 1) as u16);
-    let mut next: usize = SIZE_BITS;
+    let mut next = begin;
     let mut a: u8 = 1;
     while a <= size {
         next = pack_row(cells, size, width, a, out, next);
         a += 1;
     }
     next
+}
+
+// A table image, from its cells; how many bits it has.
+pub fn pack_cells(cells: &[u8], size: u8, out: &mut [u8]) -> usize
+    requires { ⌜ HoldsSomeTable size (now cells) × (length (now cells) ≡ 4096) × (length (now out) ≡ 8192) ⌝ }
+    ensures table { λ r. ⌜ ((excess : List ℕ) (rows : List (List Complement)) → HoldsWeights size (now (cells .entry)) excess → RowsHeld size (now (cells .entry)) rows → AppendedTo (now (out .entry)) 0 (digits 4 (size - 1) ++ (concatMap (digits weightWidth) excess ++ concatMap (concatMap (pairBits size)) rows)) (now (out .exit)) r) ⌝ }
+    ensures length { λ r. ⌜ length (now (out .exit)) ≡ length (now (out .entry)) ⌝ }
+    ensures near { λ r. ⌜ r ≤ 65528 ⌝ }
+{
+    bits::write_field(out, 0, SIZE_BITS, (size - 1) as u16);
+    let next = pack_weights(cells, size, out, SIZE_BITS);
+    pack_rows(cells, size, out, next)
 }

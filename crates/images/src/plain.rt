@@ -1,23 +1,25 @@
-// Plain forms: a program is a byte a letter; a table its number of letters, then its pairs.
+// Plain forms: a program is a byte a letter; a table its number of letters, their weights, then its pairs.
 
 use crate::tables::TablePart;
 use crate::tables::TableRead;
 use crate::writing;
 use cells::layout::UNDEFINED;
 use cells::layout::cell_at;
+use cells::layout::weight_at;
 use model::answers::Refusal;
 use model::plain::MOST_LETTERS;
+use model::plain::MOST_WEIGHT;
 ghost use mathlib.Core.Path.{_≡_};
-ghost use Prim.Native.Nat.{ℕ, _+_, _≤_, _<_};
+ghost use Prim.Native.Nat.{ℕ, suc, _+_, _≤_, _<_};
 ghost use lib.ListN.{length};
 ghost use Rattle.model.specs.Word.{Positive};
-ghost use mathlib.Core.List.{List, _∷_};
+ghost use mathlib.Core.List.{List, _∷_, _++_, map};
 ghost use Rattle.model.specs.Presentation.{Complement};
 ghost use Rattle.model.specs.Enumeration.{concatMap};
 ghost use Rattle.model.specs.Plain.{plainWord, plainPair};
-ghost use Rattle.cells.specs.Stands.{HoldsWord, Blank};
+ghost use Rattle.cells.specs.Stands.{HoldsWord, HoldsWeights, Blank};
 ghost use Rattle.cells.specs.Layout.{Letters};
-ghost use Rattle.images.specs.Tables.{HoldsPair, HoldsRow, RowsHeld, PlainBefore, PlainWordDone, PlainPairDone, PlainRowDone, PlainTableDone};
+ghost use Rattle.images.specs.Tables.{HoldsPair, HoldsRow, RowsHeld, PlainBefore, PlainWordDone, PlainPairDone, PlainRowDone, PlainWeightsDone, PlainRowsDone, PlainTableDone};
 ghost use Rattle.images.specs.Held.{HoldsSomeWord, HoldsSomePair, HoldsSomeRow, HoldsSomeTable};
 ghost use Rattle.images.specs.Bytewise.{PlainDone, Wrote};
 
@@ -138,6 +140,57 @@ pub fn read_plain_row(plain: &[u8], at: usize, size: u8, cells: &mut [u8], a: u8
     TablePart::Next(next)
 }
 
+// The weights of the letters of a table in plain form, into their places, each less 1.
+pub fn read_plain_weights(plain: &[u8], at: usize, size: u8, cells: &mut [u8]) -> TablePart
+    requires { ⌜ PlainBefore (now plain) at size × (length (now cells) ≡ 4096) ⌝ }
+    ensures length { λ r. ⌜ length (now (cells .exit)) ≡ length (now (cells .entry)) ⌝ }
+    ensures weights { λ r. ⌜ PlainWeightsDone (now (plain .entry)) at size (now (cells .entry)) (now (cells .exit)) r ⌝ }
+{
+    let mut next = at;
+    let mut a: u8 = 1;
+    while a <= size {
+        if plain.len() <= next {
+            return TablePart::Ends;
+        }
+        let weight = plain[next];
+        if weight < 1 {
+            return TablePart::Wrong;
+        }
+        if weight > MOST_WEIGHT {
+            return TablePart::Wrong;
+        }
+        let place = weight_at(a);
+        cells[place] = weight - 1;
+        next += 1;
+        a += 1;
+    }
+    TablePart::Next(next)
+}
+
+// The pairs of a table in plain form, whose weights were read, into their cells, and the form's end.
+pub fn read_plain_rows(plain: &[u8], begin: usize, size: u8, cells: &mut [u8]) -> TableRead
+    requires { ⌜ PlainBefore (now plain) begin size × Blank (now cells) ⌝ }
+    ensures length { λ r. ⌜ length (now (cells .exit)) ≡ length (now (cells .entry)) ⌝ }
+    ensures rows { λ r. ⌜ PlainRowsDone (now (plain .entry)) begin size (now (cells .entry)) (now (cells .exit)) r ⌝ }
+{
+    let mut at = begin;
+    let mut a: u8 = 1;
+    while a <= size {
+        match read_plain_row(plain, at, size, cells, a) {
+            TablePart::Ends => return TableRead::Refused(Refusal::TableEnds),
+            TablePart::Wrong => return TableRead::Refused(Refusal::TableField),
+            TablePart::Next(next) => {
+                at = next;
+                a += 1;
+            }
+        }
+    }
+    if at < plain.len() {
+        return TableRead::Refused(Refusal::TableTail);
+    }
+    TableRead::Table { size }
+}
+
 // Refusal 1 or 2, whichever is come to first, then 3 (specification 5.7). After an answer the cells stand for the table.
 pub fn read_plain_table(plain: &[u8], cells: &mut [u8]) -> TableRead
     requires { ⌜ Blank (now cells) ⌝ }
@@ -154,22 +207,11 @@ pub fn read_plain_table(plain: &[u8], cells: &mut [u8]) -> TableRead
     if size > 16 {
         return TableRead::Refused(Refusal::TableField);
     }
-    let mut at: usize = 1;
-    let mut a: u8 = 1;
-    while a <= size {
-        match read_plain_row(plain, at, size, cells, a) {
-            TablePart::Ends => return TableRead::Refused(Refusal::TableEnds),
-            TablePart::Wrong => return TableRead::Refused(Refusal::TableField),
-            TablePart::Next(next) => {
-                at = next;
-                a += 1;
-            }
-        }
+    match read_plain_weights(plain, 1, size, cells) {
+        TablePart::Ends => TableRead::Refused(Refusal::TableEnds),
+        TablePart::Wrong => TableRead::Refused(Refusal::TableField),
+        TablePart::Next(at) => read_plain_rows(plain, at, size, cells),
     }
-    if at < plain.len() {
-        return TableRead::Refused(Refusal::TableTail);
-    }
-    TableRead::Table { size }
 }
 
 // A word of a table in plain form, from its cell; the place after it.
@@ -221,19 +263,48 @@ pub fn write_plain_row(cells: &[u8], size: u8, a: u8, out: &mut [u8], at: usize)
     next
 }
 
-// A table in plain form, from its cells; how many bytes it has.
-pub fn write_plain_table(cells: &[u8], size: u8, out: &mut [u8]) -> usize
-    requires { ⌜ HoldsSomeTable size (now cells) × (length (now cells) ≡ 4096) × (length (now out) ≡ 8192) ⌝ }
+// The weights of the letters in plain form, from their places; the place after them.
+pub fn write_plain_weights(cells: &[u8], size: u8, out: &mut [u8], at: usize) -> usize
+    requires { ⌜ HoldsSomeTable size (now cells) × (length (now cells) ≡ 4096) × (at + 16 ≤ length (now out)) ⌝ }
     ensures length { λ r. ⌜ length (now (out .exit)) ≡ length (now (out .entry)) ⌝ }
-    ensures table { λ r. ⌜ ((rows : List (List Complement)) → RowsHeld size (now (cells .entry)) rows → Wrote (now (out .entry)) 0 (size ∷ concatMap (concatMap plainPair) rows) (now (out .exit)) r) ⌝ }
+    ensures weights { λ r. ⌜ ((excess : List ℕ) → HoldsWeights size (now (cells .entry)) excess → Wrote (now (out .entry)) at (map suc excess) (now (out .exit)) r) ⌝ }
+    ensures near { λ r. ⌜ r ≤ at + 16 ⌝ }
+{
+    let mut next = at;
+    let mut a: u8 = 1;
+    while a <= size {
+        let place = weight_at(a);
+        out[next] = cells[place] + 1;
+        next += 1;
+        a += 1;
+    }
+    next
+}
+
+// The pairs of a table in plain form, from their cells; the place after them.
+pub fn write_plain_rows(cells: &[u8], size: u8, out: &mut [u8], begin: usize) -> usize
+    requires { ⌜ HoldsSomeTable size (now cells) × (length (now cells) ≡ 4096) × (length (now out) ≡ 8192) × (begin ≤ 17) ⌝ }
+    ensures length { λ r. ⌜ length (now (out .exit)) ≡ length (now (out .entry)) ⌝ }
+    ensures rows { λ r. ⌜ ((rows : List (List Complement)) → RowsHeld size (now (cells .entry)) rows → Wrote (now (out .entry)) begin (concatMap (concatMap plainPair) rows) (now (out .exit)) r) ⌝ }
     ensures near { λ r. ⌜ r ≤ 8192 ⌝ }
 {
-    out[0] = size;
-    let mut next: usize = 1;
+    let mut next = begin;
     let mut a: u8 = 1;
     while a <= size {
         next = write_plain_row(cells, size, a, out, next);
         a += 1;
     }
     next
+}
+
+// A table in plain form, from its cells; how many bytes it has.
+pub fn write_plain_table(cells: &[u8], size: u8, out: &mut [u8]) -> usize
+    requires { ⌜ HoldsSomeTable size (now cells) × (length (now cells) ≡ 4096) × (length (now out) ≡ 8192) ⌝ }
+    ensures length { λ r. ⌜ length (now (out .exit)) ≡ length (now (out .entry)) ⌝ }
+    ensures table { λ r. ⌜ ((excess : List ℕ) (rows : List (List Complement)) → HoldsWeights size (now (cells .entry)) excess → RowsHeld size (now (cells .entry)) rows → Wrote (now (out .entry)) 0 (size ∷ (map suc excess ++ concatMap (concatMap plainPair) rows)) (now (out .exit)) r) ⌝ }
+    ensures near { λ r. ⌜ r ≤ 8192 ⌝ }
+{
+    out[0] = size;
+    let next = write_plain_weights(cells, size, out, 1);
+    write_plain_rows(cells, size, out, next)
 }

@@ -6,6 +6,7 @@ use crate::fields::LetterField;
 use cells::layout::CELLS;
 use cells::layout::UNDEFINED;
 use cells::layout::cell_at;
+use cells::layout::weight_at;
 use model::answers::Refusal;
 ghost use mathlib.Core.Path.{_≡_};
 ghost use Prim.Native.Nat.{_+_, _^_, _≤_, _<_};
@@ -13,10 +14,12 @@ ghost use lib.ListN.{length};
 ghost use Rattle.images.specs.Fields.{Before};
 ghost use Rattle.cells.specs.Layout.{Letters};
 ghost use Rattle.cells.specs.Stands.{Blank};
-ghost use Rattle.images.specs.Tables.{WordDone, PairDone, RowDone, TableDone, SizeDone};
+ghost use Rattle.images.specs.Tables.{WordDone, PairDone, RowDone, WeightsBefore, WeightsDone, RowsBefore, RowsDone, TableDone, SizeDone};
 
-// The bits of a table's number of letters, of the mark that a pair is defined, and of a word's length.
+// The bits of a table's number of letters, of a weight, of the mark that a pair is defined, and of a word's length.
 pub const SIZE_BITS: usize = 4;
+
+pub const WEIGHT_BITS: usize = 3;
 
 pub const DEFINED_BITS: usize = 1;
 
@@ -127,18 +130,34 @@ pub fn read_row(
     TablePart::Next(next)
 }
 
-// Refusal 1 or 2, whichever is come to first, then 3 (specification 5.3). After an answer the cells stand for the table.
-pub fn read_table(image: &[u8], cells: &mut [u8]) -> TableRead
-    requires { ⌜ Blank (now cells) ⌝ }
+// The weights of the letters of a table image, each less 1, into their places.
+pub fn read_weights(image: &[u8], at: usize, size: u8, cells: &mut [u8]) -> TablePart
+    requires { ⌜ WeightsBefore (now image) at size (now cells) ⌝ }
     ensures length { λ r. ⌜ length (now (cells .exit)) ≡ length (now (cells .entry)) ⌝ }
-    ensures table { λ r. ⌜ TableDone (now (image .entry)) (now (cells .exit)) r ⌝ }
+    ensures weights { λ r. ⌜ WeightsDone (now (image .entry)) at size (now (cells .entry)) (now (cells .exit)) r ⌝ }
 {
-    let Field::Value(head) = fields::next_field(image, 0, SIZE_BITS) else {
-        return TableRead::Refused(Refusal::TableEnds);
-    };
-    let size = (head + 1) as u8;
+    let mut next = at;
+    let mut a: u8 = 1;
+    while a <= size {
+        let Field::Value(value) = fields::next_field(image, next, WEIGHT_BITS) else {
+            return TablePart::Ends;
+        };
+        let place = weight_at(a);
+        cells[place] = value as u8;
+        next = next + WEIGHT_BITS;
+        a += 1;
+    }
+    TablePart::Next(next)
+}
+
+// The pairs of a table image, whose weights were read, into their cells, and the image's end.
+pub fn read_rows(image: &[u8], begin: usize, size: u8, cells: &mut [u8]) -> TableRead
+    requires { ⌜ RowsBefore (now image) begin size (now cells) ⌝ }
+    ensures length { λ r. ⌜ length (now (cells .exit)) ≡ length (now (cells .entry)) ⌝ }
+    ensures rows { λ r. ⌜ RowsDone (now (image .entry)) begin size (now (cells .entry)) (now (cells .exit)) r ⌝ }
+{
     let width = bits::letter_width(size) as usize;
-    let mut at: usize = SIZE_BITS;
+    let mut at = begin;
     let mut a: u8 = 1;
     while a <= size {
         match read_row(image, at, size, width, cells, a) {
@@ -154,6 +173,23 @@ pub fn read_table(image: &[u8], cells: &mut [u8]) -> TableRead
         TableRead::Table { size }
     } else {
         TableRead::Refused(Refusal::TableTail)
+    }
+}
+
+// Refusal 1 or 2, whichever is come to first, then 3 (specification 5.3). After an answer the cells stand for the table.
+pub fn read_table(image: &[u8], cells: &mut [u8]) -> TableRead
+    requires { ⌜ Blank (now cells) ⌝ }
+    ensures length { λ r. ⌜ length (now (cells .exit)) ≡ length (now (cells .entry)) ⌝ }
+    ensures table { λ r. ⌜ TableDone (now (image .entry)) (now (cells .exit)) r ⌝ }
+{
+    let Field::Value(head) = fields::next_field(image, 0, SIZE_BITS) else {
+        return TableRead::Refused(Refusal::TableEnds);
+    };
+    let size = (head + 1) as u8;
+    match read_weights(image, SIZE_BITS, size, cells) {
+        TablePart::Ends => TableRead::Refused(Refusal::TableEnds),
+        TablePart::Wrong => TableRead::Refused(Refusal::TableField),
+        TablePart::Next(at) => read_rows(image, at, size, cells),
     }
 }
 

@@ -11,7 +11,7 @@ use lib.ListN.{length, take, drop, replicate}
 use Rattle.model.specs.Word.{forwards}
 use Rattle.model.specs.Outcome.{Outcome, answered, refused, _>>=_, unless}
 use Rattle.model.specs.Bits.{Read, bitsOf, field, finish, filling, letterWidth, number}
-use Rattle.model.specs.Images.{letterField, several, rowsOf, wordField, definedField, pairField, signedField, entryField, readTable, readProgram, readChain}
+use Rattle.model.specs.Images.{weightWidth, offsetWidth, letterField, several, rowsOf, wordField, definedField, pairField, signedField, entryField, readTable, readProgram, readChain}
 use Rattle.model.specs.Services.{isForward, readForward}
 use Rattle.model.specs.Areas.{workspaceAfter}
 use Rattle.model.specs.Stated.{numbered, refusal}
@@ -75,9 +75,11 @@ pub table-early : (bytes : List ℕ) → Early 3 (readTable bytes)
 unfolding readTable
 table-early bytes =
     then 3 (field 1 4 (bitsOf bytes)) _ (field-early 3 1 4 (bitsOf bytes) (omega arith))
-    (λ h. then 3 (rowsOf (pairField (h .value + 1)) (h .value + 1) (h .rest)) _
-    (rows-early 3 (pairField (h .value + 1)) (pair-early (h .value + 1)) (h .value + 1) (h .rest))
-    (λ rs. finish-early 3 3 (record { value = record { size = h .value + 1; rows = rs .value }; rest = rs .rest }) (omega arith)))
+    (λ h. then 3 (several (field 1 weightWidth) (h .value + 1) (h .rest)) _
+    (several-early 3 (field 1 weightWidth) (λ b. field-early 3 1 weightWidth b (omega arith)) (h .value + 1) (h .rest))
+    (λ ws. then 3 (rowsOf (pairField (h .value + 1)) (h .value + 1) (ws .rest)) _
+    (rows-early 3 (pairField (h .value + 1)) (pair-early (h .value + 1)) (h .value + 1) (ws .rest))
+    (λ rs. finish-early 3 3 (record { value = record { size = h .value + 1; excess = ws .value; rows = rs .value }; rest = rs .rest }) (omega arith))))
 
 signed-early : (n : ℕ) (bits : List ℕ) → Early 6 (signedField n bits)
 signed-early n bits =
@@ -93,7 +95,7 @@ program-early n bytes =
 
 entry-early : (n : ℕ) (bits : List ℕ) → Early 6 (entryField n bits)
 entry-early n bits =
-    then 6 (field 4 12 bits) _ (field-early 6 4 12 bits (omega arith))
+    then 6 (field 4 offsetWidth bits) _ (field-early 6 4 offsetWidth bits (omega arith))
     (λ o. then 6 (letterField 4 5 n (o .rest)) _ (letter-early 6 4 5 n (o .rest) (omega arith) (omega arith))
     (λ a. then 6 (letterField 4 5 n (a .rest)) _ (letter-early 6 4 5 n (a .rest) (omega arith) (omega arith)) (λ b. tt)))
 

@@ -3,3 +3,4 @@ pub mod Outcomes
 pub mod Programs
 pub mod Reading
 pub mod LoadedPrograms
+pub mod Weights

@@ -12,7 +12,7 @@ use Rattle.model.specs.Areas.{Compares}
 use Rattle.model.specs.Stated.{refusal}
 use Rattle.model.specs.declared.answers.Refusal.{Refusal}
 use Rattle.images.specs.Programs.{ForwardOf}
-use Rattle.images.specs.Tables.{TableOf}
+use Rattle.images.specs.Tables.{Loaded, TableOf}
 use Rattle.loading.specs.Loading.{Images, readPrograms, ProgramsLoaded}
 use Rattle.loading.proofs.Early.{images-early}
 use Rattle.loading.proofs.Outcomes.{AsFound, still-refused, goes-on, reading-refused}
@@ -23,7 +23,7 @@ regrouped : {A B C : Type 0} (o : Outcome A) (f : A → Outcome B) (rest : B →
 regrouped (answered x) f rest g e = e x
 regrouped (refused n ps) f rest g e = refl
 
-pub loaded-size : {table cells : List ℕ} {size : ℕ} → TableOf table cells size → (1 ≤ size) × (size ≤ 16)
+pub loaded-size : {o : Outcome Presentation} {cells : List ℕ} {size : ℕ} → Loaded o cells size → (1 ≤ size) × (size ≤ 16)
 loaded-size t = (omega (arith, t .of .sized, t .of .stands .some), omega (arith, t .of .sized, t .of .stands .few))
 
 module _ (table first second : List ℕ) where

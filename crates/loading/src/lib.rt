@@ -1,3 +1,4 @@
 // Images read and programs loaded into the workspace, as the services begin.
 pub mod comparison;
 pub mod loading;
+pub mod weighing;

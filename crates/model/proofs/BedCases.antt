@@ -15,14 +15,16 @@ use Rattle.model.specs.Bed.{isBraid, bedAfter, totalBytes, readBraid, be
 use Rattle.model.proofs.Case.{Case, _gives_, All}
 use Rattle.model.proofs.Samples.{braid3, braid1, open2, three, broken3, unequal2, endless3, image, log, braidBytes, first, firstBytes}
 
--- the braid table of 2 letters
-abbrev braid2 : Presentation
-braid2 = record { size = 2; rows = (complement (2 ∷ 1 ∷ []) (1 ∷ 2 ∷ []) ∷ []) ∷ [] ∷ [] }
+-- the braid table of 2 letters, with whatever weights
+abbrev braid2 : List ℕ → Presentation
+braid2 ws = record { size = 2; excess = ws; rows = (complement (2 ∷ 1 ∷ []) (1 ∷ 2 ∷ []) ∷ []) ∷ [] ∷ [] }
 
 abbrev pub braidTables : List {1} Case
 braidTables =
     (isBraid braid1 gives true) ∷
-    (isBraid braid2 gives true) ∷
+    (isBraid (braid2 (0 ∷ 0 ∷ [])) gives true) ∷
+    -- weights play no part
+    (isBraid (braid2 (0 ∷ 7 ∷ [])) gives true) ∷
     (isBraid braid3 gives true) ∷
     (isBraid open2 gives false) ∷
     (isBraid broken3 gives false) ∷
@@ -74,7 +76,7 @@ bedCalls =
     (bed braidBytes firstBytes 0 15 gives refused 13 []) ∷
     -- the table's 1 to 3, then 15, then the program's 4 to 6, then 13
     (bed [] [] 5 0 gives refused 1 []) ∷
-    (bed (0x29 ∷ 0x60 ∷ []) [] 5 0 gives refused 2 []) ∷
+    (bed (0x20 ∷ 0x04 ∷ 0xb0 ∷ []) [] 5 0 gives refused 2 []) ∷
     (bed (0x01 ∷ []) [] 5 0 gives refused 3 []) ∷
     (bed (image open2) [] 5 0 gives refused 15 []) ∷
     (bed (image endless3) firstBytes 5 32768 gives refused 15 []) ∷
@@ -95,7 +97,7 @@ pub bed-cases-hold : BedCases
 unfolding tableImage programImage field finish readTable readProgram isBraid readBraid bed complete
 bed-cases-hold =
     record {
-      braid-tables-hold = (refl, (refl, (refl, (refl, (refl, (refl, (refl, (refl, (refl, (refl, tt))))))))));
+      braid-tables-hold = (refl, (refl, (refl, (refl, (refl, (refl, (refl, (refl, (refl, (refl, (refl, tt)))))))))));
       beds-hold = (refl, (refl, (refl, (refl, (refl, (refl, (refl, (refl, (refl, (refl, (refl, (refl, (refl, tt)))))))))))));
       bed-calls-hold = (refl, (refl, (refl, (refl, (refl, (refl, (refl, (refl, (refl, (refl, (refl, (refl, (refl, (refl, (refl, (refl, (refl, (refl, (refl, tt)))))))))))))))))));
     }

@@ -16,7 +16,7 @@ use Rattle.model.specs.Plain.{plainTable, readPlainTable, readPlainProgr
 use Rattle.model.specs.Services.{Fraction, reverse, clear, readForward, compare, comparison, chain, check, followed, packTable, unpackTable, packProgram, unpackProgram, same-after, different-after, remainder, quotient, moves-after, none-after, joins, breaks, ends-elsewhere}
 use Rattle.model.specs.Areas.{fractionBytes, remainderBytes, outputAfter, workspaceAfter}
 use Rattle.model.proofs.Case.{Case, _gives_, All}
-use Rattle.model.proofs.Samples.{braid1, open2, three, broken3, unequal2, endless3, image, log, pattern, braidBytes, firstBytes}
+use Rattle.model.proofs.Samples.{braid1, open2, three, broken3, two, unequal2, heavy2, endless3, image, log, pattern, braidBytes, firstBytes}
 
 -- the first program's answer
 abbrev firstAnswer : Fraction
@@ -89,46 +89,55 @@ triples =
 -- Table images and plain tables: refusals 1, 2 and 3, in both orders of 1 and 2.
 abbrev pub tables : List {1} Case
 tables =
-    -- 1: an empty image, and one that is cut
+    -- 1: an empty image, one that ends within the weights, and one that is cut
     (unpackTable [] 99 gives refused 1 []) ∷
-    (unpackTable (0x29 ∷ 0x21 ∷ 0x0c ∷ 0x61 ∷ 0x25 ∷ 0x24 ∷ []) 99 gives refused 1 []) ∷
+    (unpackTable (0x2f ∷ []) 99 gives refused 1 []) ∷
+    (unpackTable (0x20 ∷ 0x04 ∷ 0x90 ∷ 0x86 ∷ 0x30 ∷ 0x92 ∷ 0x92 ∷ []) 99 gives refused 1 []) ∷
     -- 2: with n = 3 a field of 3 names no letter
-    (unpackTable (0x29 ∷ 0x61 ∷ 0x0c ∷ 0x61 ∷ 0x25 ∷ 0x24 ∷ 0xc0 ∷ []) 99 gives refused 2 []) ∷
+    (unpackTable (0x20 ∷ 0x04 ∷ 0xb0 ∷ 0x86 ∷ 0x30 ∷ 0x92 ∷ 0x92 ∷ 0x60 ∷ []) 99 gives refused 2 []) ∷
     -- 2 is met before the end
-    (unpackTable (0x29 ∷ 0x60 ∷ []) 99 gives refused 2 []) ∷
+    (unpackTable (0x20 ∷ 0x04 ∷ 0xb0 ∷ []) 99 gives refused 2 []) ∷
     -- the end is met before 2: half a field, all ones
-    (unpackTable (0x28 ∷ 0x11 ∷ []) 99 gives refused 1 []) ∷
+    (unpackTable (0x20 ∷ 0x02 ∷ 0x61 ∷ []) 99 gives refused 1 []) ∷
     -- 3: a filling bit, and a byte that follows
-    (unpackTable (0x29 ∷ 0x21 ∷ 0x0c ∷ 0x61 ∷ 0x25 ∷ 0x24 ∷ 0xc1 ∷ []) 99 gives refused 3 []) ∷
-    (unpackTable (0x29 ∷ 0x21 ∷ 0x0c ∷ 0x61 ∷ 0x25 ∷ 0x24 ∷ 0xc0 ∷ 0x00 ∷ []) 99 gives refused 3 []) ∷
+    (unpackTable (0x20 ∷ 0x04 ∷ 0x90 ∷ 0x86 ∷ 0x30 ∷ 0x92 ∷ 0x92 ∷ 0x61 ∷ []) 99 gives refused 3 []) ∷
+    (unpackTable (0x20 ∷ 0x04 ∷ 0x90 ∷ 0x86 ∷ 0x30 ∷ 0x92 ∷ 0x92 ∷ 0x60 ∷ 0x00 ∷ []) 99 gives refused 3 []) ∷
     -- 2 comes before 3
-    (unpackTable (0x29 ∷ 0x61 ∷ 0x0c ∷ 0x61 ∷ 0x25 ∷ 0x24 ∷ 0xc1 ∷ []) 99 gives refused 2 []) ∷
-    -- n = 1 has no fields but its count
-    (unpackTable (0x00 ∷ []) 99 gives answered (1 ∷ [])) ∷
+    (unpackTable (0x20 ∷ 0x04 ∷ 0xb0 ∷ 0x86 ∷ 0x30 ∷ 0x92 ∷ 0x92 ∷ 0x61 ∷ []) 99 gives refused 2 []) ∷
+    -- n = 1 has no fields but its count and its weight
+    (unpackTable (0x00 ∷ []) 99 gives answered (1 ∷ 1 ∷ [])) ∷
+    (unpackTable (0x0e ∷ []) 99 gives answered (1 ∷ 8 ∷ [])) ∷
     (unpackTable (0x01 ∷ []) 99 gives refused 3 []) ∷
-    -- plain, 1: empty, or cut
+    -- a weight's field holds one less, and the weights stand before the pairs
+    (image heavy2 gives 0x10 ∷ 0x65 ∷ 0x0c ∷ []) ∷
+    (unpackTable (0x10 ∷ 0x65 ∷ 0x0c ∷ []) 99 gives answered (2 ∷ 1 ∷ 2 ∷ 2 ∷ 2 ∷ 1 ∷ 1 ∷ 2 ∷ [])) ∷
+    -- plain, 1: empty, cut within the weights, or cut
     (packTable [] 99 gives refused 1 []) ∷
-    (packTable (2 ∷ 1 ∷ 2 ∷ 1 ∷ []) 99 gives refused 1 []) ∷
-    -- plain, 2: n, a length, a letter
+    (packTable (3 ∷ 1 ∷ 1 ∷ []) 99 gives refused 1 []) ∷
+    (packTable (2 ∷ 1 ∷ 1 ∷ 1 ∷ 2 ∷ 1 ∷ []) 99 gives refused 1 []) ∷
+    -- plain, 2: n, a weight, a length, a letter
     (packTable (0 ∷ []) 99 gives refused 2 []) ∷
     (packTable (17 ∷ []) 99 gives refused 2 []) ∷
-    (packTable (2 ∷ 16 ∷ []) 99 gives refused 2 []) ∷
-    (packTable (2 ∷ 1 ∷ 0 ∷ []) 99 gives refused 2 []) ∷
-    (packTable (2 ∷ 1 ∷ 3 ∷ []) 99 gives refused 2 []) ∷
+    (packTable (2 ∷ 0 ∷ []) 99 gives refused 2 []) ∷
+    (packTable (2 ∷ 1 ∷ 9 ∷ []) 99 gives refused 2 []) ∷
+    (packTable (2 ∷ 1 ∷ 1 ∷ 16 ∷ []) 99 gives refused 2 []) ∷
+    (packTable (2 ∷ 1 ∷ 1 ∷ 1 ∷ 0 ∷ []) 99 gives refused 2 []) ∷
+    (packTable (2 ∷ 1 ∷ 1 ∷ 1 ∷ 3 ∷ []) 99 gives refused 2 []) ∷
     -- only the first length byte of a pair may be 255
-    (packTable (2 ∷ 0 ∷ 255 ∷ []) 99 gives refused 2 []) ∷
+    (packTable (2 ∷ 1 ∷ 1 ∷ 0 ∷ 255 ∷ []) 99 gives refused 2 []) ∷
     -- the end is met before 2, and 2 before the end
-    (packTable (3 ∷ 2 ∷ 1 ∷ []) 99 gives refused 1 []) ∷
-    (packTable (3 ∷ 2 ∷ 4 ∷ []) 99 gives refused 2 []) ∷
+    (packTable (3 ∷ 1 ∷ 1 ∷ 1 ∷ 2 ∷ 1 ∷ []) 99 gives refused 1 []) ∷
+    (packTable (3 ∷ 1 ∷ 1 ∷ 1 ∷ 2 ∷ 4 ∷ []) 99 gives refused 2 []) ∷
     -- plain, 3: a byte follows
-    (packTable (2 ∷ 255 ∷ 0 ∷ []) 99 gives refused 3 []) ∷
-    (packTable (1 ∷ 0 ∷ []) 99 gives refused 3 []) ∷
+    (packTable (2 ∷ 1 ∷ 1 ∷ 255 ∷ 0 ∷ []) 99 gives refused 3 []) ∷
+    (packTable (1 ∷ 1 ∷ 0 ∷ []) 99 gives refused 3 []) ∷
     -- packed and unpacked
-    (packTable (3 ∷ 2 ∷ 2 ∷ 1 ∷ 2 ∷ 1 ∷ 2 ∷ 1 ∷ 3 ∷ 1 ∷ 1 ∷ 2 ∷ 3 ∷ 2 ∷ 2 ∷ 2 ∷ 3 ∷ []) 7 gives answered braidBytes) ∷
-    (unpackTable braidBytes 17 gives answered (3 ∷ 2 ∷ 2 ∷ 1 ∷ 2 ∷ 1 ∷ 2 ∷ 1 ∷ 3 ∷ 1 ∷ 1 ∷ 2 ∷ 3 ∷ 2 ∷ 2 ∷ 2 ∷ 3 ∷ [])) ∷
+    (packTable (3 ∷ 1 ∷ 1 ∷ 1 ∷ 2 ∷ 2 ∷ 1 ∷ 2 ∷ 1 ∷ 2 ∷ 1 ∷ 3 ∷ 1 ∷ 1 ∷ 2 ∷ 3 ∷ 2 ∷ 2 ∷ 2 ∷ 3 ∷ []) 8 gives answered braidBytes) ∷
+    (unpackTable braidBytes 20 gives answered (3 ∷ 1 ∷ 1 ∷ 1 ∷ 2 ∷ 2 ∷ 1 ∷ 2 ∷ 1 ∷ 2 ∷ 1 ∷ 3 ∷ 1 ∷ 1 ∷ 2 ∷ 3 ∷ 2 ∷ 2 ∷ 2 ∷ 3 ∷ [])) ∷
+    (packTable (2 ∷ 1 ∷ 2 ∷ 2 ∷ 2 ∷ 1 ∷ 1 ∷ 2 ∷ []) 3 gives answered (0x10 ∷ 0x65 ∷ 0x0c ∷ [])) ∷
     -- 13: an area one byte short, and an empty one
-    (unpackTable braidBytes 16 gives refused 13 []) ∷
-    (packTable (1 ∷ []) 0 gives refused 13 []) ∷ []
+    (unpackTable braidBytes 19 gives refused 13 []) ∷
+    (packTable (1 ∷ 1 ∷ []) 0 gives refused 13 []) ∷ []
 
 -- Program images and plain programs: refusals 4, 5 and 6, in both orders of 4 and 5, and 7.
 abbrev pub programs : List {1} Case
@@ -181,11 +190,18 @@ comparisons =
     (compare (image braid1) (pattern 1 (1 ∷ [])) (pattern 1 (1 ∷ [])) 0 2 gives refused 11 []) ∷
     (compare (image braid1) (pattern 1 (1 ∷ [])) (pattern 1 (1 ∷ [])) 1 1 gives refused 12 []) ∷
     (compare (image braid1) (pattern 1 (1 ∷ [])) (pattern 1 (1 ∷ [])) 1 2 gives answered (same-after 1)) ∷
-    -- 13: room for an entry for each step is asked for, 5 entries of 16 bits and the count
-    (chain braidBytes (pattern 3 (1 ∷ 2 ∷ 1 ∷ [])) (pattern 3 (2 ∷ 1 ∷ 2 ∷ [])) 65535 32768 12 gives answered (same-after 5)) ∷
-    (chain braidBytes (pattern 3 (1 ∷ 2 ∷ 1 ∷ [])) (pattern 3 (2 ∷ 1 ∷ 2 ∷ [])) 65535 32768 11 gives refused 13 []) ∷
+    -- 13: room for an entry for each step is asked for, 5 entries of 19 bits and the count
+    (chain braidBytes (pattern 3 (1 ∷ 2 ∷ 1 ∷ [])) (pattern 3 (2 ∷ 1 ∷ 2 ∷ [])) 65535 32768 14 gives answered (same-after 5)) ∷
+    (chain braidBytes (pattern 3 (1 ∷ 2 ∷ 1 ∷ [])) (pattern 3 (2 ∷ 1 ∷ 2 ∷ [])) 65535 32768 13 gives refused 13 []) ∷
     -- 13 comes only after same
-    (chain braidBytes (pattern 3 (1 ∷ [])) (pattern 3 (2 ∷ [])) 65535 32768 0 gives answered (different-after 1)) ∷ []
+    (chain braidBytes (pattern 3 (1 ∷ [])) (pattern 3 (2 ∷ [])) 65535 32768 0 gives answered (different-after 1)) ∷
+    -- programs of equal weight and unequal length are reversed, those of unequal weight and equal length are not
+    (compare (image heavy2) (pattern 2 (1 ∷ 2 ∷ 1 ∷ [])) (pattern 2 (2 ∷ 2 ∷ [])) 65535 32768 gives answered (same-after 4)) ∷
+    (compare (image heavy2) (pattern 2 (1 ∷ [])) (pattern 2 (2 ∷ [])) 65535 32768 gives answered (different-after 0)) ∷
+    -- the sides are weighed whole, with their first letters
+    (clear (image heavy2) 65535 32768 gives answered tt) ∷
+    (clear (image (two 1 1)) 65535 32768 gives refused 8 (1 ∷ 2 ∷ [])) ∷
+    (clear (image (record { size = 2; excess = 0 ∷ 1 ∷ []; rows = (complement (2 ∷ []) (2 ∷ []) ∷ []) ∷ [] ∷ [] })) 65535 32768 gives refused 8 (1 ∷ 2 ∷ [])) ∷ []
 
 -- What is left to run: moves, none for each reason, and the order of the tests.
 abbrev pub remainders : List {1} Case
@@ -203,10 +219,13 @@ remainders =
     -- none: it meets an open pair
     (remainder (image open2) (pattern 2 (1 ∷ [])) (pattern 2 (2 ∷ [])) 0 2 0 gives answered (none-after 0)) ∷
     (remainder (image open2) (pattern 2 (1 ∷ 1 ∷ [])) (pattern 2 (1 ∷ 2 ∷ [])) 65535 32768 0 gives answered (none-after 1)) ∷
-    -- none: the pattern is the shorter, whatever allowance and workspace are, but only after the table clears
+    -- none: the pattern is the lighter, whatever allowance and workspace are, but only after the table clears
     (remainder (image braid1) (pattern 1 (1 ∷ [])) (pattern 1 []) 0 0 0 gives answered (none-after 0)) ∷
     (remainder (image broken3) (pattern 3 (1 ∷ [])) (pattern 3 []) 65535 32768 0 gives refused 9 (1 ∷ 2 ∷ 3 ∷ [])) ∷
     (remainder (image unequal2) (pattern 2 (1 ∷ [])) (pattern 2 []) 65535 32768 0 gives refused 8 (1 ∷ 2 ∷ [])) ∷
+    (remainder (image heavy2) (pattern 2 (2 ∷ [])) (pattern 2 (1 ∷ [])) 65535 32768 0 gives answered (none-after 0)) ∷
+    (remainder (image heavy2) (pattern 2 (1 ∷ 1 ∷ [])) (pattern 2 (2 ∷ [])) 65535 32768 0 gives answered (none-after 3)) ∷
+    (remainder (image heavy2) (pattern 2 (1 ∷ [])) (pattern 2 (2 ∷ 2 ∷ [])) 65535 32768 2 gives answered (moves-after (2 ∷ 1 ∷ []) 2)) ∷
     (remainder braidBytes (pattern 3 (1 ∷ [])) (pattern 3 (1 ∷ [])) 4 32768 0 gives refused 11 (1 ∷ 2 ∷ 3 ∷ [])) ∷
     -- 13 where the area is shorter than the moves
     (remainder braidBytes (pattern 3 (1 ∷ [])) (pattern 3 (1 ∷ 2 ∷ 1 ∷ [])) 65535 32768 2 gives answered (moves-after (2 ∷ 1 ∷ []) 1)) ∷
@@ -232,12 +251,12 @@ chains =
     (check braidBytes (pattern 3 (1 ∷ [])) (pattern 3 (1 ∷ [])) [] 9 gives refused 4 []) ∷
     (check braidBytes (pattern 3 (1 ∷ [])) (pattern 3 (1 ∷ [])) (0x00 ∷ 0x01 ∷ 0x00 ∷ []) 9 gives refused 4 []) ∷
     -- 5, and 5 met before the end
-    (check braidBytes (pattern 3 (1 ∷ [])) (pattern 3 (1 ∷ [])) (0x00 ∷ 0x01 ∷ 0x00 ∷ 0x0c ∷ []) 9 gives refused 5 []) ∷
-    (check braidBytes (pattern 3 (1 ∷ [])) (pattern 3 (1 ∷ [])) (0x00 ∷ 0x02 ∷ 0x00 ∷ 0x0c ∷ []) 9 gives refused 5 []) ∷
+    (check braidBytes (pattern 3 (1 ∷ [])) (pattern 3 (1 ∷ [])) (0x00 ∷ 0x01 ∷ 0x00 ∷ 0x01 ∷ 0x80 ∷ []) 9 gives refused 5 []) ∷
+    (check braidBytes (pattern 3 (1 ∷ [])) (pattern 3 (1 ∷ [])) (0x00 ∷ 0x02 ∷ 0x00 ∷ 0x01 ∷ 0x80 ∷ []) 9 gives refused 5 []) ∷
     -- 6: a filling bit that is set, and a byte that follows, zero or not
-    (check (image open2) (pattern 2 []) (pattern 2 []) (0x00 ∷ 0x01 ∷ 0x00 ∷ 0x01 ∷ []) 9 gives refused 6 []) ∷
-    (check braidBytes (pattern 3 (1 ∷ [])) (pattern 3 (1 ∷ [])) (0x00 ∷ 0x00 ∷ 0x00 ∷ []) 9 gives refused 6 []) ∷
     (check (image open2) (pattern 2 []) (pattern 2 []) (0x00 ∷ 0x01 ∷ 0x00 ∷ 0x00 ∷ 0x01 ∷ []) 9 gives refused 6 []) ∷
+    (check braidBytes (pattern 3 (1 ∷ [])) (pattern 3 (1 ∷ [])) (0x00 ∷ 0x00 ∷ 0x00 ∷ []) 9 gives refused 6 []) ∷
+    (check (image open2) (pattern 2 []) (pattern 2 []) (0x00 ∷ 0x01 ∷ 0x00 ∷ 0x00 ∷ 0x00 ∷ 0x01 ∷ []) 9 gives refused 6 []) ∷
     -- an empty chain joins a program to itself
     (check braidBytes (pattern 3 (1 ∷ 2 ∷ [])) (pattern 3 (1 ∷ 2 ∷ [])) (chainImage 3 []) 2 gives answered joins) ∷
     (check braidBytes (pattern 3 (1 ∷ 2 ∷ [])) (pattern 3 (2 ∷ 1 ∷ [])) (chainImage 3 []) 2 gives answered ends-elsewhere) ∷
@@ -246,7 +265,7 @@ chains =
     (check (image open2) (pattern 2 (1 ∷ [])) (pattern 2 (1 ∷ [])) (chainImage 2 (entry 0 1 2 ∷ [])) 9 gives answered (breaks 0)) ∷
     (check braidBytes (pattern 3 (1 ∷ 2 ∷ 1 ∷ [])) (pattern 3 (2 ∷ 1 ∷ 2 ∷ [])) (chainImage 3 (entry 0 1 2 ∷ entry 0 1 2 ∷ [])) 9 gives answered (breaks 1)) ∷
     (check braidBytes (pattern 3 (1 ∷ 2 ∷ 1 ∷ [])) (pattern 3 (2 ∷ 1 ∷ 2 ∷ [])) (chainImage 3 (entry 1 1 2 ∷ [])) 9 gives answered (breaks 0)) ∷
-    (check braidBytes (pattern 3 (1 ∷ 2 ∷ 1 ∷ [])) (pattern 3 (2 ∷ 1 ∷ 2 ∷ [])) (chainImage 3 (entry 4095 1 2 ∷ [])) 9 gives answered (breaks 0)) ∷
+    (check braidBytes (pattern 3 (1 ∷ 2 ∷ 1 ∷ [])) (pattern 3 (2 ∷ 1 ∷ 2 ∷ [])) (chainImage 3 (entry 32767 1 2 ∷ [])) 9 gives answered (breaks 0)) ∷
     -- inside a word, and back again
     (check braidBytes (pattern 3 (3 ∷ 1 ∷ 3 ∷ [])) (pattern 3 (3 ∷ 3 ∷ 1 ∷ [])) (chainImage 3 (entry 1 1 3 ∷ [])) 3 gives answered joins) ∷
     (check braidBytes (pattern 3 (1 ∷ 2 ∷ 1 ∷ [])) (pattern 3 (1 ∷ 2 ∷ 1 ∷ [])) (chainImage 3 (entry 0 1 2 ∷ entry 0 2 1 ∷ [])) 3 gives answered joins) ∷
@@ -287,10 +306,10 @@ further-holds =
     record {
       endings-hold = (refl, (refl, (refl, (refl, (refl, (refl, (refl, (refl, (refl, (refl, (refl, (refl, (refl, (refl, (refl, tt)))))))))))))));
       triples-hold = (refl, (refl, (refl, (refl, (refl, (refl, (refl, (refl, (refl, (refl, (refl, (refl, (refl, (refl, (refl, (refl, (refl, tt)))))))))))))))));
-      tables-hold = (refl, (refl, (refl, (refl, (refl, (refl, (refl, (refl, (refl, (refl, (refl, (refl, (refl, (refl, (refl, (refl, (refl, (refl, (refl, (refl, (refl, (refl, (refl, (refl, (refl, (refl, tt))))))))))))))))))))))))));
+      tables-hold = (refl, (refl, (refl, (refl, (refl, (refl, (refl, (refl, (refl, (refl, (refl, (refl, (refl, (refl, (refl, (refl, (refl, (refl, (refl, (refl, (refl, (refl, (refl, (refl, (refl, (refl, (refl, (refl, (refl, (refl, (refl, (refl, (refl, (refl, tt))))))))))))))))))))))))))))))))));
       programs-hold = (refl, (refl, (refl, (refl, (refl, (refl, (refl, (refl, (refl, (refl, (refl, (refl, (refl, (refl, (refl, (refl, (refl, (refl, (refl, (refl, (refl, (refl, (refl, (refl, tt))))))))))))))))))))))));
-      comparisons-hold = (refl, (refl, (refl, (refl, (refl, (refl, (refl, (refl, tt))))))));
-      remainders-hold = (refl, (refl, (refl, (refl, (refl, (refl, (refl, (refl, (refl, (refl, (refl, (refl, (refl, (refl, (refl, (refl, (refl, (refl, (refl, (refl, (refl, (refl, (refl, tt)))))))))))))))))))))));
+      comparisons-hold = (refl, (refl, (refl, (refl, (refl, (refl, (refl, (refl, (refl, (refl, (refl, (refl, (refl, tt)))))))))))));
+      remainders-hold = (refl, (refl, (refl, (refl, (refl, (refl, (refl, (refl, (refl, (refl, (refl, (refl, (refl, (refl, (refl, (refl, (refl, (refl, (refl, (refl, (refl, (refl, (refl, (refl, (refl, (refl, tt))))))))))))))))))))))))));
       chains-hold = (refl, (refl, (refl, (refl, (refl, (refl, (refl, (refl, (refl, (refl, (refl, (refl, (refl, (refl, (refl, (refl, (refl, (refl, (refl, (refl, tt))))))))))))))))))));
       areas-hold = (refl, (refl, (refl, (refl, (refl, (refl, (refl, (refl, tt))))))));
     }

@@ -2,11 +2,11 @@
 -- It is a congruence ([D1] section 1), and keeps a weight of letters where relations do: the norm that [D1] Lemma 1.4 asks for.
 use mathlib.Core.Path.{_≡_, refl, sym, ap, _∙_}
 use mathlib.Core.List.{[], _∷_, _++_, append-assoc}
-use Prim.Native.Nat.{ℕ, _+_}
+use Prim.Native.Nat.{ℕ, _+_, _≤_}
 use native.Mathlib.Omega.{arith}
 use lib.ListN.{length}
 use Rattle.model.specs.Word.{Positive}
-use Rattle.model.specs.Presentation.{Complement, complement, swapped}
+use Rattle.model.specs.Presentation.{Complement, complement, swapped, total}
 use Rattle.model.specs.Reversing.{count}
 use Rattle.model.proofs.Count.{count-add}
 
@@ -136,14 +136,10 @@ module _ {f : ℕ → ℕ → Complement} where
 
 -- WEIGHT
 
--- the weight of a word
-abbrev pub total : (ℕ → ℕ) → Positive → ℕ
-total weight [] = 0
-total weight (a ∷ u) = weight a + total weight u
-
-pub total-one : (u : Positive) → total (λ a. 1) u ≡ length u
-total-one [] = refl
-total-one (a ∷ u) = omega (arith, total-one u)
+-- where no letter weighs less than 1, a word has no more letters than it weighs
+pub length-total : (weight : ℕ → ℕ) → ((a : ℕ) → 1 ≤ weight a) → (u : Positive) → length u ≤ total weight u
+length-total weight weighs [] = omega arith
+length-total weight weighs (a ∷ u) = omega (arith, weighs a, length-total weight weighs u)
 
 pub total-append : (weight : ℕ → ℕ) (u v : Positive) → total weight (u ++ v) ≡ total weight u + total weight v
 total-append weight [] v = omega arith

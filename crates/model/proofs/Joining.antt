@@ -10,10 +10,10 @@ use lib.Dec.{eqb}
 use lib.ListN.{length}
 use borrow.Author.Tests.{eq-eqb, ne-eqb}
 use Rattle.model.specs.Word.{Positive}
-use Rattle.model.specs.Presentation.{Presentation, complement, complete}
+use Rattle.model.specs.Presentation.{Presentation, complement, complete, total}
 use Rattle.model.specs.Equivalence.{Entry, Leads, Joined}
 use Rattle.model.proofs.Complete.{complete-same, complete-turn}
-use Rattle.model.proofs.Equiv.{Equiv, Swap, done, step, trans, prefix, suffix, symm, swaps, total, total-one, Homogeneous, weight-kept}
+use Rattle.model.proofs.Equiv.{Equiv, Swap, done, step, trans, prefix, suffix, symm, swaps, Homogeneous, weight-kept}
 use Rattle.model.proofs.Entries.{entry, swap-applied, applied-applies}
 
 -- as many entries as said lead from u to v
@@ -73,10 +73,7 @@ module _ (T : Presentation) where
   pub joined-append : (u u′ v v′ : Positive) → Joined T u u′ → Joined T v v′ → Joined T (u ++ v) (u′ ++ v′)
   joined-append u u′ v v′ j i = equiv-joined (trans (suffix v (joined-equiv u u′ j)) (prefix u′ (joined-equiv v v′ i)))
 
-  -- WEIGHTS AND LENGTHS
+  -- WEIGHTS
 
   pub joined-weight : (weight : ℕ → ℕ) → Homogeneous weight (complete T) → (u v : Positive) → Joined T u v → total weight u ≡ total weight v
   joined-weight weight even u v j = weight-kept weight even (joined-equiv u v j)
-
-  pub joined-length : Homogeneous (λ a. 1) (complete T) → (u v : Positive) → Joined T u v → length u ≡ length v
-  joined-length even u v j = sym (total-one u) ∙ (joined-weight (λ a. 1) even u v j ∙ total-one v)

@@ -1,24 +1,24 @@
--- Specification 4.2 to 4.6: the length check, the cube rule and the cube check.
+-- Specification 4.2 to 4.6: the weight check, the cube rule and the cube check.
 use mathlib.Core.List.{List, [], _∷_, _++_}
 use mathlib.Core.Bool.{Bool, true, cond}
 use Prim.Native.Nat.{ℕ, _-_}
 use lib.Dec.{eqb}
 use lib.ListN.{length}
 use Rattle.model.specs.Word.{Positive, positive, negative}
-use Rattle.model.specs.Presentation.{Presentation, Complement, undefined, complement, complete}
+use Rattle.model.specs.Presentation.{Presentation, Complement, undefined, complement, complete, weigh}
 use Rattle.model.specs.Reversing.{Stop, budget, room, Ending, finished, open-pair, stopped, reversing, Residual, EndsEmpty}
 use Rattle.model.specs.Enumeration.{Two, Three, pairs, triples}
 use Rattle.model.specs.Outcome.{Outcome, answered, refused, _>>=_}
 
--- 4.2: the two completions of a pair have the same length, unless it is open
-abbrev pub balanced : Complement → Bool
-balanced undefined = true
-balanced (complement x y) = eqb (length x) (length y)
+-- 4.2: the two sides of a pair's relation weigh the same, unless it is open: a followed by C(a,b), and b followed by C(b,a)
+abbrev pub balanced : Presentation → ℕ → ℕ → Complement → Bool
+balanced T a b undefined = true
+balanced T a b (complement x y) = eqb (weigh T (a ∷ x)) (weigh T (b ∷ y))
 
 -- 4.2: refusal 8 names the first pair that fails
-abbrev pub lengthCheck : Presentation → List Two → Outcome (Unit {0})
-lengthCheck T [] = answered tt
-lengthCheck T (p ∷ ps) = cond (balanced (complete T (p .a) (p .b))) (lengthCheck T ps) (refused 8 (p .a ∷ p .b ∷ []))
+abbrev pub weightCheck : Presentation → List Two → Outcome (Unit {0})
+weightCheck T [] = answered tt
+weightCheck T (p ∷ ps) = cond (balanced T (p .a) (p .b) (complete T (p .a) (p .b))) (weightCheck T ps) (refused 8 (p .a ∷ p .b ∷ []))
 
 -- 4.3: (a\b)\(a\c) is l, with no limit on steps and lengths
 pub record Side (T : Presentation) (a b c : ℕ) (l : Positive) : Type 0 where
@@ -123,6 +123,6 @@ module _ (T : Presentation) (steps : ℕ) where
   cubeCheck width [] = answered tt
   cubeCheck width (t ∷ ts) = reported t (cubeAt width t) (cubeCheck width ts)
 
--- 4: a table clears if both checks pass; the one of lengths is made first
+-- 4: a table clears if both checks pass; the one of weights is made first
 unfoldable pub cleared : Presentation → ℕ → ℕ → Outcome (Unit {0})
-cleared T steps width = lengthCheck T (pairs (T .size)) >>= λ ok. cubeCheck T steps width (triples (T .size))
+cleared T steps width = weightCheck T (pairs (T .size)) >>= λ ok. cubeCheck T steps width (triples (T .size))

@@ -11,10 +11,13 @@ use Rattle.model.specs.Enumeration.{concatMap}
 use Rattle.model.specs.Outcome.{Outcome, answered, _>>=_, unless}
 use Rattle.model.specs.Bits.{Read, field, digits, bitsOf, pack, letterWidth, finish}
 
--- FIELD WIDTHS (5.4 to 5.6): of a table's number of letters and of a word's length, of a program's count, of a chain's count and of an entry's offset
+-- FIELD WIDTHS (5.4 to 5.6): of a table's number of letters, of a letter's weight and of a word's length, of a program's count, of a chain's count and of an entry's offset
 
 abbrev pub sizeWidth : ℕ
 sizeWidth = 4
+
+abbrev pub weightWidth : ℕ
+weightWidth = 3
 
 abbrev pub lengthWidth : ℕ
 lengthWidth = 4
@@ -26,7 +29,7 @@ abbrev pub chainCountWidth : ℕ
 chainCountWidth = 16
 
 abbrev pub offsetWidth : ℕ
-offsetWidth = 12
+offsetWidth = 15
 
 -- WRITING
 
@@ -43,9 +46,10 @@ abbrev pub pairBits : ℕ → Complement → List ℕ
 pairBits n undefined = 0 ∷ []
 pairBits n (complement x y) = 1 ∷ (wordBits n x ++ wordBits n y)
 
--- 5.4: a table: n − 1, then its pairs in order
+-- 5.4: a table: n − 1, then the weights, each less 1, then its pairs in order
 unfoldable pub tableImage : Presentation → List ℕ
-tableImage T = pack (digits sizeWidth (T .size - 1) ++ concatMap (concatMap (pairBits (T .size))) (T .rows))
+tableImage T =
+    pack (digits sizeWidth (T .size - 1) ++ (concatMap (digits weightWidth) (T .excess) ++ concatMap (concatMap (pairBits (T .size))) (T .rows)))
 
 -- 5.5: a letter of a program: its sign, 1 if it is a back letter, then its field
 abbrev pub signedBits : ℕ → Letter → List ℕ
@@ -112,8 +116,9 @@ rowsOf reader (suc k) input =
 unfoldable pub readTable : List ℕ → Outcome Presentation
 readTable bytes =
     field 1 sizeWidth (bitsOf bytes) >>= λ head.
-    rowsOf (pairField (head .value + 1)) (head .value + 1) (head .rest) >>= λ rs.
-    finish 3 (record { value = record { size = head .value + 1; rows = rs .value }; rest = rs .rest })
+    several (field 1 weightWidth) (head .value + 1) (head .rest) >>= λ ws.
+    rowsOf (pairField (head .value + 1)) (head .value + 1) (ws .rest) >>= λ rs.
+    finish 3 (record { value = record { size = head .value + 1; excess = ws .value; rows = rs .value }; rest = rs .rest })
 
 abbrev pub signed : ℕ → ℕ → Letter
 signed sign a = cond (eqb sign 0) (forward a) (back a)

@@ -1,7 +1,7 @@
 -- Specification 5.7 and 5.8: the plain forms of a table and of a program, which is a byte a letter.
 use mathlib.Core.List.{List, [], _∷_, _++_, map}
 use mathlib.Core.Bool.{Bool, not, _&&_, _||_, cond}
-use Prim.Native.Nat.{ℕ, _%_}
+use Prim.Native.Nat.{ℕ, suc, _-_, _%_}
 use lib.Dec.{leb, ltb, eqb}
 use lib.ListN.{length}
 use Rattle.model.specs.Word.{Word, Positive, backByte, byte, letter}
@@ -11,9 +11,12 @@ use Rattle.model.specs.Outcome.{Outcome, answered, refused, _>>=_, unles
 use Rattle.model.specs.Bits.{Read}
 use Rattle.model.specs.Images.{several, rowsOf}
 
--- the byte of an open pair (5.7), and the most letters of a program (1.3)
+-- the byte of an open pair (5.7), the largest weight of a letter and the most letters of a program (1.3)
 abbrev pub openByte : ℕ
 openByte = 255
+
+abbrev pub mostWeight : ℕ
+mostWeight = 8
 
 abbrev pub mostLetters : ℕ
 mostLetters = 4095
@@ -27,8 +30,9 @@ abbrev pub plainPair : Complement → List ℕ
 plainPair undefined = openByte ∷ []
 plainPair (complement x y) = plainWord x ++ plainWord y
 
+-- 5.7: n, the weights, then the pairs in order
 unfoldable pub plainTable : Presentation → List ℕ
-plainTable T = T .size ∷ concatMap (concatMap plainPair) (T .rows)
+plainTable T = T .size ∷ (map suc (T .excess) ++ concatMap (concatMap plainPair) (T .rows))
 
 abbrev pub plainProgram : Word → List ℕ
 plainProgram w = map byte w
@@ -43,6 +47,10 @@ nextByte (x ∷ xs) = answered (record { value = x; rest = xs })
 -- 5.7: a letter of a word; refusal 2 where its byte is not 1 to n
 abbrev pub plainLetter : ℕ → List ℕ → Outcome (Read ℕ)
 plainLetter n input = nextByte input >>= λ r. unless (ltb (r .value) 1 || ltb n (r .value)) 2 r
+
+-- 5.7: a weight, less 1; refusal 2 where its byte is not 1 to 8, as that of a letter among 8
+abbrev pub plainWeight : List ℕ → Outcome (Read ℕ)
+plainWeight input = plainLetter mostWeight input >>= λ r. answered (record { value = r .value - 1; rest = r .rest })
 
 -- 5.7: a word whose length byte was read; refusal 2 where that is above 15
 abbrev pub plainLetters : ℕ → ℕ → List ℕ → Outcome (Read Positive)
@@ -66,8 +74,9 @@ unfoldable pub readPlainTable : List ℕ → Outcome Presentation
 readPlainTable bytes =
     nextByte bytes >>= λ n.
     unless (ltb (n .value) 1 || ltb 16 (n .value)) 2 n >>= λ n.
-    rowsOf (plainPairAt (n .value)) (n .value) (n .rest) >>= λ rs.
-    unless (ltb 0 (length (rs .rest))) 3 (record { size = n .value; rows = rs .value })
+    several plainWeight (n .value) (n .rest) >>= λ ws.
+    rowsOf (plainPairAt (n .value)) (n .value) (ws .rest) >>= λ rs.
+    unless (ltb 0 (length (rs .rest))) 3 (record { size = n .value; excess = ws .value; rows = rs .value })
 
 -- 5.8: a byte that names a letter, forward or back
 abbrev pub namesLetter : ℕ → ℕ → Bool

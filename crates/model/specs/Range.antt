@@ -6,7 +6,7 @@ use lib.ListN.{length, getD}
 use Rattle.model.specs.Word.{Letter, forward, back, Word, Positive}
 use Rattle.model.specs.Presentation.{Presentation, Complement, undefined, complement}
 use Rattle.model.specs.Equivalence.{Entry}
-use Rattle.model.specs.Images.{lengthWidth, countWidth, chainCountWidth, offsetWidth}
+use Rattle.model.specs.Images.{weightWidth, lengthWidth, countWidth, chainCountWidth, offsetWidth}
 
 -- every element
 abbrev pub All : {A : Type 0} → (A → Type 0) → List A → Type 0
@@ -54,13 +54,15 @@ Rows P zero (row ∷ rows) = ⊥
 Rows P (suc k) [] = ⊥
 Rows P (suc k) (row ∷ rows) = (length row ≡ k) × All P row × Rows P k rows
 
--- 1.3: a table, of 1 to 16 letters
+-- 1.3: a table, of 1 to 16 letters, each with a weight of 1 to 8
 pub record TableInRange (T : Presentation) : Type 0 where
   pub some : 1 ≤ T .size
   pub few : T .size ≤ 16
+  pub weighed : length (T .excess) ≡ T .size
+  pub light : All (λ w. w < 2 ^ weightWidth) (T .excess)
   pub pairs : Rows (PairInRange (T .size)) (T .size) (T .rows)
 
--- 1.3: an entry, with an offset of at most 4,095, and a chain, of at most 65,535 entries
+-- 1.3: an entry, with an offset of at most 32,767, and a chain, of at most 65,535 entries
 pub record EntryInRange (n : ℕ) (e : Entry) : Type 0 where
   pub offset-small : e .offset < 2 ^ offsetWidth
   pub a-names : InRange n (e .a)

@@ -6,7 +6,7 @@ use Prim.Native.Nat.{ℕ, suc, _+_}
 use lib.Dec.{ltb, eqb}
 use lib.ListN.{length}
 use Rattle.model.specs.Word.{forward, back, Word, Positive, positive, negative, forwards}
-use Rattle.model.specs.Presentation.{Presentation}
+use Rattle.model.specs.Presentation.{Presentation, weigh}
 use Rattle.model.specs.Reversing.{Ending, finished, open-pair, stopped, reversing}
 use Rattle.model.specs.Equivalence.{Entry, applied, equal}
 use Rattle.model.specs.Checks.{stopNumber, cleared}
@@ -68,11 +68,11 @@ verdictOf (finished n d k r) = answered (judged n d k)
 verdictOf (open-pair a b k) = answered (different-after k)
 verdictOf (stopped s) = refused (stopNumber s) []
 
--- 6.4: two positive words under a table that was read and must clear; if their lengths differ, different after 0 steps; else they are reversed
+-- 6.4: two positive words under a table that was read and must clear; if their weights differ, different after 0 steps; else they are reversed
 unfoldable pub comparison : Presentation → Positive → Positive → ℕ → ℕ → Outcome Verdict
 comparison T u v steps width =
     cleared T steps width >>= λ ok.
-    cond (eqb (length u) (length v)) (verdictOf (reversing T steps width (negative u ++ positive v))) (answered (different-after 0))
+    cond (eqb (weigh T u) (weigh T v)) (verdictOf (reversing T steps width (negative u ++ positive v))) (answered (different-after 0))
 
 -- 6.4: all tests of the first program come before those of the second
 unfoldable pub compare : List ℕ → List ℕ → List ℕ → ℕ → ℕ → Outcome Verdict
@@ -115,11 +115,11 @@ remainderOf area (finished n (x ∷ d) k r) = answered (none-after k)
 remainderOf area (open-pair a b k) = answered (none-after k)
 remainderOf area (stopped s) = refused (stopNumber s) []
 
--- 6.10: u done and v the pattern, under a table that was read and must clear; where v is the shorter, none after 0 steps; else they are reversed
+-- 6.10: u done and v the pattern, under a table that was read and must clear; where v is the lighter, none after 0 steps; else they are reversed
 unfoldable pub quotient : Presentation → Positive → Positive → ℕ → ℕ → ℕ → Outcome (Remainder Positive)
 quotient T u v steps width area =
     cleared T steps width >>= λ ok.
-    cond (ltb (length v) (length u)) (answered (none-after 0)) (remainderOf area (reversing T steps width (negative u ++ positive v)))
+    cond (ltb (weigh T v) (weigh T u)) (answered (none-after 0)) (remainderOf area (reversing T steps width (negative u ++ positive v)))
 
 -- 6.10: all tests of the done part come before those of the pattern
 unfoldable pub remainder : List ℕ → List ℕ → List ℕ → ℕ → ℕ → ℕ → Outcome (Remainder Positive)

@@ -10,7 +10,7 @@ use Rattle.model.specs.declared.answers.Stop.the-variants.{Budget, Room}
 use Rattle.model.specs.declared.answers.Ending.{Ending as EndingAnswer}
 use Rattle.model.specs.declared.answers.Ending.the-variants.{Finished, Undefined, Stopped}
 use Rattle.model.specs.declared.answers.Refusal.{Refusal}
-use Rattle.model.specs.declared.answers.Refusal.the-variants.{TableEnds, TableField, TableTail, ImageEnds, ImageField, ImageTail, BackMove, UnequalLengths, CubeFails, OpenPair, AllowanceUsed, WorkspaceShort, AnswerShort, NotBraidTable}
+use Rattle.model.specs.declared.answers.Refusal.the-variants.{TableEnds, TableField, TableTail, ImageEnds, ImageField, ImageTail, BackMove, UnequalWeights, CubeFails, OpenPair, AllowanceUsed, WorkspaceShort, AnswerShort, NotBraidTable}
 use Rattle.model.specs.declared.answers.Reversed.{Reversed}
 use Rattle.model.specs.declared.answers.Reversed.the-variants.{Answer, Refused as ReverseRefused}
 use Rattle.model.specs.declared.answers.Cleared.{Cleared}
@@ -42,7 +42,7 @@ numbered ImageEnds = (4, [])
 numbered ImageField = (5, [])
 numbered ImageTail = (6, [])
 numbered BackMove = (7, [])
-numbered (UnequalLengths p) = (8, p .a ∷ p .b ∷ [])
+numbered (UnequalWeights p) = (8, p .a ∷ p .b ∷ [])
 numbered (CubeFails t) = (9, t .a ∷ t .b ∷ t .c ∷ [])
 numbered (OpenPair p) = (10, p .a ∷ p .b ∷ [])
 numbered (AllowanceUsed p) = (11, placeNumbers p)

@@ -77,7 +77,7 @@ pub fn refusal_numbers(refusal: Refusal) -> RefusalNumbers
         Refusal::ImageField => alone(5),
         Refusal::ImageTail => alone(6),
         Refusal::BackMove => alone(7),
-        Refusal::UnequalLengths(pair) => with_pair(8, pair),
+        Refusal::UnequalWeights(pair) => with_pair(8, pair),
         Refusal::CubeFails(triple) => with_triple(9, triple),
         Refusal::OpenPair(pair) => with_pair(10, pair),
         Refusal::AllowanceUsed(place) => with_place(11, place),

@@ -1,7 +1,7 @@
 -- The two equations of a packing service's promise, from its outcome. Then the outcome of each service, from those of the readers.
 use mathlib.Core.Path.{_≡_, sym, ap, _∙_}
-use mathlib.Core.List.{List, _∷_}
-use Prim.Native.Nat.{ℕ, _+_}
+use mathlib.Core.List.{List, _∷_, _++_, map}
+use Prim.Native.Nat.{ℕ, suc, _+_}
 use native.Mathlib.Omega.{arith}
 use lib.ListN.{length, take, drop}
 use lib.Seq.{take-at}
@@ -99,9 +99,9 @@ module _ (table : List ℕ) (area : ℕ) where
   plain-read T e = ap (λ o. o >>= λ T. fitted area (tableImage T)) e
 
 -- the bytes of a plain table, as they are written
-pub plain-bytes : (T : Presentation) (size : ℕ) → T .size ≡ size → size ∷ concatMap (concatMap plainPair) (T .rows) ≡ plainTable T
+pub plain-bytes : (T : Presentation) (size : ℕ) → T .size ≡ size → size ∷ (map suc (T .excess) ++ concatMap (concatMap plainPair) (T .rows)) ≡ plainTable T
 unfolding plainTable
-plain-bytes T size e = ap (λ n. n ∷ concatMap (concatMap plainPair) (T .rows)) (sym e)
+plain-bytes T size e = ap (λ n. n ∷ (map suc (T .excess) ++ concatMap (concatMap plainPair) (T .rows))) (sym e)
 
 -- what was written first is taken first
 pub taken-first : (old bytes after : List ℕ) (next : ℕ) → Wrote old 0 bytes after next → take next after ≡ bytes

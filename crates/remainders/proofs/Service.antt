@@ -5,7 +5,7 @@ use Prim.Native.Nat.{ℕ, _≤_, _<_}
 use lib.ListN.{length, drop}
 use lib.Seq.{take-append-seam}
 use Rattle.model.specs.Word.{Positive, positive, negative}
-use Rattle.model.specs.Presentation.{Presentation}
+use Rattle.model.specs.Presentation.{Presentation, weigh}
 use Rattle.model.specs.Reversing.{reversing}
 use Rattle.model.specs.Outcome.{Outcome, answered, refused, mapped}
 use Rattle.model.specs.Checks.{cleared}
@@ -16,7 +16,7 @@ use Rattle.model.specs.declared.answers.Refusal.{Refusal}
 use Rattle.model.specs.declared.answers.Remaining.{Remaining}
 use Rattle.model.specs.declared.answers.Remaining.the-variants.{Nothing, Refused}
 use Rattle.theory.specs.Remainders.{QuotientMeaning}
-use Rattle.theory.proofs.Remainders.{shorter, as-long, quotient-meaning}
+use Rattle.theory.proofs.Remainders.{lighter, as-heavy, quotient-meaning}
 use Rattle.loading.specs.Loading.{Images, readPrograms}
 use Rattle.loading.proofs.Outcomes.{AsFound, still-refused}
 use Rattle.loading.proofs.Reading.{programs-refused, programs-run}
@@ -32,14 +32,14 @@ module _ (T : Presentation) (u v : Positive) (steps width : ℕ) (before : List 
       subst (λ o. States o before before (Refused r)) (sym (still-refused (cleared T steps width) r (sym e) _)) (record { result = refl; area = refl })
 
   module _ (clear : answered tt ≡ cleared T steps width) where
-    pub pattern-short : length v < length u → States (quotient T u v steps width (length before)) before before (Nothing 0)
-    pattern-short h =
-        subst (λ o. States o before before (Nothing 0)) (sym (shorter T u v steps width (length before) (sym clear) h)) (record { result = refl; area = refl })
+    pub pattern-light : weigh T v < weigh T u → States (quotient T u v steps width (length before)) before before (Nothing 0)
+    pattern-light h =
+        subst (λ o. States o before before (Nothing 0)) (sym (lighter T u v steps width (length before) (sym clear) h)) (record { result = refl; area = refl })
 
-    pub pattern-long : length u ≤ length v → {after : List ℕ} {r : Remaining}
+    pub pattern-heavy : weigh T u ≤ weigh T v → {after : List ℕ} {r : Remaining}
         → States (remainderOf (length before) (reversing T steps width (negative u ++ positive v))) before after r
         → States (quotient T u v steps width (length before)) before after r
-    pattern-long h {after} {r} = subst (λ o. States o before after r) (sym (as-long T u v steps width (length before) (sym clear) h))
+    pattern-heavy h {after} {r} = subst (λ o. States o before after r) (sym (as-heavy T u v steps width (length before) (sym clear) h))
 
 -- THE SERVICE
 

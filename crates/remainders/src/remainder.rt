@@ -15,6 +15,7 @@ use clearing::clear::clear_cells;
 use loading::comparison::run_programs;
 use loading::loading::ProgramsRead;
 use loading::loading::read_programs;
+use loading::weighing::program_weight;
 use model::answers::Cleared;
 use model::answers::Ending;
 use model::answers::Refusal;
@@ -50,7 +51,7 @@ pub fn answer_ending(ending: Ending, workspace: &[u8], answer: &mut [u8]) -> Rem
     }
 }
 
-// Two accepted forward programs, the part done and the pattern, under a table that was loaded. The workspace is wiped, unless the length
+// Two accepted forward programs, the part done and the pattern, under a table that was loaded. The workspace is wiped, unless the weight
 // check refused.
 pub fn remainder_programs(
     cells: &[u8],
@@ -70,7 +71,9 @@ pub fn remainder_programs(
     match clear {
         Cleared::Refused(refusal) => Remaining::Refused(refusal),
         Cleared::Passed => {
-            if n < m {
+            let over = program_weight(cells, size, pattern, n);
+            let under = program_weight(cells, size, done, m);
+            if over < under {
                 return Remaining::Nothing { steps: 0 };
             }
             let ending = run_programs(cells, size, done, m, pattern, n, budget, workspace);

@@ -1,18 +1,18 @@
 -- Under relations whose sides weigh the same, the weight of the forward letters less that of the back letters is the same at every word of a
 -- reversing, in any order of steps: a step takes b away from the one and a from the other, and adds C(a,b) and C(b,a).
-use mathlib.Core.Path.{_≡_, refl, sym, ap, _∙_}
+use mathlib.Core.Path.{_≡_, refl, ap, _∙_}
 use mathlib.Core.List.{[], _∷_, _++_}
 use Prim.Native.Nat.{ℕ, _+_}
 use native.Mathlib.Omega.{arith}
 use Rattle.model.specs.Word.{forward, back, Word, Positive, positive, negative, forwards, backs}
-use Rattle.model.specs.Presentation.{Presentation, complete}
+use Rattle.model.specs.Presentation.{Presentation, complete, weightOf, total}
 use Rattle.model.specs.Reversing.{replaced, Reduces, stay, go}
 use Rattle.model.specs.Enumeration.{pairs}
 use Rattle.model.specs.Outcome.{answered}
-use Rattle.model.specs.Checks.{lengthCheck, cleared}
+use Rattle.model.specs.Checks.{weightCheck, cleared}
 use Rattle.model.proofs.Words.{negative-cons}
-use Rattle.model.proofs.Equiv.{total, total-one, Homogeneous}
-use Rattle.theory.specs.Balance.{Balanced, LengthMeaning}
+use Rattle.model.proofs.Equiv.{Homogeneous}
+use Rattle.theory.specs.Balance.{Balanced, WeightMeaning}
 use Rattle.theory.proofs.Reduction.{reduces}
 use Rattle.theory.proofs.Checked.{unless-8}
 use Rattle.theory.proofs.Clearing.{checked-homogeneous}
@@ -77,19 +77,15 @@ module _ (weight : ℕ → ℕ) where
         omega
         (arith, balance-kept r, gains-append (negative u) (positive v), losses-append (negative u) (positive v), gains-append (positive n) (negative d), losses-append (positive n) (negative d), gains-negative u, gains-positive v, losses-negative u, losses-positive v, gains-positive n, gains-negative d, losses-positive n, losses-negative d)
 
--- AFTER THE LENGTH CHECK
+-- AFTER THE WEIGHT CHECK
 
-pub length-balanced : (T : Presentation) → lengthCheck T (pairs (T .size)) ≡ answered tt → Balanced T
-length-balanced T even =
+pub weight-balanced : (T : Presentation) → weightCheck T (pairs (T .size)) ≡ answered tt → Balanced T
+weight-balanced T even =
     let uniform = checked-homogeneous T even in
     record {
-      kept = λ w w′ k r.
-          omega
-          (arith, balance-kept (λ a. 1) T uniform r, total-one (forwards w), total-one (backs w), total-one (forwards w′), total-one (backs w′));
-      equal-ends = λ u v n d k h f.
-          omega
-          (arith, ends-weigh-alike (λ a. 1) T uniform u v n d (total-one u ∙ (h ∙ sym (total-one v))) (reduces f), total-one n, total-one d);
+      kept = λ w w′ k r. balance-kept (weightOf T) T uniform r;
+      equal-ends = λ u v n d k h f. ends-weigh-alike (weightOf T) T uniform u v n d h (reduces f);
     }
 
-pub length-meaning : (T : Presentation) (steps width : ℕ) → LengthMeaning T (cleared T steps width)
-length-meaning T steps width other = length-balanced T (unless-8 T steps width other)
+pub weight-meaning : (T : Presentation) (steps width : ℕ) → WeightMeaning T (cleared T steps width)
+weight-meaning T steps width other = weight-balanced T (unless-8 T steps width other)

@@ -13,7 +13,7 @@ use Rattle.model.specs.Reversing.{budget, room, Ending, finished, open-pair, st
 use Rattle.model.specs.Enumeration.{Two, Three, pairs, triples}
 use Rattle.model.specs.Range.{All}
 use Rattle.model.specs.Outcome.{Outcome, answered, refused, _>>=_}
-use Rattle.model.specs.Checks.{balanced, lengthCheck, Side, CubeRule, both-undefined, both-defined, Residue, residue, missing, halted, andThen, CubeVerdict, holds, fails, halts, empties, bothMissing, bothThere, whereDefined, reported, under, side, against, cubeAt, cubeCheck, cleared}
+use Rattle.model.specs.Checks.{balanced, weightCheck, Side, CubeRule, both-undefined, both-defined, Residue, residue, missing, halted, andThen, CubeVerdict, holds, fails, halts, empties, bothMissing, bothThere, whereDefined, reported, under, side, against, cubeAt, cubeCheck, cleared}
 use Rattle.theory.specs.Cube.{Obeys, Says, FirstBroken, CubeMeaning}
 use Rattle.model.proofs.Impossible.{impossible}
 use Rattle.model.proofs.Leftmost.{open-unfinished}
@@ -175,16 +175,16 @@ both-pass : (o p : Outcome (Unit {0})) → (o >>= λ ok. p) ≡ answered tt → 
 both-pass (answered x) p h = (refl, h)
 both-pass (refused n ps) p h = impossible (cc)
 
-length-each : (T : Presentation) {ps : List Two} {p : Two} → lengthCheck T ps ≡ answered tt → List·Memᴰ p ps → balanced (complete T (p .a) (p .b)) ≡ true
-length-each T {p} h (List·Memᴰ·head {x} {xs} e) = rw e (passes x (balanced (complete T (x .a) (x .b))) (lengthCheck T xs) h .0)
-length-each T {p} h (List·Memᴰ·tail {x} {xs} m) = length-each T (passes x (balanced (complete T (x .a) (x .b))) (lengthCheck T xs) h .1) m
+weight-each : (T : Presentation) {ps : List Two} {p : Two} → weightCheck T ps ≡ answered tt → List·Memᴰ p ps → balanced T (p .a) (p .b) (complete T (p .a) (p .b)) ≡ true
+weight-each T {p} h (List·Memᴰ·head {x} {xs} e) = rw e (passes x (balanced T (x .a) (x .b) (complete T (x .a) (x .b))) (weightCheck T xs) h .0)
+weight-each T {p} h (List·Memᴰ·tail {x} {xs} m) = weight-each T (passes x (balanced T (x .a) (x .b) (complete T (x .a) (x .b))) (weightCheck T xs) h .1) m
 
--- the length check has no other refusal than 8
-length-only : (T : Presentation) (ps : List Two) (n : ℕ) (numbers : List ℕ) → lengthCheck T ps ≡ refused n numbers → n ≡ 8
-length-only T [] n numbers h = impossible (cc)
-length-only T (p ∷ ps) n numbers h = go (balanced (complete T (p .a) (p .b))) (length-only T ps n numbers) h
+-- the weight check has no other refusal than 8
+weight-only : (T : Presentation) (ps : List Two) (n : ℕ) (numbers : List ℕ) → weightCheck T ps ≡ refused n numbers → n ≡ 8
+weight-only T [] n numbers h = impossible (cc)
+weight-only T (p ∷ ps) n numbers h = go (balanced T (p .a) (p .b) (complete T (p .a) (p .b))) (weight-only T ps n numbers) h
   where
-    go : (t : Bool) → (lengthCheck T ps ≡ refused n numbers → n ≡ 8) → cond t (lengthCheck T ps) (refused 8 (p .a ∷ p .b ∷ [])) ≡ refused n numbers → n ≡ 8
+    go : (t : Bool) → (weightCheck T ps ≡ refused n numbers → n ≡ 8) → cond t (weightCheck T ps) (refused 8 (p .a ∷ p .b ∷ [])) ≡ refused n numbers → n ≡ 8
     go true rest e = rest e
     go false rest e = cc
 
@@ -192,17 +192,17 @@ obeyed-at : (T : Presentation) {ts : List Three} {t : Three} → All (Obeys T) t
 obeyed-at T h (List·Memᴰ·head e) = rw e (h .0)
 obeyed-at T h (List·Memᴰ·tail m) = obeyed-at T (h .1) m
 
--- the length check, of letters in order
-pub checked-length : (T : Presentation) → lengthCheck T (pairs (T .size)) ≡ answered tt → {a b : ℕ} → 1 ≤ a → a < b → b ≤ T .size → balanced (complete T a b) ≡ true
-checked-length T h {a} {b} low ordered high = length-each T h (pairs-have (T .size) a b low ordered high)
+-- the weight check, of letters in order
+pub checked-weight : (T : Presentation) → weightCheck T (pairs (T .size)) ≡ answered tt → {a b : ℕ} → 1 ≤ a → a < b → b ≤ T .size → balanced T a b (complete T a b) ≡ true
+checked-weight T h {a} {b} low ordered high = weight-each T h (pairs-have (T .size) a b low ordered high)
 
 module _ (T : Presentation) (steps width : ℕ) (clear : cleared T steps width ≡ answered tt) where
-  both : (lengthCheck T (pairs (T .size)) ≡ answered tt) × (cubeCheck T steps width (triples (T .size)) ≡ answered tt)
+  both : (weightCheck T (pairs (T .size)) ≡ answered tt) × (cubeCheck T steps width (triples (T .size)) ≡ answered tt)
   unfolding cleared
-  both = both-pass (lengthCheck T (pairs (T .size))) (cubeCheck T steps width (triples (T .size))) clear
+  both = both-pass (weightCheck T (pairs (T .size))) (cubeCheck T steps width (triples (T .size))) clear
 
-  pub clear-lengths : lengthCheck T (pairs (T .size)) ≡ answered tt
-  clear-lengths = both .0
+  pub clear-weights : weightCheck T (pairs (T .size)) ≡ answered tt
+  clear-weights = both .0
 
   checked-triples : All (Obeys T) (triples (T .size))
   checked-triples = cube-passed T steps width (triples (T .size)) (both .1)
@@ -213,26 +213,26 @@ module _ (T : Presentation) (steps width : ℕ) (clear : cleared T steps width �
       obeyed-at T checked-triples (triples-have (T .size) a b c low h high low-c high-c p q)
 
 module _ (T : Presentation) (steps width : ℕ) where
-  -- where clearing does not refuse with 8, the length check was passed
-  pub unless-8 : ((numbers : List ℕ) → cleared T steps width ≡ refused 8 numbers → ⊥) → lengthCheck T (pairs (T .size)) ≡ answered tt
+  -- where clearing does not refuse with 8, the weight check was passed
+  pub unless-8 : ((numbers : List ℕ) → cleared T steps width ≡ refused 8 numbers → ⊥) → weightCheck T (pairs (T .size)) ≡ answered tt
   unfolding cleared
-  unless-8 other = go (lengthCheck T (pairs (T .size))) refl other
+  unless-8 other = go (weightCheck T (pairs (T .size))) refl other
     where
-      go : (o : Outcome (Unit {0})) → lengthCheck T (pairs (T .size)) ≡ o
+      go : (o : Outcome (Unit {0})) → weightCheck T (pairs (T .size)) ≡ o
           → ((numbers : List ℕ) → (o >>= λ ok. cubeCheck T steps width (triples (T .size))) ≡ refused 8 numbers → ⊥)
-          → lengthCheck T (pairs (T .size)) ≡ answered tt
+          → weightCheck T (pairs (T .size)) ≡ answered tt
       go (answered x) p h = p
-      go (refused n ps) p h = absurd (h ps (ap (λ i. refused i ps) (length-only T (pairs (T .size)) n ps p)))
+      go (refused n ps) p h = absurd (h ps (ap (λ i. refused i ps) (weight-only T (pairs (T .size)) n ps p)))
 
   checked-broken : (numbers : List ℕ) → cleared T steps width ≡ refused 9 numbers → FirstBroken T (triples (T .size)) numbers
   unfolding cleared
-  checked-broken numbers h = go (lengthCheck T (pairs (T .size))) refl h
+  checked-broken numbers h = go (weightCheck T (pairs (T .size))) refl h
     where
-      go : (o : Outcome (Unit {0})) → lengthCheck T (pairs (T .size)) ≡ o
+      go : (o : Outcome (Unit {0})) → weightCheck T (pairs (T .size)) ≡ o
           → (o >>= λ ok. cubeCheck T steps width (triples (T .size))) ≡ refused 9 numbers → FirstBroken T (triples (T .size)) numbers
       go (answered x) p e = cube-broken T steps width (triples (T .size)) numbers e
       go (refused n ps) p e =
-          let eight = length-only T (pairs (T .size)) n ps p in
+          let eight = weight-only T (pairs (T .size)) n ps p in
           let nine : n ≡ 9 = cc in
           absurd (omega arith)
 

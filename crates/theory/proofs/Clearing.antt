@@ -1,25 +1,24 @@
--- A table that the length check passes is homogeneous; one that `cleared` passes, at any budget and room, also satisfies the cube rule on all
+-- A table that the weight check passes is homogeneous; one that `cleared` passes, at any budget and room, also satisfies the cube rule on all
 -- different letters in every order. So it satisfies the condition on letters from which completeness follows ([D3] Prop. 4.4; [D2] Prop. 6.1).
 use mathlib.Core.Path.{_≡_, refl, sym, ap, _∙_}
 use mathlib.Core.Logic.{_≢_}
-use mathlib.Core.List.{[]}
+use mathlib.Core.List.{[], _∷_}
 use Prim.Native.Nat.{ℕ, _≤_, _<_}
 use native.Mathlib.Omega.{arith}
 use native.Mathlib.Decide.{ℕ-discrete, decLt, decLe}
-use lib.ListN.{length}
 use borrow.Author.Tests.{eqb-true}
 use Rattle.model.specs.Word.{Positive}
-use Rattle.model.specs.Presentation.{Presentation, Complement, undefined, complement, swapped, complete}
+use Rattle.model.specs.Presentation.{Presentation, Complement, undefined, complement, swapped, complete, weightOf, weigh}
 use Rattle.model.specs.Range.{InRange}
 use Rattle.model.specs.Outcome.{answered}
 use Rattle.model.specs.Enumeration.{pairs}
-use Rattle.model.specs.Checks.{balanced, lengthCheck, Side, CubeRule, both-undefined, both-defined, cleared}
+use Rattle.model.specs.Checks.{balanced, weightCheck, Side, CubeRule, both-undefined, both-defined, cleared}
 use Rattle.model.proofs.Complete.{complete-same, complete-turn, complete-named}
-use Rattle.model.proofs.Equiv.{Equiv, Homogeneous, total-one}
+use Rattle.model.proofs.Equiv.{Equiv, Homogeneous}
 use Rattle.theory.proofs.Grid.{Grid, derives-empty, recast}
 use Rattle.theory.proofs.Diagram.{draw}
 use Rattle.theory.proofs.Residuals.{side-grid, grid-side, same-side, rule-turned, open-rule}
-use Rattle.theory.proofs.Checked.{checked-length, clear-lengths, checked-rule}
+use Rattle.theory.proofs.Checked.{checked-weight, clear-weights, checked-rule}
 use Rattle.theory.proofs.Completeness.{Cube, Closes, complete-for}
 
 -- WHAT THE RULE SAYS
@@ -50,34 +49,31 @@ module _ (T : Presentation) where
         agree = rw l≡ (derives-empty (draw l r [] [] (ends .1)) .path);
       }
 
--- WHERE THE LENGTH CHECK IS PASSED
+-- WHERE THE WEIGHT CHECK IS PASSED
 
-module _ (T : Presentation) (even : lengthCheck T (pairs (T .size)) ≡ answered tt) where
-  ordered-lengths : {a b : ℕ} {x y : Positive} → a < b → complete T a b ≡ complement x y → length x ≡ length y
-  ordered-lengths {a} {b} {x} {y} h e =
+module _ (T : Presentation) (even : weightCheck T (pairs (T .size)) ≡ answered tt) where
+  ordered-weights : {a b : ℕ} {x y : Positive} → a < b → complete T a b ≡ complement x y → weigh T (a ∷ x) ≡ weigh T (b ∷ y)
+  ordered-weights {a} {b} {x} {y} h e =
       let named = complete-named T {a = a} {b = b} (omega arith) e in
-      eqb-true (length x) (length y) (ap balanced (sym e) ∙ checked-length T even (named .0 .low) h (named .1 .high))
+      eqb-true (weigh T (a ∷ x)) (weigh T (b ∷ y)) (ap (balanced T a b) (sym e) ∙ checked-weight T even (named .0 .low) h (named .1 .high))
 
-  equal-lengths : (a b : ℕ) {x y : Positive} → complete T a b ≡ complement x y → length x ≡ length y
-  equal-lengths a b {x} {y} e = go (ℕ-discrete a b) (decLt a b)
+  pub checked-homogeneous : Homogeneous (weightOf T) (complete T)
+  checked-homogeneous a b x y e = go (ℕ-discrete a b) (decLt a b)
     where
-      go : Dec (a ≡ b) → Dec (a < b) → length x ≡ length y
+      go : Dec (a ≡ b) → Dec (a < b) → weigh T (a ∷ x) ≡ weigh T (b ∷ y)
       go (yes p) _ =
           let empty : complete T a b ≡ complement [] [] = rw (← p) (complete-same T a) in
           cc
-      go (no p) (yes q) = ordered-lengths q e
+      go (no p) (yes q) = ordered-weights q e
       go (no p) (no q) =
           let below : b < a = omega arith in
-          sym (ordered-lengths below (complete-turn T a b ∙ ap swapped e))
-
-  pub checked-homogeneous : Homogeneous (λ a. 1) (complete T)
-  checked-homogeneous a b x y e = omega (arith, total-one x, total-one y, equal-lengths a b e)
+          sym (ordered-weights below (complete-turn T a b ∙ ap swapped e))
 
 -- WHERE THE TABLE CLEARS
 
 module _ (T : Presentation) (steps width : ℕ) (clear : cleared T steps width ≡ answered tt) where
-  pub clear-homogeneous : Homogeneous (λ a. 1) (complete T)
-  clear-homogeneous = checked-homogeneous T (clear-lengths T steps width clear)
+  pub clear-homogeneous : Homogeneous (weightOf T) (complete T)
+  clear-homogeneous = checked-homogeneous T (clear-weights T steps width clear)
 
   -- THE CUBE RULE
 
@@ -112,4 +108,4 @@ module _ (T : Presentation) (steps width : ℕ) (clear : cleared T steps width �
 
   -- equivalent words reverse to the empty word
   pub clear-complete : (u v : Positive) → Equiv (complete T) u v → (k : ℕ) × Grid (complete T) u v [] [] k
-  clear-complete u v = complete-for (λ a. 1) (λ a. omega arith) (complete-same T) (complete-turn T) clear-homogeneous clear-cube
+  clear-complete u v = complete-for (weightOf T) (λ a. omega arith) (complete-same T) (complete-turn T) clear-homogeneous clear-cube

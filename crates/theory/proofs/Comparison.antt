@@ -7,10 +7,9 @@ use mathlib.Core.Bool.{cond}
 use Prim.Native.Nat.{ℕ}
 use native.Mathlib.Decide.{ℕ-discrete}
 use lib.Dec.{eqb}
-use lib.ListN.{length}
 use borrow.Author.Tests.{eq-eqb, ne-eqb}
 use Rattle.model.specs.Word.{Positive, positive, negative}
-use Rattle.model.specs.Presentation.{Presentation}
+use Rattle.model.specs.Presentation.{Presentation, weightOf, weigh}
 use Rattle.model.specs.Reversing.{Stop, budget, room, Ending, finished, open-pair, stopped, reversing, Finishes, EndsEmpty, CoversSteps, CoversRoom}
 use Rattle.model.specs.Equivalence.{Joined}
 use Rattle.model.specs.Outcome.{Outcome, answered, refused, _>>=_}
@@ -19,7 +18,7 @@ use Rattle.model.specs.Services.{Verdict, same-after, different-after, judged, 
 use Rattle.model.proofs.Impossible.{impossible}
 use Rattle.model.proofs.Leftmost.{differing, open-unfinished}
 use Rattle.model.proofs.Endings.{Ends, reversing-ends, ends-reversing}
-use Rattle.model.proofs.Joining.{equiv-joined, joined-equiv, joined-length}
+use Rattle.model.proofs.Joining.{equiv-joined, joined-equiv, joined-weight}
 use Rattle.theory.proofs.Grid.{derives-empty, same-grid}
 use Rattle.theory.proofs.Diagram.{finishes, draw}
 use Rattle.theory.proofs.Clearing.{clear-homogeneous, clear-complete}
@@ -41,26 +40,26 @@ module _ (T : Presentation) (u v : Positive) (steps width : ℕ) where
     where
       compared : Outcome Verdict
       compared =
-          cond (eqb (length u) (length v)) (verdictOf (reversing T steps width (negative u ++ positive v))) (answered (different-after 0))
+          cond (eqb (weigh T u) (weigh T v)) (verdictOf (reversing T steps width (negative u ++ positive v))) (answered (different-after 0))
 
       go : (o : Outcome (Unit {0})) → (o >>= λ ok. compared) ≡ answered verdict → o ≡ answered tt
       go (answered x) e = refl
       go (refused n ps) e = impossible (cc)
 
   module _ (clear : cleared T steps width ≡ answered tt) where
-    compared-equal : length u ≡ length v → comparison T u v steps width ≡ verdictOf (reversing T steps width (negative u ++ positive v))
+    compared-equal : weigh T u ≡ weigh T v → comparison T u v steps width ≡ verdictOf (reversing T steps width (negative u ++ positive v))
     unfolding comparison
     compared-equal h =
         let after = verdictOf (reversing T steps width (negative u ++ positive v)) in
-        ap (λ o. o >>= λ ok. cond (eqb (length u) (length v)) after (answered (different-after 0))) clear
-        ∙ ap (λ t. cond t after (answered (different-after 0))) (eq-eqb (length u) (length v) h)
+        ap (λ o. o >>= λ ok. cond (eqb (weigh T u) (weigh T v)) after (answered (different-after 0))) clear
+        ∙ ap (λ t. cond t after (answered (different-after 0))) (eq-eqb (weigh T u) (weigh T v) h)
 
-    compared-unequal : length u ≢ length v → comparison T u v steps width ≡ answered (different-after 0)
+    compared-unequal : weigh T u ≢ weigh T v → comparison T u v steps width ≡ answered (different-after 0)
     unfolding comparison
     compared-unequal h =
         let after = verdictOf (reversing T steps width (negative u ++ positive v)) in
-        ap (λ o. o >>= λ ok. cond (eqb (length u) (length v)) after (answered (different-after 0))) clear
-        ∙ ap (λ t. cond t after (answered (different-after 0))) (ne-eqb (length u) (length v) h)
+        ap (λ o. o >>= λ ok. cond (eqb (weigh T u) (weigh T v)) after (answered (different-after 0))) clear
+        ∙ ap (λ t. cond t after (answered (different-after 0))) (ne-eqb (weigh T u) (weigh T v) h)
 
     -- JOINED WORDS AND THE EMPTY WORD
 
@@ -72,7 +71,7 @@ module _ (T : Presentation) (u v : Positive) (steps width : ℕ) where
     pub joined-same-after : Joined T u v → (k : ℕ) (run : Finishes T (negative u ++ positive v) [] [] k) → CoversSteps steps run → CoversRoom width run
         → comparison T u v steps width ≡ answered (same-after k)
     joined-same-after j k run within fits =
-        compared-equal (joined-length T (clear-homogeneous T steps width clear) u v j)
+        compared-equal (joined-weight T (weightOf T) (clear-homogeneous T steps width clear) u v j)
         ∙ ap verdictOf
         (ends-reversing T steps width (negative u ++ positive v) (finished [] [] k (differing run))
         (record { run = run; within = within; fits = fits; differ = refl }))
@@ -106,15 +105,15 @@ module _ (T : Presentation) (u v : Positive) (steps width : ℕ) where
     ending-means (stopped s) t = stop-means s
 
     pub comparison-means : Meaning T u v (comparison T u v steps width)
-    comparison-means = go (ℕ-discrete (length u) (length v))
+    comparison-means = go (ℕ-discrete (weigh T u) (weigh T v))
       where
-        go : Dec (length u ≡ length v) → Meaning T u v (comparison T u v steps width)
+        go : Dec (weigh T u ≡ weigh T v) → Meaning T u v (comparison T u v steps width)
         go (yes h) =
             subst (Meaning T u v) (sym (compared-equal h))
             (ending-means (reversing T steps width (negative u ++ positive v)) (reversing-ends T steps width (negative u ++ positive v)))
         go (no h) =
             subst (Meaning T u v) (sym (compared-unequal h))
-            (different 0 (λ j. h (joined-length T (clear-homogeneous T steps width clear) u v j)))
+            (different 0 (λ j. h (joined-weight T (weightOf T) (clear-homogeneous T steps width clear) u v j)))
 
   -- AND WHAT THE OUTCOME TELLS
 

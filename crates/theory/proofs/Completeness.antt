@@ -7,8 +7,8 @@ use Prim.Native.Nat.{ℕ, zero, suc, _+_, _≤_, _<_}
 use native.Mathlib.Omega.{arith}
 use native.Mathlib.Decide.{ℕ-discrete}
 use Rattle.model.specs.Word.{Positive}
-use Rattle.model.specs.Presentation.{Complement, complement, swapped}
-use Rattle.model.proofs.Equiv.{Equiv, Swap, done, step, trans, one, by-eq, prefix, suffix, symm, total, total-append, Homogeneous, weight-kept}
+use Rattle.model.specs.Presentation.{Complement, complement, swapped, total}
+use Rattle.model.proofs.Equiv.{Equiv, Swap, done, step, trans, one, by-eq, prefix, suffix, symm, total-append, Homogeneous, weight-kept}
 use Rattle.theory.proofs.Grid.{Grid, left-nil, cell, top, recast, beside, split, below, same-grid, itself, sound, turned, unstack}
 
 -- (b\a)\(b\c) is defined, and joined to the word n

@@ -1,5 +1,5 @@
--- Checking a chain answers just what `Passes` says (specification 6.7); and of a table that clears, a chain whose first word fits is
--- followed to its end.
+-- Checking a chain answers just what `Passes` says (specification 6.7); and of a table that clears, a chain whose first word weighs no more
+-- than the workspace has bytes is followed to its end.
 use mathlib.Core.Path.{_≡_, refl, sym, ap, ap₂, subst, _∙_}
 use mathlib.Core.Logic.{_≢_, _↔_}
 use mathlib.Core.List.{List, [], _∷_, _++_, append-nil}
@@ -11,15 +11,15 @@ use native.Mathlib.Decide.{decLt}
 use lib.ListN.{length}
 use borrow.Author.Tests.{lt-ltb, le-ltb}
 use Rattle.model.specs.Word.{Positive}
-use Rattle.model.specs.Presentation.{Presentation, complete}
+use Rattle.model.specs.Presentation.{Presentation, complete, weightOf, weigh}
 use Rattle.model.specs.Equivalence.{Entry, equal, applied, Leads, Fits, LeadsWithin}
 use Rattle.model.specs.Outcome.{Outcome, answered, refused}
 use Rattle.model.specs.Services.{Passage, joins, ends-elsewhere, followedBy, followed, passage}
 use Rattle.theory.specs.Passages.{Passes, arrives, broken, elsewhere, starts-long, grows-long}
 use Rattle.model.proofs.Impossible.{impossible}
 use Rattle.model.proofs.Entries.{equal-same, equal-true}
-use Rattle.model.proofs.Equiv.{Homogeneous}
-use Rattle.model.proofs.Joining.{joined-length}
+use Rattle.model.proofs.Equiv.{Homogeneous, length-total}
+use Rattle.model.proofs.Joining.{joined-weight}
 
 -- WHERE THE ENTRIES LEAD
 
@@ -117,13 +117,13 @@ module _ (T : Presentation) (width : ℕ) where
 
 -- UNDER A TABLE THAT CLEARS
 
-module _ (T : Presentation) (even : Homogeneous (λ a. 1) (complete T)) (width : ℕ) where
-  -- all words on the way are as long as the first
-  leads-fits : (u : Positive) (es : List Entry) (v : Positive) (h : Leads T u es v) → length u ≤ width → Fits T width u es v h
-  leads-fits u [] v h l = l
+module _ (T : Presentation) (even : Homogeneous (weightOf T) (complete T)) (width : ℕ) where
+  -- all words on the way weigh what the first does, and none has more letters than it weighs
+  leads-fits : (u : Positive) (es : List Entry) (v : Positive) (h : Leads T u es v) → weigh T u ≤ width → Fits T width u es v h
+  leads-fits u [] v h l = omega (arith, length-total (weightOf T) (λ a. omega arith) u)
   leads-fits u (e ∷ es) v h l =
-      let same = joined-length T even u (h .0) (e ∷ [], (h .0, h .1, refl)) in
-      (l, leads-fits (h .0) es v (h .2) (omega (arith, same)))
+      let same = joined-weight T (weightOf T) even u (h .0) (e ∷ [], (h .0, h .1, refl)) in
+      (omega (arith, length-total (weightOf T) (λ a. omega arith) u), leads-fits (h .0) es v (h .2) (omega (arith, same)))
 
-  pub lead-joins : (u : Positive) (es : List Entry) (v : Positive) → Leads T u es v → length u ≤ width → passage T width u es v ≡ answered joins
+  pub lead-joins : (u : Positive) (es : List Entry) (v : Positive) → Leads T u es v → weigh T u ≤ width → passage T width u es v ≡ answered joins
   lead-joins u es v h l = passage-exactly T width u es v (answered joins) .1 (arrives (h, leads-fits u es v h l))

@@ -7,10 +7,10 @@ use Prim.Native.Nat.{ℕ, _≤_, _<_}
 use native.Mathlib.Omega.{arith}
 use native.Mathlib.Decide.{decLt}
 use lib.Dec.{ltb}
-use lib.ListN.{length, length-append}
+use lib.ListN.{length}
 use borrow.Author.Tests.{lt-ltb, le-ltb, ltb-true}
 use Rattle.model.specs.Word.{Positive, positive, negative}
-use Rattle.model.specs.Presentation.{Presentation, complete}
+use Rattle.model.specs.Presentation.{Presentation, complete, weightOf, weigh}
 use Rattle.model.specs.Reversing.{Stop, budget, room, Ending, finished, open-pair, stopped, reversing, Finishes, Residual, CoversSteps, CoversRoom}
 use Rattle.model.specs.Equivalence.{Joined}
 use Rattle.model.specs.Outcome.{Outcome, answered, refused, _>>=_, unless}
@@ -20,7 +20,8 @@ use Rattle.model.proofs.Impossible.{impossible}
 use Rattle.model.proofs.Complete.{complete-turn}
 use Rattle.model.proofs.Leftmost.{differing, open-unfinished}
 use Rattle.model.proofs.Endings.{Ends, reversing-ends, ends-reversing}
-use Rattle.model.proofs.Joining.{equiv-joined, joined-equiv, joined-length}
+use Rattle.model.proofs.Equiv.{total-append}
+use Rattle.model.proofs.Joining.{equiv-joined, joined-equiv, joined-weight}
 use Rattle.theory.specs.Remainders.{Completes, Concluded, concluded, by-allowance, by-workspace, by-area, QuotientMeaning}
 use Rattle.theory.proofs.Grid.{same-grid}
 use Rattle.theory.proofs.Diagram.{finishes, draw}
@@ -37,7 +38,7 @@ pub data Meaning (T : Presentation) (u v : Positive) (area : ℕ) : Outcome (Rem
 
 module _ (T : Presentation) (u v : Positive) (steps width area : ℕ) where
   abbrev after : Outcome (Remainder Positive)
-  after = cond (ltb (length v) (length u)) (answered (none-after 0)) (remainderOf area (reversing T steps width (negative u ++ positive v)))
+  after = cond (ltb (weigh T v) (weigh T u)) (answered (none-after 0)) (remainderOf area (reversing T steps width (negative u ++ positive v)))
 
   -- only a table that clears leads to an answer
   answered-clear : {r : Remainder Positive} → quotient T u v steps width area ≡ answered r → cleared T steps width ≡ answered tt
@@ -51,26 +52,26 @@ module _ (T : Presentation) (u v : Positive) (steps width area : ℕ) where
   module _ (clear : cleared T steps width ≡ answered tt) where
     -- THE CASES OF A QUOTIENT
 
-    pub shorter : length v < length u → quotient T u v steps width area ≡ answered (none-after 0)
+    pub lighter : weigh T v < weigh T u → quotient T u v steps width area ≡ answered (none-after 0)
     unfolding quotient
-    shorter h =
+    lighter h =
         ap (λ o. o >>= λ ok. after) clear
-        ∙ ap (λ t. cond t (answered (none-after 0)) (remainderOf area (reversing T steps width (negative u ++ positive v)))) (lt-ltb (length v) (length u) h)
+        ∙ ap (λ t. cond t (answered (none-after 0)) (remainderOf area (reversing T steps width (negative u ++ positive v)))) (lt-ltb (weigh T v) (weigh T u) h)
 
-    pub as-long : length u ≤ length v → quotient T u v steps width area ≡ remainderOf area (reversing T steps width (negative u ++ positive v))
+    pub as-heavy : weigh T u ≤ weigh T v → quotient T u v steps width area ≡ remainderOf area (reversing T steps width (negative u ++ positive v))
     unfolding quotient
-    as-long h =
+    as-heavy h =
         ap (λ o. o >>= λ ok. after) clear
-        ∙ ap (λ t. cond t (answered (none-after 0)) (remainderOf area (reversing T steps width (negative u ++ positive v)))) (le-ltb (length v) (length u) h)
+        ∙ ap (λ t. cond t (answered (none-after 0)) (remainderOf area (reversing T steps width (negative u ++ positive v)))) (le-ltb (weigh T v) (weigh T u) h)
 
     -- WORDS THAT FINISH THE PATTERN
 
     quotient-of : (m : Positive) → Completes T u v m → Divides (complete T) u v m
     quotient-of m c = divides (complete-turn T) (clear-complete T steps width clear) u (joined-equiv T (u ++ m) v c)
 
-    completes-long : (m : Positive) → Completes T u v m → length u ≤ length v
-    completes-long m c =
-        omega (arith, joined-length T (clear-homogeneous T steps width clear) (u ++ m) v c, length-append u m)
+    completes-heavy : (m : Positive) → Completes T u v m → weigh T u ≤ weigh T v
+    completes-heavy m c =
+        omega (arith, joined-weight T (weightOf T) (clear-homogeneous T steps width clear) (u ++ m) v c, total-append (weightOf T) u m)
 
     defined : (m : Positive) → Completes T u v m → (n : Positive) × Residual T u v n []
     defined m c = let q = quotient-of m c in (q .n, (q .k, finishes (q .grid)))
@@ -107,18 +108,18 @@ module _ (T : Presentation) (u v : Positive) (steps width area : ℕ) where
     ending-means (stopped s) t = stop-means s
 
     quotient-means : Meaning T u v area (quotient T u v steps width area)
-    quotient-means = go (decLt (length v) (length u))
+    quotient-means = go (decLt (weigh T v) (weigh T u))
       where
-        go : Dec (length v < length u) → Meaning T u v area (quotient T u v steps width area)
-        go (yes h) = subst (Meaning T u v area) (sym (shorter h)) (none 0 (λ m c. omega (arith, completes-long m c)))
+        go : Dec (weigh T v < weigh T u) → Meaning T u v area (quotient T u v steps width area)
+        go (yes h) = subst (Meaning T u v area) (sym (lighter h)) (none 0 (λ m c. omega (arith, completes-heavy m c)))
         go (no h) =
-            subst (Meaning T u v area) (sym (as-long (omega arith)))
+            subst (Meaning T u v area) (sym (as-heavy (omega arith)))
             (ending-means (reversing T steps width (negative u ++ positive v)) (reversing-ends T steps width (negative u ++ positive v)))
 
     covered : (m : Positive) → Completes T u v m → (n : Positive) (k : ℕ) (run : Finishes T (negative u ++ positive v) n [] k) → CoversSteps steps run
         → CoversRoom width run → quotient T u v steps width area ≡ unless (ltb area (length n)) 13 (moves-after n k)
     covered m c n k run within fits =
-        as-long (completes-long m c)
+        as-heavy (completes-heavy m c)
         ∙ ap (remainderOf area)
         (ends-reversing T steps width (negative u ++ positive v) (finished n [] k (differing run))
         (record { run = run; within = within; fits = fits; differ = refl }))

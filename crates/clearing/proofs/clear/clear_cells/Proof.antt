@@ -3,17 +3,17 @@ use mathlib.Core.Path.{refl, sym, ap, subst, _∙_}
 use lib.ListN.{length, replicate}
 use Rattle.model.specs.Areas.{workspaceAfter}
 use Rattle.model.specs.Stated.{clearedAs}
-use Rattle.checks.specs.Table.{LengthsMean}
-use Rattle.clearing.proofs.ClearService.{lengths-refuse, triples-clear, triples-wipe}
+use Rattle.checks.specs.Table.{WeightsMean}
+use Rattle.clearing.proofs.ClearService.{weights-refuse, triples-clear, triples-wipe}
 use borrow.Author.Needs.{needs}
 use Rattle.clearing.proofs.clear.clear_cells.Statement.{statement}
 use Rattle.clearing.proofs.clear.clear_cells.Tie as tie
 
-check-lengths-requires : tie.Need-check-lengths-requires
-check-lengths-requires c κs = search needs
+check-weights-requires : tie.Need-check-weights-requires
+check-weights-requires c κs = search needs
 
-enum-known-lengths : tie.Need-enum-known-lengths
-enum-known-lengths c = search needs
+enum-known-weights : tie.Need-enum-known-weights
+enum-known-weights c = search needs
 
 enum-told : tie.Need-enum-told
 enum-told c = search needs
@@ -30,8 +30,8 @@ triples-answer-requires c κs = search needs
 returns : tie.Need-returns
 returns c =
     let s = c .before .before .before .before .before .before in
-    let m = subst (LengthsMean (s .args .cells .now) (s .args .size)) (c .before .lengths .given .1) (c .before .before .before .check-lengths .ensures) in
-    (lengths-refuse (s .args .cells .now) (s .args .size) (s .args .budget) (length (s .args .workspace .now)) (c .before .lengths .given .0 .0) m, refl)
+    let m = subst (WeightsMean (s .args .cells .now) (s .args .size)) (c .before .weights .given .1) (c .before .before .before .check-weights .ensures) in
+    (weights-refuse (s .args .cells .now) (s .args .size) (s .args .budget) (length (s .args .workspace .now)) (c .before .weights .given .0 .0) m, refl)
 
 same-length : tie.Need-same-length
 same-length c = search needs
@@ -40,7 +40,7 @@ returns-2 : tie.Need-returns-2
 returns-2 c =
     let s = c .before .before .before .before .before .before .before .before .before .before .before .before .before .before in
     let t = c .before .before .before .before .before .before .before .check-triples in
-    let m = subst (LengthsMean (s .args .cells .now) (s .args .size)) (c .before .before .before .before .before .before .before .before .before .enum-told .given .1) (c .before .before .before .before .before .before .before .before .before .before .before .check-lengths .ensures) in
+    let m = subst (WeightsMean (s .args .cells .now) (s .args .size)) (c .before .before .before .before .before .before .before .before .before .enum-told .given .1) (c .before .before .before .before .before .before .before .before .before .before .before .check-weights .ensures) in
     let e = c .triples-answer .ensures in (
       λ T o. ap clearedAs e ∙ triples-clear (s .args .cells .now) (s .args .size) (s .args .budget) (length (s .args .workspace .now)) (t .result) m (t .ensures .1) T o,
       c .before .before .before .wipe .ensures ∙ (ap (λ i. replicate i 0) (t .ensures .0) ∙ sym (ap (λ r. workspaceAfter (clearedAs r) (s .args .workspace .now)) e ∙ triples-wipe (t .result) (s .args .workspace .now))),
@@ -50,8 +50,8 @@ pub clear-cells-spec : {M : Type 1} → statement M
 clear-cells-spec =
     tie.close
     (tie.spec
-    check-lengths-requires
-    enum-known-lengths
+    check-weights-requires
+    enum-known-weights
     enum-told
     check-triples-requires
     wipe-requires

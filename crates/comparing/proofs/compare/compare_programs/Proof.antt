@@ -1,6 +1,5 @@
 -- `comparing::compare::compare_programs` meets its contract.
 use mathlib.Core.Path.{_≡_, sym, ap, subst, _∙_}
-use native.Mathlib.Omega.{arith}
 use lib.ListN.{length, replicate, length-replicate}
 use Rattle.model.specs.Presentation.{Presentation}
 use Rattle.model.specs.Outcome.{answered}
@@ -23,20 +22,23 @@ enum-known-clear c = search needs
 enum-told : tie.Need-enum-told
 enum-told c = search needs
 
+program-weight-requires : tie.Need-program-weight-requires
+program-weight-requires c κs = search needs
+
+program-weight-requires-2 : tie.Need-program-weight-requires-2
+program-weight-requires-2 c κs = search needs
+
 same-length : tie.Need-same-length
 same-length c = search needs
 
 returns : tie.Need-returns
 returns c =
-    let s = c .before .before .before .before .before .before .before .before .before .before .before in
-    let z = c .before .before .before .before .before .clear-cells in
-    let p = s .pre .pair in
-    let passed : (T : Presentation) → Of (s .args .cells .now) (s .args .size) T → answered tt ≡ cleared T (s .args .budget) (length (s .args .workspace .now)) = λ T o. subst (λ r. clearedAs r ≡ cleared T (s .args .budget) (length (s .args .workspace .now))) (c .before .enum-told .given .1) (z .ensures .0 T o) in
+    let s = (c .before .before .before .before .before .before .before .before .before .before .before .before .before) in
+    let z = c .before .before .before .before .before .before .before .clear-cells in
+    let passed : (T : Presentation) → Of (s .args .cells .now) (s .args .size) T → answered tt ≡ cleared T (s .args .budget) (length (s .args .workspace .now)) = λ T o. subst (λ r. clearedAs r ≡ cleared T (s .args .budget) (length (s .args .workspace .now))) (c .before .before .before .enum-told .given .1) (z .ensures .0 T o) in
     record {
-      workspace = z .ensures .1 ∙ ap (λ r. workspaceAfter (clearedAs r) (s .args .workspace .now)) (c .before .enum-told .given .1);
-      judged = λ T o u v eu ev. unequal-programs T u v (s .args .budget) (length (s .args .workspace .now)) (passed T o)
-          (λ e. let fu : p .one .word ≡ u = cc (p .one .read, eu) in let fv : p .two .word ≡ v = cc (p .two .read, ev) in
-          c .if1 .taken (omega (arith, p .one .count-is, p .two .count-is, ap length fu, ap length fv)));
+      workspace = z .ensures .1 ∙ ap (λ r. workspaceAfter (clearedAs r) (s .args .workspace .now)) (c .before .before .before .enum-told .given .1);
+      judged = λ T o u v eu ev. unequal-programs T u v (s .args .budget) (length (s .args .workspace .now)) (passed T o) (λ e. c .if1 .taken (c .before .before .program-weight .ensures T o u eu ∙ (e ∙ sym (c .before .program-weight2 .ensures T o v ev))));
     }
 
 run-programs-requires : tie.Need-run-programs-requires
@@ -53,13 +55,12 @@ same-length-2 c = search needs
 
 returns-2 : tie.Need-returns-2
 returns-2 c =
-    let s = c .before .before .before .before .before .before .before .before .before .before .before in
+    let s = (c .before .before .before .before .before .before .before .before .before .before .before) in
     let z = c .before .before .before .before .before .clear-cells in
     let r = c .before .clear .given .0 .0 in
     record {
       workspace = z .ensures .1 ∙ ap (λ x. workspaceAfter (clearedAs x) (s .args .workspace .now)) (c .before .clear .given .1);
-      judged = λ T o u v eu ev. comparison-refused T u v (s .args .budget) (length (s .args .workspace .now)) r
-          (subst (λ x. clearedAs x ≡ cleared T (s .args .budget) (length (s .args .workspace .now))) (c .before .clear .given .1) (z .ensures .0 T o));
+      judged = λ T o u v eu ev. comparison-refused T u v (s .args .budget) (length (s .args .workspace .now)) r (subst (λ x. clearedAs x ≡ cleared T (s .args .budget) (length (s .args .workspace .now))) (c .before .clear .given .1) (z .ensures .0 T o));
     }
 
 same-length-3 : tie.Need-same-length-3
@@ -67,22 +68,19 @@ same-length-3 c = search needs
 
 returns-3 : tie.Need-returns-3
 returns-3 c =
-    let s = c .before .before .before .before .before .before .before .before .before .before .before .before .before .before .before .before .before .before .before .before in
-    let z = c .before .before .before .before .before .before .before .before .before .before .before .before .before .before .clear-cells in
-    let p = s .pre .pair in
+    let s = (c .before .before .before .before .before .before .before .before .before .before .before .before .before .before .before .before .before .before .before .before .before .before) in
+    let z = c .before .before .before .before .before .before .before .before .before .before .before .before .before .before .before .before .clear-cells in
+    let passed : (T : Presentation) → Of (s .args .cells .now) (s .args .size) T → answered tt ≡ cleared T (s .args .budget) (length (s .args .workspace .now)) = λ T o. subst (λ r. clearedAs r ≡ cleared T (s .args .budget) (length (s .args .workspace .now))) (c .before .before .before .before .before .before .before .before .before .before .before .before .enum-told .given .1) (z .ensures .0 T o) in
     let w = c .before .before .before .wipe in
     let x = c .before .before .before .before .before .before .before .run-programs in
     let e = c .judge .ensures in
-    let kept : length (z .last .1 .1 .1 .0) ≡ length (s .args .workspace .now) = ap length (z .ensures .1 ∙ ap (λ r. workspaceAfter (clearedAs r) (s .args .workspace .now)) (c .before .before .before .before .before .before .before .before .before .before .enum-told .given .1)) ∙ length-replicate (length (s .args .workspace .now)) 0 in
+    let kept : length (z .last .1 .1 .1 .0) ≡ length (s .args .workspace .now) = ap length (z .ensures .1 ∙ ap (λ r. workspaceAfter (clearedAs r) (s .args .workspace .now)) (c .before .before .before .before .before .before .before .before .before .before .before .before .enum-told .given .1)) ∙ length-replicate (length (s .args .workspace .now)) 0 in
     record {
       workspace = w .ensures ∙ (ap (λ i. replicate i 0) (x .ensures .0 ∙ kept) ∙ sym (ap (λ j. workspaceAfter (judgementAs j) (s .args .workspace .now)) e ∙ judged-wipe (x .result) (s .args .workspace .now)));
       judged = λ T o u v eu ev.
-          let fu : p .one .word ≡ u = cc (p .one .read, eu) in
-          let fv : p .two .word ≡ v = cc (p .two .read, ev) in
           subst (Judged T u v (s .args .budget) (length (s .args .workspace .now))) (sym e)
-          (equal-programs T u v (s .args .budget) (length (s .args .workspace .now))
-          (subst (λ r. clearedAs r ≡ cleared T (s .args .budget) (length (s .args .workspace .now))) (c .before .before .before .before .before .before .before .before .before .before .enum-told .given .1) (z .ensures .0 T o))
-          (omega (arith, p .one .count-is, p .two .count-is, ap length fu, ap length fv, c .before .before .before .before .before .before .before .before .before .if1 .left))
+          (equal-programs T u v (s .args .budget) (length (s .args .workspace .now)) (passed T o)
+          (sym (c .before .before .before .before .before .before .before .before .before .before .before .program-weight .ensures T o u eu) ∙ (c .before .before .before .before .before .before .before .before .before .if1 .left ∙ c .before .before .before .before .before .before .before .before .before .before .program-weight2 .ensures T o v ev))
           (x .last .1 .1 .1 .1 .1 .1 .1 .0) (x .ensures .0 ∙ kept) (x .result) (x .ensures .1 T o u v eu ev));
     }
 
@@ -93,6 +91,8 @@ compare-programs-spec =
     clear-cells-requires
     enum-known-clear
     enum-told
+    program-weight-requires
+    program-weight-requires-2
     same-length
     returns
     run-programs-requires

@@ -29,7 +29,7 @@ add-result-2 c =
 
 returns : tie.Need-returns
 returns c =
-    ap (λ w. 16 + c .before .args .index * (12 + 2 * w)) (c .letter-width .ensures)
+    ap (λ w. 16 + c .before .args .index * (15 + 2 * w)) (c .letter-width .ensures)
 
 pub position-spec : {M : Type 1} → statement M
 position-spec =

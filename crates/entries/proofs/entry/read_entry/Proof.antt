@@ -45,28 +45,28 @@ add-t12 c =
     let s = c .before .before .before .before .before .before in
     let at = c .before .before .before .before .position in
     let width = c .before .before .before .letter-width in
-    omega (arith, letter-small (s .pre) (at .result) (width .result) (at .ensures) (width .ensures) (at .result + 12) (c .before .read-field2 .result) (second-inside (s .pre) (at .result) (width .result) (at .ensures) (width .ensures)) (c .before .read-field2 .ensures))
+    omega (arith, letter-small (s .pre) (at .result) (width .result) (at .ensures) (width .ensures) (at .result + 15) (c .before .read-field2 .result) (second-inside (s .pre) (at .result) (width .result) (at .ensures) (width .ensures)) (c .before .read-field2 .ensures))
 
 cast-t9 : tie.Need-cast-t9
 cast-t9 c =
     let s = c .before .before .before .before .before .before in
     let at = c .before .before .before .before .position in
     let width = c .before .before .before .letter-width in
-    omega (arith, letter-small (s .pre) (at .result) (width .result) (at .ensures) (width .ensures) (at .result + 12) (c .before .read-field2 .result) (second-inside (s .pre) (at .result) (width .result) (at .ensures) (width .ensures)) (c .before .read-field2 .ensures))
+    omega (arith, letter-small (s .pre) (at .result) (width .result) (at .ensures) (width .ensures) (at .result + 15) (c .before .read-field2 .result) (second-inside (s .pre) (at .result) (width .result) (at .ensures) (width .ensures)) (c .before .read-field2 .ensures))
 
 add-t13 : tie.Need-add-t13
 add-t13 c =
     let s = c .before .before .before .before .before .before in
     let at = c .before .before .before .before .position in
     let width = c .before .before .before .letter-width in
-    omega (arith, letter-small (s .pre) (at .result) (width .result) (at .ensures) (width .ensures) (at .result + 12 + width .result) (c .read-field3 .result) (third-inside (s .pre) (at .result) (width .result) (at .ensures) (width .ensures)) (c .read-field3 .ensures))
+    omega (arith, letter-small (s .pre) (at .result) (width .result) (at .ensures) (width .ensures) (at .result + 15 + width .result) (c .read-field3 .result) (third-inside (s .pre) (at .result) (width .result) (at .ensures) (width .ensures)) (c .read-field3 .ensures))
 
 cast-t14 : tie.Need-cast-t14
 cast-t14 c =
     let s = c .before .before .before .before .before .before in
     let at = c .before .before .before .before .position in
     let width = c .before .before .before .letter-width in
-    omega (arith, letter-small (s .pre) (at .result) (width .result) (at .ensures) (width .ensures) (at .result + 12 + width .result) (c .read-field3 .result) (third-inside (s .pre) (at .result) (width .result) (at .ensures) (width .ensures)) (c .read-field3 .ensures))
+    omega (arith, letter-small (s .pre) (at .result) (width .result) (at .ensures) (width .ensures) (at .result + 15 + width .result) (c .read-field3 .result) (third-inside (s .pre) (at .result) (width .result) (at .ensures) (width .ensures)) (c .read-field3 .ensures))
 
 returns : tie.Need-returns
 returns c =

@@ -11,14 +11,14 @@ use Rattle.images.proofs.chains.next_entry.Tie as tie
 abbrev start : tie.After-known-told → tie.Start
 start c = c .before .before .before .before .before
 
-offset-at : (c : tie.After-known-told) → FieldAt (start c .args .image .now) (start c .args .at) 12 (c .before .offset .given .0 .0)
-offset-at c = subst (FieldDone (start c .args .image .now) (start c .args .at) 12) (c .before .offset .given .1) (c .before .before .before .next-field .ensures)
+offset-at : (c : tie.After-known-told) → FieldAt (start c .args .image .now) (start c .args .at) 15 (c .before .offset .given .0 .0)
+offset-at c = subst (FieldDone (start c .args .image .now) (start c .args .at) 15) (c .before .offset .given .1) (c .before .before .before .next-field .ensures)
 
 a-at : (c : tie.After-a)
-    → LetterAt (start (c .before .before .before) .args .image .now) (start (c .before .before .before) .args .at + 12) (start (c .before .before .before) .args .size) (start (c .before .before .before) .args .width) (c .a .given .0 .0)
+    → LetterAt (start (c .before .before .before) .args .image .now) (start (c .before .before .before) .args .at + 15) (start (c .before .before .before) .args .size) (start (c .before .before .before) .args .width) (c .a .given .0 .0)
 a-at c =
     let s = start (c .before .before .before) in
-    subst (LetterDone (s .args .image .now) (s .args .at + 12) (s .args .size) (s .args .width)) (c .a .given .1) (c .before .before .next-letter .ensures)
+    subst (LetterDone (s .args .image .now) (s .args .at + 15) (s .args .size) (s .args .width)) (c .a .given .1) (c .before .before .next-letter .ensures)
 
 next-field-requires : tie.Need-next-field-requires
 next-field-requires c κs = search needs
@@ -32,7 +32,7 @@ enum-told c = search needs
 returns : tie.Need-returns
 returns c =
     let s = c .before .before .before .before in
-    offset-ends (s .args .image .now) (s .args .at) (s .args .size) (s .args .width) (subst (FieldDone (s .args .image .now) (s .args .at) 12) (c .enum-told .given .1) (c .before .before .next-field .ensures))
+    offset-ends (s .args .image .now) (s .args .at) (s .args .size) (s .args .width) (subst (FieldDone (s .args .image .now) (s .args .at) 15) (c .enum-told .given .1) (c .before .before .next-field .ensures))
 
 add-next-letter : tie.Need-add-next-letter
 add-next-letter c = search needs
@@ -75,34 +75,34 @@ returns-2 : tie.Need-returns-2
 returns-2 c =
     let k = c .before .before .before in
     let s = start k in
-    first-refused (s .args .image .now) (s .args .at) (s .args .size) (s .args .width) _ (offset-at k) 4 (subst (LetterDone (s .args .image .now) (s .args .at + 12) (s .args .size) (s .args .width)) (c .enum-told2 .given .1) (c .before .before .next-letter .ensures) 4 5)
+    first-refused (s .args .image .now) (s .args .at) (s .args .size) (s .args .width) _ (offset-at k) 4 (subst (LetterDone (s .args .image .now) (s .args .at + 15) (s .args .size) (s .args .width)) (c .enum-told2 .given .1) (c .before .before .next-letter .ensures) 4 5)
 
 returns-3 : tie.Need-returns-3
 returns-3 c =
     let k = c .before .before .before in
     let s = start k in
-    first-refused (s .args .image .now) (s .args .at) (s .args .size) (s .args .width) _ (offset-at k) 5 (subst (LetterDone (s .args .image .now) (s .args .at + 12) (s .args .size) (s .args .width)) (c .enum-told3 .given .1) (c .before .before .next-letter .ensures) 4 5)
+    first-refused (s .args .image .now) (s .args .at) (s .args .size) (s .args .width) _ (offset-at k) 5 (subst (LetterDone (s .args .image .now) (s .args .at + 15) (s .args .size) (s .args .width)) (c .enum-told3 .given .1) (c .before .before .next-letter .ensures) 4 5)
 
 returns-4 : tie.Need-returns-4
 returns-4 c =
     let x = c .before .before .before .before in
     let k = x .before .before .before in
     let s = start k in
-    second-refused (s .args .image .now) (s .args .at) (s .args .size) (s .args .width) _ (offset-at k) _ (a-at x) 4 (subst (LetterDone (s .args .image .now) (s .args .at + 12 + s .args .width) (s .args .size) (s .args .width)) (c .enum-told4 .given .1) (c .before .before .next-letter2 .ensures) 4 5)
+    second-refused (s .args .image .now) (s .args .at) (s .args .size) (s .args .width) _ (offset-at k) _ (a-at x) 4 (subst (LetterDone (s .args .image .now) (s .args .at + 15 + s .args .width) (s .args .size) (s .args .width)) (c .enum-told4 .given .1) (c .before .before .next-letter2 .ensures) 4 5)
 
 returns-5 : tie.Need-returns-5
 returns-5 c =
     let x = c .before .before .before .before in
     let k = x .before .before .before in
     let s = start k in
-    second-refused (s .args .image .now) (s .args .at) (s .args .size) (s .args .width) _ (offset-at k) _ (a-at x) 5 (subst (LetterDone (s .args .image .now) (s .args .at + 12 + s .args .width) (s .args .size) (s .args .width)) (c .enum-told5 .given .1) (c .before .before .next-letter2 .ensures) 4 5)
+    second-refused (s .args .image .now) (s .args .at) (s .args .size) (s .args .width) _ (offset-at k) _ (a-at x) 5 (subst (LetterDone (s .args .image .now) (s .args .at + 15 + s .args .width) (s .args .size) (s .args .width)) (c .enum-told5 .given .1) (c .before .before .next-letter2 .ensures) 4 5)
 
 returns-6 : tie.Need-returns-6
 returns-6 c =
     let x = c .before .before .before .before .before in
     let k = x .before .before .before in
     let s = start k in
-    entry-read (s .args .image .now) (s .args .at) (s .args .size) (s .args .width) _ (offset-at k) _ (a-at x) _ (subst (LetterDone (s .args .image .now) (s .args .at + 12 + s .args .width) (s .args .size) (s .args .width)) (c .before .b .given .1) (c .before .before .before .next-letter2 .ensures))
+    entry-read (s .args .image .now) (s .args .at) (s .args .size) (s .args .width) _ (offset-at k) _ (a-at x) _ (subst (LetterDone (s .args .image .now) (s .args .at + 15 + s .args .width) (s .args .size) (s .args .width)) (c .before .b .given .1) (c .before .before .before .next-letter2 .ensures))
 
 pub next-entry-spec : {M : Type 1} → statement M
 next-entry-spec =

@@ -26,7 +26,7 @@ count-at c = subst (FieldDone (start c .args .image .now) 0 16) (c .before .coun
 narrow : (c : tie.After-letter-width Inv-loop μ-loop) → c .letter-width .result ≤ 4
 narrow c = subst (λ n. n ≤ 4) (sym (c .letter-width .ensures)) (width-small (start (c .before) .args .size))
 
-near : (c : tie.At-loop Inv-loop μ-loop) → c .loop .at ≤ 1310736
+near : (c : tie.At-loop Inv-loop μ-loop) → c .loop .at ≤ 1507344
 near c = omega (arith, c .loop .inv .near, c .loop .inv .some-left, count-at (c .before .before) .small)
 
 next-field-requires : tie.Need-next-field-requires Inv-loop μ-loop
@@ -110,7 +110,7 @@ loop-again c =
     let s = start (l .before .before) in
     let x : EntryAt (s .args .image .now) (l .loop .at) (s .args .size) (l .before .letter-width .result) (c .enum-told4 .given .0 .0) =
     subst (EntryDone (s .args .image .now) (l .loop .at) (s .args .size) (l .before .letter-width .result)) (c .enum-told4 .given .1) (c .before .before .next-entry .ensures) in
-    validated-more (entryField (s .args .size)) 16 (s .args .image .now) (l .before .before .before .count .given .0 .0) (count-at (l .before .before)) (l .loop .at) (l .loop .i) (l .loop .inv) (entryOf (c .enum-told4 .given .0 .0)) (l .loop .at + 12 + l .before .letter-width .result + l .before .letter-width .result)
+    validated-more (entryField (s .args .size)) 16 (s .args .image .now) (l .before .before .before .count .given .0 .0) (count-at (l .before .before)) (l .loop .at) (l .loop .i) (l .loop .inv) (entryOf (c .enum-told4 .given .0 .0)) (l .loop .at + 15 + l .before .letter-width .result + l .before .letter-width .result)
     (omega (arith, narrow (l .before))) (x .inside) (c .before .before .before .loop-test .taken) (x .read)
 
 is-filling-requires : tie.Need-is-filling-requires Inv-loop μ-loop

@@ -26,7 +26,7 @@ count-at c = subst (FieldDone (start c .args .image .now) 0 12) (c .before .coun
 narrow : (c : tie.After-letter-width Inv-loop μ-loop) → c .letter-width .result ≤ 4
 narrow c = subst (λ n. n ≤ 4) (sym (c .letter-width .ensures)) (width-small (start (c .before) .args .size))
 
-near : (c : tie.At-loop Inv-loop μ-loop) → c .loop .at ≤ 81912
+near : (c : tie.At-loop Inv-loop μ-loop) → c .loop .at ≤ 94200
 near c = omega (arith, c .loop .inv .near, c .loop .inv .some-left, count-at (c .before .before) .small)
 
 next-field-requires : tie.Need-next-field-requires Inv-loop μ-loop

@@ -1,7 +1,7 @@
 -- `packing::pack_table::pack` meets its contract.
 use mathlib.Core.Path.{_≡_, refl, sym, ap, subst, _∙_}
 use mathlib.Core.List.{List, _++_}
-use Prim.Native.Nat.{ℕ, _-_, _≤_}
+use Prim.Native.Nat.{ℕ, _-_}
 use native.Mathlib.Omega.{arith}
 use Rattle.cells.proofs.Rules.{blank-zeros}
 use borrow.Author.Needs.{needs}
@@ -9,13 +9,14 @@ use lib.ListN.{length, take, drop}
 use Rattle.model.specs.declared.answers.Refusal.the-variants.{AnswerShort}
 use Rattle.model.specs.Enumeration.{concatMap}
 use Rattle.model.specs.Bits.{digits, bytesFor, pack}
-use Rattle.model.specs.Images.{pairBits, tableImage, readTable}
+use Rattle.model.specs.Images.{weightWidth, pairBits, tableImage, readTable}
 use Rattle.model.specs.Plain.{readPlainTable}
 use Rattle.model.specs.Services.{packTable}
 use Rattle.model.specs.Range.{AreBytes}
 use Rattle.bits.proofs.Packing.{length-packed}
 use Rattle.images.specs.Tables.{PlainTableDone, PlainTableOf}
 use Rattle.images.proofs.Appending.{bytes-first, zero-image, table-bits, table-image}
+use Rattle.images.proofs.Weights.{loaded-weights, loaded-table}
 use Rattle.packing.proofs.Packing.{refused-keeps, answered-writes, short-area, long-area, plain-refused, plain-read}
 use Rattle.packing.proofs.ReadBack.{table-back}
 use Rattle.packing.proofs.pack_table.pack.Statement.{statement}
@@ -29,7 +30,7 @@ table-of c = subst (PlainTableDone (start c .args .plain .now) (c .before .befor
 
 -- the bits of the table that was read
 abbrev bits : tie.After-known-told2 → List ℕ
-bits c = digits 4 (c .before .size .given .0 .0 - 1) ++ concatMap (concatMap (pairBits (c .before .size .given .0 .0))) (table-of c .table .rows)
+bits c = digits 4 (c .before .size .given .0 .0 - 1) ++ (concatMap (digits weightWidth) (table-of c .table .excess) ++ concatMap (concatMap (pairBits (c .before .size .given .0 .0))) (table-of c .table .rows))
 
 abbrev told : tie.After-pack-cells → tie.After-known-told2
 told c = c .before .before .before
@@ -38,7 +39,7 @@ image-is : (c : tie.After-known-told2) → tableImage (table-of c .table) ≡ pa
 image-is c = table-image (table-of c .table) (c .before .size .given .0 .0) (table-of c .of .sized)
 
 bits-length : (c : tie.After-pack-cells) → c .pack-cells .result ≡ length (bits (told c))
-bits-length c = c .pack-cells .ensures .0 (table-of (told c) .table .rows) (table-of (told c) .listed) .next-is ∙ omega arith
+bits-length c = c .pack-cells .ensures .0 (table-of (told c) .table .excess) (table-of (told c) .table .rows) (loaded-weights (table-of (told c))) (table-of (told c) .listed) .next-is ∙ omega arith
 
 image-length : (c : tie.After-pack-cells) → length (tableImage (table-of (told c) .table)) ≡ bytesFor (c .pack-cells .result)
 image-length c =
@@ -49,10 +50,10 @@ image-taken c bs =
     let t = table-of (told c) in
     let n = bits-length c in
     ap (λ m. take (bytesFor m) (c .pack-cells .last .1 .1 .0)) n
-    ∙ (zero-image 8192 (c .pack-cells .last .1 .1 .0) (bits (told c)) (table-bits (told c .before .size .given .0 .0) (t .table .rows))
+    ∙ (zero-image 8192 (c .pack-cells .last .1 .1 .0) (bits (told c)) (table-bits (told c .before .size .given .0 .0) (t .table .excess) (t .table .rows))
     (omega (arith, n, c .pack-cells .ensures .1 .1))
     (subst (λ m. AreBytes (take (bytesFor m) (c .pack-cells .last .1 .1 .0))) n bs)
-    (c .pack-cells .ensures .0 (t .table .rows) (t .listed) .appended)
+    (c .pack-cells .ensures .0 (t .table .excess) (t .table .rows) (loaded-weights t) (t .listed) .appended)
     ∙ sym (image-is (told c)))
 
 slice-aggregate-read-plain-table : tie.Need-slice-aggregate-read-plain-table
@@ -76,7 +77,7 @@ slice-aggregate-pack-cells-2 c = search needs
 pack-cells-requires : tie.Need-pack-cells-requires
 pack-cells-requires c κs =
     let t = table-of (c .before .before) in (
-      record { some = subst (λ n. 1 ≤ n) (t .of .sized) (t .of .stands .some); few = subst (λ n. n ≤ 16) (t .of .sized) (t .of .stands .few); rows = t .table .rows; listed = t .listed },
+      loaded-table t,
       t .of .stands .full,
       refl,
     )

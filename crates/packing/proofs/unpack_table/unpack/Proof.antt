@@ -1,7 +1,7 @@
 -- `packing::unpack_table::unpack` meets its contract.
 use mathlib.Core.Path.{_≡_, refl, sym, ap, subst, _∙_}
-use mathlib.Core.List.{_∷_, _++_}
-use Prim.Native.Nat.{_≤_}
+use mathlib.Core.List.{_∷_, _++_, map}
+use Prim.Native.Nat.{suc}
 use native.Mathlib.Omega.{arith}
 use lib.ListN.{length, drop}
 use Rattle.model.specs.declared.answers.Refusal.the-variants.{AnswerShort}
@@ -13,6 +13,7 @@ use Rattle.images.specs.Tables.{TableDone, TableOf}
 use Rattle.packing.proofs.Packing.{refused-keeps, answered-writes, short-area, long-area, table-refused, table-read, plain-bytes, taken-first}
 use Rattle.packing.proofs.ReadBack.{plain-table-back}
 use Rattle.cells.proofs.Rules.{blank-zeros}
+use Rattle.images.proofs.Weights.{loaded-weights, loaded-table}
 use borrow.Author.Needs.{needs}
 use Rattle.packing.proofs.unpack_table.unpack.Statement.{statement}
 use Rattle.packing.proofs.unpack_table.unpack.Tie as tie
@@ -26,14 +27,14 @@ table-of c = subst (TableDone (start c .args .table .now) (c .before .before .be
 bytes-taken : (c : tie.After-write-plain-table) → lib.ListN.take (c .write-plain-table .result) (c .write-plain-table .last .1 .1 .0) ≡ plainTable (table-of (c .before .before .before) .table)
 bytes-taken c =
     let t = table-of (c .before .before .before) in
-    taken-first _ (c .before .before .before .before .size .given .0 .0 ∷ concatMap (concatMap plainPair) (t .table .rows)) (c .write-plain-table .last .1 .1 .0) (c .write-plain-table .result)
-    (c .write-plain-table .ensures .1 .0 (t .table .rows) (t .listed))
+    taken-first _ (c .before .before .before .before .size .given .0 .0 ∷ (map suc (t .table .excess) ++ concatMap (concatMap plainPair) (t .table .rows))) (c .write-plain-table .last .1 .1 .0) (c .write-plain-table .result)
+    (c .write-plain-table .ensures .1 .0 (t .table .excess) (t .table .rows) (loaded-weights t) (t .listed))
     ∙ plain-bytes (t .table) (c .before .before .before .before .size .given .0 .0) (t .of .sized)
 
 bytes-length : (c : tie.After-write-plain-table) → length (plainTable (table-of (c .before .before .before) .table)) ≡ c .write-plain-table .result
 bytes-length c =
     let t = table-of (c .before .before .before) in
-    let w = c .write-plain-table .ensures .1 .0 (t .table .rows) (t .listed) in
+    let w = c .write-plain-table .ensures .1 .0 (t .table .excess) (t .table .rows) (loaded-weights t) (t .listed) in
     ap length (sym (plain-bytes (t .table) (c .before .before .before .before .size .given .0 .0) (t .of .sized))) ∙ omega (arith, w .next-is)
 
 slice-aggregate-read-table : tie.Need-slice-aggregate-read-table
@@ -58,7 +59,7 @@ write-plain-table-requires : tie.Need-write-plain-table-requires
 write-plain-table-requires c κs =
     let k = c .before .before in
     let t = table-of k in (
-      record { some = subst (λ n. 1 ≤ n) (t .of .sized) (t .of .stands .some); few = subst (λ n. n ≤ 16) (t .of .sized) (t .of .stands .few); rows = t .table .rows; listed = t .listed },
+      loaded-table t,
       t .of .stands .full,
       refl,
     )

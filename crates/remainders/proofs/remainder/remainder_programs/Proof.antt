@@ -12,7 +12,7 @@ use Rattle.model.specs.Stated.{clearedAs}
 use Rattle.engine.proofs.Ended.{finishable}
 use Rattle.remainders.specs.Remainder.{States}
 use Rattle.remainders.proofs.Answers.{zero-after}
-use Rattle.remainders.proofs.Service.{no-clear, pattern-short, pattern-long}
+use Rattle.remainders.proofs.Service.{no-clear, pattern-light, pattern-heavy}
 use borrow.Author.Needs.{needs}
 use Rattle.remainders.proofs.remainder.remainder_programs.Statement.{statement}
 use Rattle.remainders.proofs.remainder.remainder_programs.Tie as tie
@@ -26,22 +26,23 @@ enum-known-clear c = search needs
 enum-told : tie.Need-enum-told
 enum-told c = search needs
 
+program-weight-requires : tie.Need-program-weight-requires
+program-weight-requires c κs = search needs
+
+program-weight-requires-2 : tie.Need-program-weight-requires-2
+program-weight-requires-2 c κs = search needs
+
 same-length : tie.Need-same-length
 same-length c = search needs
 
 returns : tie.Need-returns
 returns c =
-    let s = c .before .before .before .before .before .before .before .before .before .before .before .before in
-    let z = c .before .before .before .before .before .clear-cells in
-    let t = c .before .enum-told in
-    let p = s .pre .pair in
+    let s = (c .before .before .before .before .before .before .before .before .before .before .before .before .before .before) in
+    let z = c .before .before .before .before .before .before .before .clear-cells in
     record {
-      workspace-after = z .ensures .1 ∙ ap (λ r. workspaceAfter (clearedAs r) (s .args .workspace .now)) (t .given .1);
-      states = λ T o u v eu ev.
-          let fu : p .one .word ≡ u = cc (p .one .read, eu) in
-          let fv : p .two .word ≡ v = cc (p .two .read, ev) in
-          pattern-short T u v (s .args .budget) (length (s .args .workspace .now)) (s .args .answer .now) (subst (λ r. clearedAs r ≡ cleared T (s .args .budget) (length (s .args .workspace .now))) (t .given .1) (z .ensures .0 T o))
-          (omega (arith, p .one .count-is, p .two .count-is, ap length fu, ap length fv, c .if1 .taken));
+      workspace-after = z .ensures .1 ∙ ap (λ r. workspaceAfter (clearedAs r) (s .args .workspace .now)) (c .before .before .before .enum-told .given .1);
+      states = λ T o u v eu ev. pattern-light T u v (s .args .budget) (length (s .args .workspace .now)) (s .args .answer .now) (subst (λ r. clearedAs r ≡ cleared T (s .args .budget) (length (s .args .workspace .now))) (c .before .before .before .enum-told .given .1) (z .ensures .0 T o))
+          (omega (arith, c .if1 .taken, c .before .before .program-weight .ensures T o v ev, c .before .program-weight2 .ensures T o u eu));
     }
 
 run-programs-requires : tie.Need-run-programs-requires
@@ -49,7 +50,7 @@ run-programs-requires c κs = search needs
 
 answer-ending-requires : tie.Need-answer-ending-requires
 answer-ending-requires c κs =
-    let s = c .before .before .before .before .before .before .before .before .before .before .before .before .before .before .before .before .before .before in
+    let s = (c .before .before .before .before .before .before .before .before .before .before .before .before .before .before .before .before .before .before .before .before) in
     let x = c .before .before .before .before .run-programs in
     let p = s .pre .pair in
     finishable (s .pre .table) (negative (p .one .word) ++ positive (p .two .word)) (s .args .budget) (x .last .1 .1 .1 .1 .1 .1 .1 .0) (x .result)
@@ -63,12 +64,11 @@ same-length-2 c = search needs
 
 returns-2 : tie.Need-returns-2
 returns-2 c =
-    let s = c .before .before .before .before .before .before .before .before .before .before .before .before in
+    let s = (c .before .before .before .before .before .before .before .before .before .before .before .before) in
     let z = c .before .before .before .before .before .clear-cells in
-    let t = c .before .clear in
     record {
-      workspace-after = z .ensures .1 ∙ ap (λ x. workspaceAfter (clearedAs x) (s .args .workspace .now)) (t .given .1);
-      states = λ T o u v eu ev. no-clear T u v (s .args .budget) (length (s .args .workspace .now)) (s .args .answer .now) (t .given .0 .0) (subst (λ r. clearedAs r ≡ cleared T (s .args .budget) (length (s .args .workspace .now))) (t .given .1) (z .ensures .0 T o));
+      workspace-after = z .ensures .1 ∙ ap (λ x. workspaceAfter (clearedAs x) (s .args .workspace .now)) (c .before .clear .given .1);
+      states = λ T o u v eu ev. no-clear T u v (s .args .budget) (length (s .args .workspace .now)) (s .args .answer .now) (c .before .clear .given .0 .0) (subst (λ r. clearedAs r ≡ cleared T (s .args .budget) (length (s .args .workspace .now))) (c .before .clear .given .1) (z .ensures .0 T o));
     }
 
 same-length-3 : tie.Need-same-length-3
@@ -79,15 +79,14 @@ same-length-4 c = search needs
 
 returns-3 : tie.Need-returns-3
 returns-3 c =
-    let s = c .before .before .before .before .before .before .before .before .before .before .before .before .before .before .before .before .before .before .before .before .before .before .before .before .before in
-    let z = c .before .before .before .before .before .before .before .before .before .before .before .before .before .before .before .before .before .before .clear-cells in
-    let t = c .before .before .before .before .before .before .before .before .before .before .before .before .before .before .enum-told in
+    let s = (c .before .before .before .before .before .before .before .before .before .before .before .before .before .before .before .before .before .before .before .before .before .before .before .before .before .before .before) in
+    let z = c .before .before .before .before .before .before .before .before .before .before .before .before .before .before .before .before .before .before .before .before .clear-cells in
     let p = s .pre .pair in
     let x = c .before .before .before .before .before .before .before .before .before .before .before .run-programs in
     let a = c .before .before .before .before .before .before .answer-ending in
     let w = c .before .before .wipe in
     let bytes = x .last .1 .1 .1 .1 .1 .1 .1 .0 in
-    let kept : length (z .last .1 .1 .1 .0) ≡ length (s .args .workspace .now) = ap length (z .ensures .1 ∙ ap (λ r. workspaceAfter (clearedAs r) (s .args .workspace .now)) (t .given .1)) ∙ length-replicate (length (s .args .workspace .now)) 0 in
+    let kept : length (z .last .1 .1 .1 .0) ≡ length (s .args .workspace .now) = ap length (z .ensures .1 ∙ ap (λ r. workspaceAfter (clearedAs r) (s .args .workspace .now)) (c .before .before .before .before .before .before .before .before .before .before .before .before .before .before .before .before .enum-told .given .1)) ∙ length-replicate (length (s .args .workspace .now)) 0 in
     let word = negative (p .one .word) ++ positive (p .two .word) in
     let own = a .ensures (s .pre .table) word (s .args .budget) (x .ensures .1 (s .pre .table) (s .pre .of) (p .one .word) (p .two .word) (p .one .read) (p .two .read)) in
     record {
@@ -95,11 +94,8 @@ returns-3 c =
           w .ensures
           ∙ (ap (λ i. replicate i 0) (x .ensures .0 ∙ kept)
           ∙ sym (ap (λ o. workspaceAfter o (s .args .workspace .now)) (own .result) ∙ zero-after (length (s .args .answer .now)) (reversing (s .pre .table) (s .args .budget) (length bytes) word) (s .args .workspace .now)));
-      states = λ T o u v eu ev.
-          let fu : p .one .word ≡ u = cc (p .one .read, eu) in
-          let fv : p .two .word ≡ v = cc (p .two .read, ev) in
-          pattern-long T u v (s .args .budget) (length (s .args .workspace .now)) (s .args .answer .now) (subst (λ r. clearedAs r ≡ cleared T (s .args .budget) (length (s .args .workspace .now))) (t .given .1) (z .ensures .0 T o))
-          (omega (arith, p .one .count-is, p .two .count-is, ap length fu, ap length fv, c .before .before .before .before .before .before .before .before .before .before .before .before .before .if1 .left))
+      states = λ T o u v eu ev. pattern-heavy T u v (s .args .budget) (length (s .args .workspace .now)) (s .args .answer .now) (subst (λ r. clearedAs r ≡ cleared T (s .args .budget) (length (s .args .workspace .now))) (c .before .before .before .before .before .before .before .before .before .before .before .before .before .before .before .before .enum-told .given .1) (z .ensures .0 T o))
+          (omega (arith, c .before .before .before .before .before .before .before .before .before .before .before .before .before .if1 .left, c .before .before .before .before .before .before .before .before .before .before .before .before .before .before .before .program-weight .ensures T o v ev, c .before .before .before .before .before .before .before .before .before .before .before .before .before .before .program-weight2 .ensures T o u eu))
           (subst (λ i. States (remainderOf (length (s .args .answer .now)) (reversing T (s .args .budget) i (negative u ++ positive v))) (s .args .answer .now) (a .last .1 .1 .0) (a .result)) (x .ensures .0 ∙ kept)
           (a .ensures T (negative u ++ positive v) (s .args .budget) (x .ensures .1 T o u v eu ev)));
     }
@@ -111,6 +107,8 @@ remainder-programs-spec =
     clear-cells-requires
     enum-known-clear
     enum-told
+    program-weight-requires
+    program-weight-requires-2
     same-length
     returns
     run-programs-requires

@@ -1,4 +1,4 @@
--- `checks::table::check_lengths` meets its contract.
+-- `checks::table::check_weights` meets its contract.
 use mathlib.Core.Path.{_≡_, sym, ap, subst, _∙_}
 use Prim.Native.Nat.{_+_, _-_, _≤_}
 use native.Mathlib.Omega.{arith}
@@ -6,17 +6,17 @@ use borrow.Author.Needs.{needs}
 use Rattle.model.specs.Presentation.{Presentation}
 use Rattle.model.specs.Enumeration.{pairs}
 use Rattle.model.specs.Outcome.{_>>=_}
-use Rattle.model.specs.Checks.{lengthCheck}
+use Rattle.model.specs.Checks.{weightCheck}
 use Rattle.cells.specs.Stands.{Of}
 use Rattle.checks.specs.Table.{row, RowMeans}
 use Rattle.checks.proofs.Remaining.{pairsFrom, pairs-begin, pairs-some, pairs-none}
-use Rattle.checks.proofs.Passing.{lengths-append, of-few}
-use Rattle.checks.proofs.table.check_lengths.Statement.{statement}
-use Rattle.checks.proofs.table.check_lengths.Tie as tie
+use Rattle.checks.proofs.Passing.{weights-append, of-few}
+use Rattle.checks.proofs.table.check_weights.Statement.{statement}
+use Rattle.checks.proofs.table.check_weights.Tie as tie
 
 abbrev Inv-loop : tie.InvT-loop
 Inv-loop cells size a₀ a =
-    (1 ≤ a) × (a ≤ size + 1) × (size ≤ 16) × ((T : Presentation) → Of cells size T → lengthCheck T (pairs size) ≡ lengthCheck T (pairsFrom size a))
+    (1 ≤ a) × (a ≤ size + 1) × (size ≤ 16) × ((T : Presentation) → Of cells size T → weightCheck T (pairs size) ≡ weightCheck T (pairsFrom size a))
 
 abbrev μ-loop : tie.MeasureT-loop
 μ-loop cells size a₀ a = size + 1 - a
@@ -24,10 +24,10 @@ abbrev μ-loop : tie.MeasureT-loop
 loop-holds : tie.Need-loop-holds Inv-loop μ-loop
 loop-holds c =
     let s = c .before in
-    (omega arith, omega arith, of-few (s .pre .1), λ T o. ap (lengthCheck T) (pairs-begin (s .args .size)))
+    (omega arith, omega arith, of-few (s .pre .1), λ T o. ap (weightCheck T) (pairs-begin (s .args .size)))
 
-row-lengths-requires : tie.Need-row-lengths-requires Inv-loop μ-loop
-row-lengths-requires c κs = let s = c .before .before .before in (s .pre, omega arith, omega arith)
+row-weights-requires : tie.Need-row-weights-requires Inv-loop μ-loop
+row-weights-requires c κs = let s = c .before .before .before in (s .pre, omega arith, omega arith)
 
 enum-known-row : tie.Need-enum-known-row Inv-loop μ-loop
 enum-known-row c = search needs
@@ -36,13 +36,13 @@ returns : tie.Need-returns Inv-loop μ-loop
 returns c =
     let s = c .before .before .before .before .before .before .before in
     let l = c .before .before .before .before .before .loop in
-    let v = c .before .before .before .row-lengths in
+    let v = c .before .before .before .row-weights in
     let m = subst (RowMeans (s .args .cells .now) (s .args .size) (l .a)) (c .before .row .given .1) (v .ensures) in
     λ T o. sym
     (l .inv .3 T o
-    ∙ (ap (lengthCheck T) (pairs-some (s .args .size) (l .a) (omega arith))
-    ∙ (lengths-append T (row (s .args .size) (l .a)) (pairsFrom (s .args .size) (l .a + 1))
-    ∙ ap (λ x. x >>= λ ok. lengthCheck T (pairsFrom (s .args .size) (l .a + 1))) (sym (m T o)))))
+    ∙ (ap (weightCheck T) (pairs-some (s .args .size) (l .a) (omega arith))
+    ∙ (weights-append T (row (s .args .size) (l .a)) (pairsFrom (s .args .size) (l .a + 1))
+    ∙ ap (λ x. x >>= λ ok. weightCheck T (pairsFrom (s .args .size) (l .a + 1))) (sym (m T o)))))
 
 enum-told : tie.Need-enum-told Inv-loop μ-loop
 enum-told c = search needs
@@ -57,31 +57,31 @@ loop-again : tie.Need-loop-again Inv-loop μ-loop
 loop-again c =
     let s = c .before .before .before .before .before .before in
     let l = c .before .before .before .before .loop in
-    let v = c .before .before .row-lengths in
+    let v = c .before .before .row-weights in
     let m = subst (RowMeans (s .args .cells .now) (s .args .size) (l .a)) (c .enum-told .given .1) (v .ensures) in (
       omega arith,
       omega arith,
       l .inv .2,
       λ T o. l .inv .3 T o
-          ∙ (ap (lengthCheck T) (pairs-some (s .args .size) (l .a) (omega arith))
-          ∙ (lengths-append T (row (s .args .size) (l .a)) (pairsFrom (s .args .size) (l .a + 1))
-          ∙ ap (λ x. x >>= λ ok. lengthCheck T (pairsFrom (s .args .size) (l .a + 1))) (sym (m T o)))),
+          ∙ (ap (weightCheck T) (pairs-some (s .args .size) (l .a) (omega arith))
+          ∙ (weights-append T (row (s .args .size) (l .a)) (pairsFrom (s .args .size) (l .a + 1))
+          ∙ ap (λ x. x >>= λ ok. weightCheck T (pairsFrom (s .args .size) (l .a + 1))) (sym (m T o)))),
     )
 
 returns-2 : tie.Need-returns-2 Inv-loop μ-loop
 returns-2 c =
     let s = c .before .before .before in
     let l = c .before .loop in
-    λ T o. sym (l .inv .3 T o ∙ ap (lengthCheck T) (pairs-none (s .args .size) (l .a) (omega arith)))
+    λ T o. sym (l .inv .3 T o ∙ ap (weightCheck T) (pairs-none (s .args .size) (l .a) (omega arith)))
 
-pub check-lengths-spec : {M : Type 1} → statement M
-check-lengths-spec =
+pub check-weights-spec : {M : Type 1} → statement M
+check-weights-spec =
     tie.close
     (tie.spec
     Inv-loop
     μ-loop
     loop-holds
-    row-lengths-requires
+    row-weights-requires
     enum-known-row
     returns
     enum-told

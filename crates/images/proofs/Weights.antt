@@ -1,0 +1,174 @@
+-- Reading the weights of a table into their places, and writing them from there: those read or written so far, and what is left. The laws are for
+-- any reader of a weight.
+use mathlib.Core.Path.{_≡_, refl, sym, ap, subst, _∙_}
+use mathlib.Core.List.{List, [], _∷_, _++_, map, append-nil}
+use Prim.Native.Nat.{ℕ, suc, _+_, _-_, _*_, _^_, _≤_, _<_}
+use native.Mathlib.Omega.{arith}
+use native.Mathlib.Nat.{mul-one, mul-suc, mul-add, mul-le-mul-left}
+use lib.ListN.{length, take, getD, set, length-append, length-set}
+use lib.Seq.{getD-set-same, getD-set-other, take-suc, take-all}
+use Rattle.model.specs.Presentation.{Presentation}
+use Rattle.model.specs.Enumeration.{concatMap}
+use Rattle.model.specs.Outcome.{Outcome, answered, refused, _>>=_}
+use Rattle.model.specs.Bits.{Read}
+use Rattle.model.specs.Images.{weightWidth, several}
+use Rattle.model.specs.Plain.{plainWeight}
+use Rattle.model.specs.Range.{InRange}
+use Rattle.cells.specs.Layout.{cellAt, weightAt}
+use Rattle.cells.specs.Stands.{HoldsWeights}
+use Rattle.images.specs.Tables.{WeightsFrom, bytesFrom, Loaded}
+use Rattle.images.specs.Held.{HoldsSomeTable}
+use Rattle.images.proofs.Several.{after, after-none, several-step, several-refused, several-done}
+use Rattle.images.proofs.Words.{letter-ends, letter-none, letter-large, letter-read}
+use Rattle.images.proofs.Appending.{concat-append}
+use Rattle.images.proofs.Rows.{one-more}
+
+-- `each` is how far a weight reaches
+pub record WeightsFilled (reader : List ℕ → Outcome (Read ℕ)) (source : ℕ → List ℕ) (limit each begin size : ℕ) (before cells : List ℕ) (at a : ℕ) : Type 0 where
+  pub positive : 1 ≤ a
+  pub some-left : a ≤ size + 1
+  pub inside : at ≤ limit
+  pub near : at + each ≤ begin + each * a
+  pub same-length : length cells ≡ length before
+  pub done : List ℕ
+  pub done-length : 1 + length done ≡ a
+  pub resumed : several reader size (source begin) ≡ after done (several reader (size + 1 - a) (source at))
+  pub holds : (k : ℕ) → k < length done → getD cells (weightAt (1 + k)) 0 ≡ getD done k 0
+  pub light : (k : ℕ) → k < length done → getD done k 0 < 2 ^ weightWidth
+  pub kept : (p : ℕ) → InRange 16 p → getD cells (cellAt p p) 0 ≡ getD before (cellAt p p) 0
+
+module _ (reader : List ℕ → Outcome (Read ℕ)) (source : ℕ → List ℕ) (limit each begin size : ℕ) (few : size ≤ 16) (before : List ℕ) (full : length before ≡ 4096) where
+  pub weights-none : begin ≤ limit → WeightsFilled reader source limit each begin size before before begin 1
+  weights-none inside =
+      record {
+        positive = omega arith;
+        some-left = omega arith;
+        inside = inside;
+        near = omega (arith, mul-one each);
+        same-length = refl;
+        done = [];
+        done-length = refl;
+        resumed = sym (after-none (several reader (size + 1 - 1) (source begin)) ∙ ap (λ k. several reader k (source begin)) {x = size + 1 - 1} {y = size} (omega arith));
+        holds = λ k h. absurd (omega arith);
+        light = λ k h. absurd (omega arith);
+        kept = λ p l. refl;
+      }
+
+  module _ (cells : List ℕ) (at a : ℕ) (f : WeightsFilled reader source limit each begin size before cells at a) where
+    left : a ≤ size → size + 1 - a ≡ suc (size + 1 - (a + 1))
+    left h = omega arith
+
+    -- the place of the next weight
+    pub place-inside : a ≤ size → weightAt a < length cells
+    place-inside h = omega (arith, f .same-length, f .positive)
+
+    pub weights-more : a ≤ size → (v : ℕ) → v < 2 ^ weightWidth → at + each ≤ limit
+        → reader (source at) ≡ answered (record { value = v; rest = source (at + each) })
+        → WeightsFilled reader source limit each begin size before (set cells (weightAt a) v) (at + each) (a + 1)
+    weights-more h v small inside e =
+        let n : 1 + length (f .done) ≡ a = f .done-length in
+        record {
+          positive = omega arith;
+          some-left = omega arith;
+          inside = inside;
+          near = omega (arith, f .near, mul-add each a 1, mul-one each);
+          same-length = length-set cells (weightAt a) v ∙ f .same-length;
+          done = f .done ++ (v ∷ []);
+          done-length = omega (arith, length-append (f .done) (v ∷ []));
+          resumed =
+              f .resumed
+              ∙ (ap (λ k. after (f .done) (several reader k (source at))) (left h)
+              ∙ several-step reader (f .done) (size + 1 - (a + 1)) (source at) (record { value = v; rest = source (at + each) }) e);
+          holds =
+              one-more (λ k w. getD (set cells (weightAt a) v) (weightAt (1 + k)) 0 ≡ w) (f .done) v 0
+              (λ k l. getD-set-other cells (weightAt a) (weightAt (1 + k)) v 0 (λ e. omega arith) ∙ f .holds k l)
+              (ap (λ i. getD (set cells (weightAt a) v) (weightAt i) 0) n ∙ getD-set-same cells (weightAt a) v 0 (place-inside h));
+          light = one-more (λ k w. w < 2 ^ weightWidth) (f .done) v 0 (f .light) small;
+          kept = λ p l. getD-set-other cells (weightAt a) (cellAt p p) v 0 (λ e. omega (arith, l .low, f .positive)) ∙ f .kept p l;
+        }
+
+    pub weight-refused : (n : ℕ) → a ≤ size → reader (source at) ≡ refused n [] → several reader size (source begin) ≡ refused n []
+    weight-refused n h e =
+        f .resumed
+        ∙ (ap (λ k. after (f .done) (several reader k (source at))) (left h)
+        ∙ several-refused reader (f .done) (size + 1 - (a + 1)) (source at) n [] e)
+
+    pub weights-answered : (most : ℕ) → each * 16 ≤ most → size < a → WeightsFrom reader source limit most begin size before cells at
+    weights-answered most wide h =
+        let all : a ≡ size + 1 = omega (arith, f .some-left) in
+        record {
+          excess = f .done;
+          read =
+              f .resumed
+              ∙ (ap (λ k. after (f .done) (several reader k (source at))) {x = size + 1 - a} {y = 0} (omega arith)
+              ∙ several-done reader (f .done) (source at));
+          position = record { inside = f .inside; near = omega (arith, f .near, mul-le-mul-left {m = a} {n = 17} each (omega arith), mul-suc each 16) };
+          holds = record { many = omega (arith, f .done-length); holds = f .holds; light = f .light };
+          kept = f .kept;
+        }
+
+-- FROM A PLAIN FORM
+
+less-one : Read ℕ → Outcome (Read ℕ)
+less-one r = answered (record { value = r .value - 1; rest = r .rest })
+
+module _ (plain : List ℕ) (at : ℕ) where
+  pub plain-weight-ends : length plain ≤ at → plainWeight (bytesFrom plain at) ≡ refused 1 []
+  unfolding less-one
+  plain-weight-ends h = ap (λ o. o >>= less-one) (letter-ends plain at 8 h)
+
+  module _ (h : at < length plain) where
+    pub plain-weight-none : getD plain at 0 < 1 → plainWeight (bytesFrom plain at) ≡ refused 2 []
+    unfolding less-one
+    plain-weight-none l = ap (λ o. o >>= less-one) (letter-none plain at 8 h l)
+
+    pub plain-weight-above : 1 ≤ getD plain at 0 → 8 < getD plain at 0 → plainWeight (bytesFrom plain at) ≡ refused 2 []
+    unfolding less-one
+    plain-weight-above l g = ap (λ o. o >>= less-one) (letter-large plain at 8 h l g)
+
+    pub plain-weight-there : 1 ≤ getD plain at 0 → getD plain at 0 ≤ 8 → plainWeight (bytesFrom plain at) ≡ answered (record { value = getD plain at 0 - 1; rest = bytesFrom plain (at + 1) })
+    unfolding less-one
+    plain-weight-there l g = ap (λ o. o >>= less-one) (letter-read plain at 8 h l g)
+
+-- WRITING, whatever a weight is written as
+
+module _ (size : ℕ) (cells excess : List ℕ) (h : HoldsWeights size cells excess) where
+  pub weight-there : (a : ℕ) → 1 ≤ a → a ≤ size → getD cells (weightAt a) 0 ≡ getD excess (a - 1) 0
+  weight-there a low high =
+      let e : 1 + (a - 1) ≡ a = omega arith in
+      subst (λ i. getD cells (weightAt i) 0 ≡ getD excess (a - 1) 0) e (h .holds (a - 1) (omega (arith, h .many)))
+
+  pub weight-more : (write : ℕ → List ℕ) (a : ℕ) → 1 ≤ a → a ≤ size
+      → concatMap write (take (a - 1) excess) ++ write (getD cells (weightAt a) 0) ≡ concatMap write (take (a + 1 - 1) excess)
+  weight-more write a low high =
+      let e : suc (a - 1) ≡ a + 1 - 1 = omega arith in
+      ap (λ v. concatMap write (take (a - 1) excess) ++ write v) (weight-there a low high)
+      ∙ (ap (λ l. concatMap write (take (a - 1) excess) ++ l) (sym (append-nil (write (getD excess (a - 1) 0))))
+      ∙ (sym (concat-append write (take (a - 1) excess) (getD excess (a - 1) 0 ∷ []))
+      ∙ ap (concatMap write) (sym (take-suc excess (a - 1) 0 (omega (arith, h .many))) ∙ ap (λ k. take k excess) e)))
+
+  pub weights-all : (write : ℕ → List ℕ) (a : ℕ) → size < a → concatMap write (take (a - 1) excess) ≡ concatMap write excess
+  weights-all write a g = ap (concatMap write) (take-all (a - 1) excess (omega (arith, h .many)))
+
+-- the byte of a weight in plain form
+abbrev pub weightByte : ℕ → List ℕ
+weightByte w = suc w ∷ []
+
+pub weight-bytes : (ws : List ℕ) → concatMap weightByte ws ≡ map suc ws
+weight-bytes [] = refl
+weight-bytes (w ∷ ws) = ap (λ l. suc w ∷ l) (weight-bytes ws)
+
+-- what a loaded table holds, to be written out
+pub loaded-weights : {o : Outcome Presentation} {cells : List ℕ} {size : ℕ} (t : Loaded o cells size) → HoldsWeights size cells (t .table .excess)
+loaded-weights {cells} t = subst (λ n. HoldsWeights n cells (t .table .excess)) (t .of .sized) (t .of .stands .weights)
+
+pub loaded-table : {o : Outcome Presentation} {cells : List ℕ} {size : ℕ} → Loaded o cells size → HoldsSomeTable size cells
+loaded-table t =
+    record {
+      some = subst (λ n. 1 ≤ n) (t .of .sized) (t .of .stands .some);
+      few = subst (λ n. n ≤ 16) (t .of .sized) (t .of .stands .few);
+      excess = t .table .excess;
+      weights = loaded-weights t;
+      rows = t .table .rows;
+      listed = t .listed;
+    }
