@@ -38,14 +38,15 @@ extern "C" {
 
 enum {
     BRAID_MOST_TABLE_MOVES = 16,    /* n, the moves of a table */
+    BRAID_MOST_WEIGHT = 8,          /* the weight of a move; the least is 1 */
     BRAID_MOST_COMPLETION = 15,     /* moves of a completion */
     BRAID_MOST_MOVES = 4095,        /* moves of a program in an image or in plain form */
     BRAID_MOST_ENTRIES = 65535,     /* entries of a chain */
     BRAID_MOST_ALLOWANCE = 65535,   /* the largest allowance */
-    BRAID_MOST_TABLE_BYTES = 1936,  /* the longest table image */
-    BRAID_MOST_PLAIN_BYTES = 3841,  /* the longest plain table */
+    BRAID_MOST_TABLE_BYTES = 1942,  /* the longest table image */
+    BRAID_MOST_PLAIN_BYTES = 3857,  /* the longest plain table */
     BRAID_MOST_PROGRAM_BYTES = 2561, /* the longest program image; a plain program has a byte a move */
-    BRAID_MOST_CHAIN_BYTES = 163840, /* the longest chain image */
+    BRAID_MOST_CHAIN_BYTES = 188416, /* the longest chain image */
     BRAID_MOST_BED_BYTES = 289,     /* the longest bed, of 17 bobbins */
     BRAID_BACK = 128,               /* a back move's byte is its number and this */
     BRAID_OPEN = 255,               /* stands for an open pair in a plain table */
@@ -63,7 +64,7 @@ static inline unsigned braid_move_bits(unsigned n)
     return bits;
 }
 
-/* n, the number of moves of a table, from its image, which has at least one byte (5.4). */
+/* n, the number of moves of a table, from its image, which has at least one byte (5.4); the weights follow it. */
 static inline unsigned braid_table_moves(const uint8_t *table)
 {
     return (table[0] >> 4) + 1u;
@@ -72,7 +73,7 @@ static inline unsigned braid_table_moves(const uint8_t *table)
 /* Bytes of a chain image of so many entries under a table of n moves (5.6): what braid_chain wants, with the steps as entries. */
 static inline size_t braid_chain_bytes(unsigned n, size_t entries)
 {
-    return (16 + entries * (12 + 2 * (size_t)braid_move_bits(n)) + 7) / 8;
+    return (16 + entries * (15 + 2 * (size_t)braid_move_bits(n)) + 7) / 8;
 }
 
 /* Bytes of a bed under a table of n moves (6.11). */
@@ -92,7 +93,7 @@ enum braid_result {
     BRAID_IMAGE_FIELD = 5,
     BRAID_IMAGE_TAIL = 6,
     BRAID_BACK_MOVE = 7,
-    BRAID_UNEQUAL_LENGTHS = 8,
+    BRAID_UNEQUAL_WEIGHTS = 8,
     BRAID_CUBE_FAILS = 9,
     BRAID_OPEN_PAIR = 10,
     BRAID_ALLOWANCE_USED = 11,
@@ -126,7 +127,7 @@ static inline const char *braid_text(uint8_t result)
         "a field of a program or chain, or a byte of a plain program, stands for no move",
         "after the last field of a program or chain comes a bit that is set, or a byte",
         "there is a back move in a program where none may be",
-        "the two completions of a pair have different lengths",
+        "the two sides of a relation have different weights",
         "a triple of the table breaks the cube rule",
         "the reversing met an open pair",
         "the allowance is used",
@@ -163,14 +164,15 @@ BRAID_CALL uint8_t braid_reverse(const uint8_t *table, size_t table_length, cons
                                  uint8_t *workspace, size_t workspace_length, uint8_t *answer, size_t answer_length, uint64_t *values);
 
 /*
- * The length check of a table, then its cube check.
+ * The weight check of a table, that both sides of each relation weigh the same (4.2), then its cube check.
  * Values: 0, 0, 0, 0. Refusals: 1 to 3, 8, 9, 11, 12.
  */
 BRAID_CALL uint8_t braid_clear(const uint8_t *table, size_t table_length, uint16_t allowance, uint8_t *workspace, size_t workspace_length,
                                uint64_t *values);
 
 /*
- * Clears the table and compares two programs of forward moves under it. A verdict is right (6.5): same if a chain joins them, else different.
+ * Clears the table and compares two programs of forward moves under it. A verdict is right (6.5): same if a chain joins them, else different. Programs of
+ * different weights are different without a step; those of equal weight may be the same though they are not equally long.
  * Values: BRAID_SAME or BRAID_DIFFERENT, steps, 0, 0. Refusals: 1 to 9, 11, 12.
  */
 BRAID_CALL uint8_t braid_compare(const uint8_t *table, size_t table_length, const uint8_t *first, size_t first_length, const uint8_t *second,
@@ -178,8 +180,8 @@ BRAID_CALL uint8_t braid_compare(const uint8_t *table, size_t table_length, cons
 
 /*
  * As compare. After 'same' the answer area begins with the image of a chain that turns the first program into the second, in no more entries
- * than steps; its first 16 bits are their number e, so that it has braid_chain_bytes(n, e) bytes, and braid_check answers it with BRAID_JOINS. After
- * 'different' the area is as found.
+ * than steps; its first 16 bits are their number e, so that it has braid_chain_bytes(n, e) bytes, and braid_check answers it with BRAID_JOINS. Words on
+ * its way may be longer than both programs. After 'different' the area is as found.
  * Values: as compare. Refusals: as compare, and 13 after 'same' if the area is shorter than braid_chain_bytes(n, steps). braid_compare gives the steps
  * beforehand; braid_chain_bytes(n, allowance) always suffices, and n is braid_table_moves(table).
  */
@@ -189,8 +191,9 @@ BRAID_CALL uint8_t braid_chain(const uint8_t *table, size_t table_length, const 
 
 /*
  * Clears the table and says which moves are left to run of a pattern after those done, both programs of forward moves (6.10). After 'moves' the
- * answer area begins with them, a byte a move: put after those done they make a program that a chain joins to the pattern, and any other moves that
- * do so are joined to them. 'None' comes only where no moves do so, and leaves the area as found. One as long as the workspace always suffices.
+ * answer area begins with them, a byte a move: put after those done they make a word that a chain joins to the pattern, and any other moves that
+ * do so are joined to them. 'None' comes only where no moves do so, without a step where the pattern weighs less than the part done, and leaves the
+ * area as found. One as long as the workspace always suffices.
  * Values: BRAID_MOVES or BRAID_NONE; how many moves, 0 after 'none'; steps; 0. Refusals: 1 to 9, 11, 12, 13 (never in place of 'none').
  */
 BRAID_CALL uint8_t braid_remainder(const uint8_t *table, size_t table_length, const uint8_t *done, size_t done_length, const uint8_t *pattern,
@@ -199,7 +202,7 @@ BRAID_CALL uint8_t braid_remainder(const uint8_t *table, size_t table_length, co
 
 /*
  * Follows a given chain from the first program of forward moves; the table need not clear. The workspace holds the word on its way; one
- * as long as the first program suffices for a chain that braid_chain listed.
+ * of as many bytes as the first program weighs, at most 8 a move, suffices for a chain that braid_chain listed.
  * Values: BRAID_JOINS, BRAID_BREAKS or BRAID_ENDS_ELSEWHERE; the entry that breaks, from 0, else 0; 0; 0. Refusals: 1 to 7, 12.
  */
 BRAID_CALL uint8_t braid_check(const uint8_t *table, size_t table_length, const uint8_t *first, size_t first_length, const uint8_t *second,
@@ -207,7 +210,7 @@ BRAID_CALL uint8_t braid_check(const uint8_t *table, size_t table_length, const 
                                uint64_t *values);
 
 /*
- * The image of a plain table, or the plain form of a table image. Values: bytes written, 0, 0, 0. Refusals: 1, 2, 3, 13.
+ * The image of a plain table, or the plain form of a table image, with the weights of its moves (5.4, 5.7). Values: bytes written, 0, 0, 0. Refusals: 1, 2, 3, 13.
  */
 BRAID_CALL uint8_t braid_pack_table(const uint8_t *plain, size_t plain_length, uint8_t *answer, size_t answer_length, uint64_t *values);
 BRAID_CALL uint8_t braid_unpack_table(const uint8_t *table, size_t table_length, uint8_t *answer, size_t answer_length, uint64_t *values);

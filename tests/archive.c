@@ -45,12 +45,14 @@ static size_t depth(void (*call)(void))
     return sizeof stack - low;
 }
 
-/* A plain table of n moves, each pair with two completions of so many moves. */
+/* A plain table of n moves of the greatest weight, each pair with two completions of so many moves. */
 static void fill_table(uint8_t n, uint8_t moves)
 {
     unsigned pair, i;
     plain_length = 0;
     plain[plain_length++] = n;
+    memset(plain + plain_length, BRAID_MOST_WEIGHT, n);
+    plain_length += n;
     for (pair = 0; pair < n * (n - 1u) / 2; pair++) {
         for (i = 0; i < 2; i++) {
             plain[plain_length++] = moves;
@@ -117,16 +119,19 @@ static void longest_forms(void)
     fill_table(2, BRAID_MOST_COMPLETION + 1);
     pack_table();
     hold("a completion with a move too many", result == BRAID_TABLE_FIELD);
-    plain[0] = 2;
-    plain[1] = BRAID_OPEN;
-    plain_length = 2;
+    fill_table(2, 0);
+    plain[3] = BRAID_OPEN;
+    plain_length = 4;
     pack_table();
-    hold("an open pair", result == BRAID_ANSWER && values[0] == 1 && table[0] == 0x10);
+    hold("an open pair", result == BRAID_ANSWER && values[0] == 2 && table[0] == 0x1F && table[1] == 0xC0);
+    plain[2] = BRAID_MOST_WEIGHT + 1;
+    pack_table();
+    hold("a move too heavy", result == BRAID_TABLE_FIELD);
 }
 
 static void engine(void)
 {
-    static const uint8_t braid3[] = {0x29, 0x21, 0x0C, 0x61, 0x25, 0x24, 0xC0}, one[] = {0x00, 0x30, 0x40}, two[] = {0x00, 0x32, 0x08};
+    static const uint8_t braid3[] = {0x20, 0x04, 0x90, 0x86, 0x30, 0x92, 0x92, 0x60}, one[] = {0x00, 0x30, 0x40}, two[] = {0x00, 0x32, 0x08};
     size_t needed = braid_chain_bytes(3, 5);
     memcpy(table, braid3, table_length = sizeof braid3);
     memcpy(program, one, program_length = sizeof one);
@@ -152,12 +157,13 @@ static void engine(void)
     hold("texts", strcmp(braid_text(BRAID_OPEN_PAIR), "the reversing met an open pair") == 0 && strcmp(braid_text(14), braid_text(200)) == 0);
 }
 
-/* A plain braid table of n moves. */
+/* A plain braid table of n moves, the heaviest ones: weights play no part. */
 static void fill_braid_table(uint8_t n)
 {
     uint8_t a, b;
-    plain_length = 0;
-    plain[plain_length++] = n;
+    plain[0] = n;
+    memset(plain + 1, BRAID_MOST_WEIGHT, n);
+    plain_length = 1 + (size_t)n;
     for (a = 1; a <= n; a++) {
         for (b = a + 1; b <= n; b++) {
             uint8_t pair[] = {2, b, a, 2, a, b}, apart[] = {1, b, 1, a};

@@ -38,7 +38,7 @@ gcc -std=c11 $strict target/example.c $library -o target/example || exit 1
 one "the example of README" $?
 gcc -std=c11 $strict tests/joined.c $library -o target/joined || exit 1
 [ "$(target/joined)" = "same after 5 steps
-a chain of 4 bytes joins them" ]
+a chain of 5 bytes joins them" ]
 one "two programs packed, compared, joined by a chain that checks" $?
 
 # The archive wants no other symbol, has no writable data, and defines just the calls that the header declares.

@@ -14,7 +14,7 @@ static void need(uint8_t result, const char *what)
 
 int main(void)
 {
-    static const uint8_t plain[] = {3, 2, 2, 1, 2, 1, 2, 1, 3, 1, 1, 2, 3, 2, 2, 2, 3}, u[] = {1, 2, 1}, v[] = {2, 1, 2};
+    static const uint8_t plain[] = {3, 1, 1, 1, 2, 2, 1, 2, 1, 2, 1, 3, 1, 1, 2, 3, 2, 2, 2, 3}, u[] = {1, 2, 1}, v[] = {2, 1, 2};
     size_t t, m, n, c, w = sizeof workspace;
     need(braid_pack_table(plain, sizeof plain, table, sizeof table, values), "the table");
     t = (size_t)values[0];

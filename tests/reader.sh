@@ -46,6 +46,8 @@ expect "an empty program: labels alone on their lines" \
 expect "two digits, and no numerator" \
     'moves 16\nprogram -16 -9 -10\nnumerator\ndenominator 10 9 16\nsteps 0\n' \
     $samples/open16.table $samples/letters16.program
+expect "a table whose moves differ in weight" 'moves 2\nprogram -1 2\nnumerator 2 1\ndenominator 2\nsteps 1\n' \
+    $samples/heavy2.table $samples/open2.program
 expect "refusal 1: no table file" 'refused 1\n' "$work/missing.table" $samples/first.program
 expect "refusal 1: an empty table file" 'refused 1\n' "$work/nothing" $samples/first.program
 expect "refusal 1: a table that cannot be read" 'refused 1\n' "$work" $samples/first.program

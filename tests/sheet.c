@@ -20,12 +20,16 @@ static int passed;
 static int failed;
 
 /* Tables by their images. */
-static const uint8_t braid3[] = {0x29, 0x21, 0x0C, 0x61, 0x25, 0x24, 0xC0};
+static const uint8_t braid3[] = {0x20, 0x04, 0x90, 0x86, 0x30, 0x92, 0x92, 0x60};
 static const uint8_t one_move[] = {0x00};
-static const uint8_t open_pair[] = {0x10};
-static const uint8_t broken_cube[] = {0x28, 0xA2, 0x46, 0x12, 0x20, 0x80};
-static const uint8_t unequal[] = {0x19, 0x43};
-static const uint8_t endless[] = {0x29, 0x21, 0x0C, 0xA0, 0x8A, 0x52, 0x4C};
+static const uint8_t open_pair[] = {0x10, 0x00};
+static const uint8_t broken_cube[] = {0x20, 0x04, 0x51, 0x23, 0x09, 0x10, 0x40};
+static const uint8_t unequal[] = {0x10, 0x25, 0x0C};
+static const uint8_t endless[] = {0x20, 0x04, 0x90, 0x86, 0x50, 0x45, 0x29, 0x26};
+
+/* Two moves of weights 1 and 2: 1 2 1 = 2 2, whose sides weigh the same, and 1 2 = 2 1 1, where only the completions do. */
+static const uint8_t heavy[] = {0x10, 0x65, 0x0C};
+static const uint8_t heavy_unequal[] = {0x10, 0x63, 0x20};
 
 /* Programs under n = 3, plain and by their images. */
 static const uint8_t first_plain[] = {131, 1, 130, 1, 2};
@@ -112,22 +116,35 @@ static void program_forms(const char *name, const uint8_t *plain, size_t plain_l
 
 static void packing(void)
 {
-    static const uint8_t braid3_plain[] = {3, 2, 2, 1, 2, 1, 2, 1, 3, 1, 1, 2, 3, 2, 2, 2, 3};
-    static const uint8_t one_move_plain[] = {1};
-    static const uint8_t open_pair_plain[] = {2, 255};
-    static const uint8_t broken_cube_plain[] = {3, 1, 2, 1, 1, 1, 3, 1, 1, 1, 1, 1, 1};
-    static const uint8_t unequal_plain[] = {2, 2, 2, 1, 1, 2};
-    static const uint8_t endless_plain[] = {3, 2, 2, 1, 2, 1, 2, 2, 3, 1, 2, 1, 3, 2, 3, 2, 2, 2, 3};
+    static const uint8_t braid3_plain[] = {3, 1, 1, 1, 2, 2, 1, 2, 1, 2, 1, 3, 1, 1, 2, 3, 2, 2, 2, 3};
+    static const uint8_t one_move_plain[] = {1, 1};
+    static const uint8_t open_pair_plain[] = {2, 1, 1, 255};
+    static const uint8_t broken_cube_plain[] = {3, 1, 1, 1, 1, 2, 1, 1, 1, 3, 1, 1, 1, 1, 1, 1};
+    static const uint8_t unequal_plain[] = {2, 1, 1, 2, 2, 1, 1, 2};
+    static const uint8_t heavy_plain[] = {2, 1, 2, 2, 2, 1, 1, 2};
+    static const uint8_t heavy_unequal_plain[] = {2, 1, 2, 1, 2, 2, 1, 1};
+    static const uint8_t heaviest_plain[] = {2, 1, BRAID_MOST_WEIGHT, BRAID_OPEN}, heaviest[] = {0x11, 0xC0};
+    static const uint8_t too_heavy[] = {2, 1, BRAID_MOST_WEIGHT + 1, BRAID_OPEN}, weightless[] = {2, 0}, no_weight[] = {2, 1};
+    static const uint8_t endless_plain[] = {3, 1, 1, 1, 2, 2, 1, 2, 1, 2, 2, 3, 1, 2, 1, 3, 2, 3, 2, 2, 2, 3};
     table_forms("the braid table", ALL_OF(braid3_plain), ALL_OF(braid3));
     table_forms("the table of one move", ALL_OF(one_move_plain), ALL_OF(one_move));
     table_forms("the table with an open pair", ALL_OF(open_pair_plain), ALL_OF(open_pair));
     table_forms("the table that breaks the cube rule", ALL_OF(broken_cube_plain), ALL_OF(broken_cube));
-    table_forms("the table of unequal lengths", ALL_OF(unequal_plain), ALL_OF(unequal));
+    table_forms("the table of unequal weights", ALL_OF(unequal_plain), ALL_OF(unequal));
+    table_forms("1 2 1 = 2 2", ALL_OF(heavy_plain), ALL_OF(heavy));
+    table_forms("1 2 = 2 1 1", ALL_OF(heavy_unequal_plain), ALL_OF(heavy_unequal));
+    table_forms("the heaviest move", ALL_OF(heaviest_plain), ALL_OF(heaviest));
     table_forms("the endless table", ALL_OF(endless_plain), ALL_OF(endless));
     program_forms("-3 1 -2 1 2", ALL_OF(first_plain), ALL_OF(first_image));
     program_forms("-2 -3 -1 1 1 2 3", ALL_OF(second_plain), ALL_OF(second_image));
     program_forms("1 2 1", ALL_OF(plain_121), ALL_OF(image_121));
     program_forms("2 1 2", ALL_OF(plain_212), ALL_OF(image_212));
+    hold("a weight of 9 gives 2", braid_pack_table(ALL_OF(too_heavy), ALL_OF(answer), values), BRAID_TABLE_FIELD, "0 0 0 0", 0, nothing, 0);
+    hold("a weight of 0 gives 2, before the next is missed", braid_pack_table(ALL_OF(weightless), ALL_OF(answer), values), BRAID_TABLE_FIELD,
+         "0 0 0 0", 0, nothing, 0);
+    hold("a missing weight gives 1", braid_pack_table(ALL_OF(no_weight), ALL_OF(answer), values), BRAID_TABLE_ENDS, "0 0 0 0", 0, nothing, 0);
+    hold("an image that ends within the weights gives 1", braid_unpack_table(braid3, 1, ALL_OF(answer), values), BRAID_TABLE_ENDS, "0 0 0 0",
+         0, nothing, 0);
     hold("packing into 3 bytes gives 13", braid_pack_program(ALL_OF(braid3), ALL_OF(first_plain), answer, 3, values), BRAID_ANSWER_SHORT,
          "0 0 0 0", 0, nothing, 0);
 }
@@ -175,8 +192,50 @@ static void comparing(void)
          "0 0 0 0", 0, nothing, 0);
     hold("1 is different from 2 with an open pair", compared(ALL_OF(open_pair), ALL_OF(one_of_2), ALL_OF(two_of_2)), BRAID_ANSWER,
          "1 0 0 0", AREA, nothing, 0);
-    hold("unequal lengths give 8 with 1, 2", compared(ALL_OF(unequal), ALL_OF(one_of_2), ALL_OF(two_of_2)), BRAID_UNEQUAL_LENGTHS,
+    hold("unequal weights give 8 with 1, 2", compared(ALL_OF(unequal), ALL_OF(one_of_2), ALL_OF(two_of_2)), BRAID_UNEQUAL_WEIGHTS,
          "1 1 2 0", 0, nothing, 0);
+}
+
+/* What the weights 1 and 2 of two moves make of the relation 1 2 1 = 2 2. */
+static void weighing(void)
+{
+    static const uint8_t one_two_one[] = {0x00, 0x31, 0x00}, two_two[] = {0x00, 0x25}, one_one[] = {0x00, 0x20}, one_two[] = {0x00, 0x21};
+    static const uint8_t one[] = {0x00, 0x10}, two[] = {0x00, 0x14}, rest[] = {1};
+    /* The count in 16 bits; the offset in 15, then 2 and 1, less 1, in a bit each. */
+    static const uint8_t grows[] = {0x00, 0x01, 0x00, 0x01, 0x00};
+    uint8_t listed[16];
+    size_t length;
+    uint8_t result;
+    hold("1 2 1 = 2 2 clears with no workspace", braid_clear(ALL_OF(heavy), 0, workspace, 0, values), BRAID_ANSWER, "0 0 0 0", 0, nothing, 0);
+    hold("completions that weigh the same do not suffice", braid_clear(ALL_OF(heavy_unequal), 0, ALL_OF(workspace), values),
+         BRAID_UNEQUAL_WEIGHTS, "1 1 2 0", 0, nothing, 0);
+    hold("1 2 1 is the same as 2 2, 4 steps", compared(ALL_OF(heavy), ALL_OF(one_two_one), ALL_OF(two_two)), BRAID_ANSWER, "0 4 0 0", AREA,
+         nothing, 0);
+    hold("1 1 is different from 2 2 without a step", compared(ALL_OF(heavy), ALL_OF(one_one), ALL_OF(two_two)), BRAID_ANSWER, "1 0 0 0", AREA,
+         nothing, 0);
+    hold("1 1 is different from 2, 3 steps", compared(ALL_OF(heavy), ALL_OF(one_one), ALL_OF(two)), BRAID_ANSWER, "1 3 0 0", AREA, nothing, 0);
+    hold("after 1 2 of 2 2 is left 1",
+         braid_remainder(ALL_OF(heavy), ALL_OF(one_two), ALL_OF(two_two), MOST_STEPS, ALL_OF(workspace), ALL_OF(answer), values), BRAID_ANSWER,
+         "0 1 3 0", AREA, ALL_OF(rest));
+    hold("nothing is left of 2 2 after 1 2 1",
+         braid_remainder(ALL_OF(heavy), ALL_OF(one_two_one), ALL_OF(two_two), MOST_STEPS, ALL_OF(workspace), ALL_OF(answer), values),
+         BRAID_ANSWER, "0 0 4 0", AREA, nothing, 0);
+    hold("none after 2 of 1, without a step",
+         braid_remainder(ALL_OF(heavy), ALL_OF(two), ALL_OF(one), MOST_STEPS, ALL_OF(workspace), ALL_OF(answer), values), BRAID_ANSWER,
+         "1 0 0 0", AREA, nothing, 0);
+    result = braid_chain(ALL_OF(heavy), ALL_OF(two_two), ALL_OF(one_two_one), MOST_STEPS, ALL_OF(workspace), ALL_OF(answer), values);
+    length = answer[0] == 0 && answer[1] <= 4 ? braid_chain_bytes(2, answer[1]) : 0;
+    memcpy(listed, answer, sizeof listed);
+    hold("a chain from 2 2 to 1 2 1", result, BRAID_ANSWER, "0 4 0 0", AREA, listed, length);
+    hold("it joins in as many bytes as 2 2 weighs",
+         braid_check(ALL_OF(heavy), ALL_OF(two_two), ALL_OF(one_two_one), listed, length, workspace, 4, values), BRAID_ANSWER, "0 0 0 0", 4,
+         nothing, 0);
+    hold("the entry 0, 2, 1 joins in 3 bytes",
+         braid_check(ALL_OF(heavy), ALL_OF(two_two), ALL_OF(one_two_one), ALL_OF(grows), workspace, 3, values), BRAID_ANSWER, "0 0 0 0", 3,
+         nothing, 0);
+    hold("2 bytes are too few for it",
+         braid_check(ALL_OF(heavy), ALL_OF(two_two), ALL_OF(one_two_one), ALL_OF(grows), workspace, 2, values), BRAID_WORKSPACE_SHORT,
+         "0 0 0 0", 2, nothing, 0);
 }
 
 /* What is left of a pattern, with an allowance of 65,535 and areas of 32,768 bytes. */
@@ -222,14 +281,14 @@ static uint8_t checked(const uint8_t *first, size_t first_length, const uint8_t 
 
 static void chaining(void)
 {
-    /* The count in 16 bits; the offset in 12, then 1 and 2, less 1, in 2 bits each. */
-    static const uint8_t single[] = {0x00, 0x01, 0x00, 0x01};
+    /* The count in 16 bits; the offset in 15, then 1 and 2, less 1, in 2 bits each. */
+    static const uint8_t single[] = {0x00, 0x01, 0x00, 0x00, 0x20};
     enum { STEPS = 5 };
-    uint8_t listed[2 + 2 * STEPS];
+    uint8_t listed[14];
     uint8_t result =
         braid_chain(ALL_OF(braid3), ALL_OF(image_121), ALL_OF(image_212), MOST_STEPS, ALL_OF(workspace), ALL_OF(answer), values);
     size_t entries = (size_t)answer[0] * 256 + answer[1];
-    size_t length = entries <= STEPS ? 2 + 2 * entries : 0;
+    size_t length = entries <= STEPS ? braid_chain_bytes(3, entries) : 0;
     memcpy(listed, answer, sizeof listed);
     tally("a listed chain has at most as many entries as steps", entries <= STEPS);
     hold("a chain from 1 2 1 to 2 1 2", result, BRAID_ANSWER, "0 5 0 0", AREA, listed, length);
@@ -316,6 +375,7 @@ int main(void)
     packing();
     reversing();
     comparing();
+    weighing();
     remainders();
     chaining();
     clearing();

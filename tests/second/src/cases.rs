@@ -2,18 +2,59 @@
 //! class.
 mod bed;
 
+use crate::chain::follow;
 use crate::classes::class;
 use crate::guarded::{call, Call, Left};
-use crate::image::{chain_bytes, chain_image, program_image, read_forward, read_table, table_image, Entry};
+use crate::image::{chain_bytes, chain_image, program_image, read_chain, read_forward, read_table, table_image, Entry};
 use crate::judge::{expected, judge, listed_chain};
 use crate::orders::{self, Order};
 use crate::plain::plain_table;
 use crate::random::Random;
 use crate::reversing::{Ending, Most};
 use crate::table::Table;
-use crate::tables::{any, clearing, forward_word, signed_word, walk};
+use crate::tables::{any, clearing, forward_word, growing, signed_word, walk, word_of_weight};
 use crate::word::{bytes, undoing, Word};
 use std::collections::BTreeMap;
+
+/// What comes of weights where lengths alone would say otherwise.
+#[derive(Clone, Copy, Debug, PartialEq, Eq, PartialOrd, Ord)]
+pub enum Weighed {
+    /// Same, though the programs are not equally long.
+    SameOfUnequalLength,
+    /// Different without a step, though the programs are equally long.
+    DifferentOfEqualLength,
+    /// Moves, or no move left, though the pattern has fewer moves than the part done.
+    MovesOfShorterPattern,
+    /// None without a step, though the pattern has at least as many moves as the part done.
+    NoneOfLongerPattern,
+    /// Cleared, though two completions of a pair weigh unequally.
+    ClearedUnequalCompletions,
+    /// 8, though the two completions of its pair weigh the same.
+    RefusedEqualCompletions,
+    /// A listed chain leads through a word longer than both programs.
+    ListedThroughLongerWord,
+    /// A listed chain has an offset above 4,095.
+    ListedFarOffset,
+    /// A given chain with an offset above 4,095 joins.
+    JoinsAtFarOffset,
+    /// A given chain leads through a word of 32,760 moves.
+    LongestWord,
+}
+
+impl Weighed {
+    pub const ALL: [Weighed; 10] = [
+        Weighed::SameOfUnequalLength,
+        Weighed::DifferentOfEqualLength,
+        Weighed::MovesOfShorterPattern,
+        Weighed::NoneOfLongerPattern,
+        Weighed::ClearedUnequalCompletions,
+        Weighed::RefusedEqualCompletions,
+        Weighed::ListedThroughLongerWord,
+        Weighed::ListedFarOffset,
+        Weighed::JoinsAtFarOffset,
+        Weighed::LongestWord,
+    ];
+}
 
 /// How often each service gave each result, an answer's first value apart.
 #[derive(Default)]
@@ -25,6 +66,7 @@ pub struct Tally {
     /// Beds held against those of joined programs, of numerator and denominator, and of full twists.
     pub beds: [usize; 3],
     pub results: BTreeMap<(&'static str, u8, u64), usize>,
+    pub weighed: BTreeMap<Weighed, usize>,
 }
 
 impl Tally {
@@ -38,6 +80,15 @@ impl Tally {
         }
         for (key, count) in &other.results {
             *self.results.entry(*key).or_default() += count;
+        }
+        for (key, count) in &other.weighed {
+            *self.weighed.entry(*key).or_default() += count;
+        }
+    }
+
+    fn note(&mut self, what: Weighed, holds: bool) {
+        if holds {
+            *self.weighed.entry(what).or_default() += 1;
         }
     }
 }
@@ -86,8 +137,12 @@ pub fn run(seed: u64, tally: &mut Tally) -> Held<()> {
         42..=49 => case.checking(),
         50..=62 => case.packing(),
         64..=71 => case.bed(),
-        _ if case.random.once_in(8) => case.many_steps(),
-        _ => case.long_words(),
+        _ => match case.random.below(16) {
+            0..=1 => case.many_steps(),
+            2..=3 => case.given_growth(),
+            4..=5 => case.listed_growth(),
+            _ => case.long_words(),
+        },
     };
     held.map_err(|what| format!("case {seed}\n{what}"))
 }
@@ -237,10 +292,24 @@ impl Case<'_> {
         for _ in 0..8 {
             let allowance = self.allowance(most.steps);
             let workspace = self.length(most.bytes);
-            let made = Call::Clear { table: self.perhaps(&image, 12), allowance };
-            self.held(&made, workspace, 0)?;
+            let given = self.perhaps(&image, 12);
+            let made = Call::Clear { table: given.clone(), allowance };
+            let left = self.held(&made, workspace, 0)?;
+            self.completions(&given, &left);
         }
         Ok(())
+    }
+
+    /// Notes where the completions alone would have led to another outcome of clear than the sides.
+    fn completions(&mut self, image: &[u8], left: &Left) {
+        let Ok(table) = read_table(image) else {
+            return;
+        };
+        let weight = |a: u8, b: u8| table.completion(a, b).map(|word| table.weight(word));
+        let unequal = Table::pair_order(table.moves).iter().any(|(a, b)| weight(*a, *b) != weight(*b, *a));
+        let [_, a, b, _] = left.values.map(|value| value as u8);
+        self.tally.note(Weighed::ClearedUnequalCompletions, left.result == 0 && unequal);
+        self.tally.note(Weighed::RefusedEqualCompletions, left.result == 8 && weight(a, b) == weight(b, a));
     }
 
     /// A second word for a comparison: joined to the first, joined and then changed, or any.
@@ -257,9 +326,15 @@ impl Case<'_> {
                 let length = self.random.below(first.len() + 3);
                 second = forward_word(&mut self.random, table.moves, length);
             }
+            3 => second = self.as_heavy(table, table.weight(first)).unwrap_or(second),
             _ => {}
         }
         second
+    }
+
+    /// A program of that weight, if one is met.
+    fn as_heavy(&mut self, table: &Table, weight: usize) -> Option<Word> {
+        word_of_weight(&mut self.random, &table.weights, weight).filter(|word| word.len() <= 4_095)
     }
 
     /// A forward program's image; once in a while a move is turned back.
@@ -284,6 +359,10 @@ impl Case<'_> {
         let left = self.held(&sound, most.bytes, 70_000)?;
         self.search(&table, &first, &second, &left)?;
         let steps = left.values[1] as usize;
+        let (answered, equally_long) = (left.result == 0, first.len() == second.len());
+        self.tally.note(Weighed::SameOfUnequalLength, answered && left.values[0] == 0 && !equally_long);
+        self.tally
+            .note(Weighed::DifferentOfEqualLength, answered && left.values[..2] == [1, 0] && equally_long && !self.open_at_once(&sound));
         let exact = chain_bytes(table.moves, steps);
         if left.result == 0 && left.values[0] == 0 {
             self.listed(&sound, &left)?;
@@ -320,7 +399,7 @@ impl Case<'_> {
         Err(format!("the verdict {} is wrong by search: {table:?} {first:?} {second:?}", left.values[0]))
     }
 
-    /// A pattern for a part done: one that it begins, up to swaps, one that it ends up to them, or any.
+    /// A pattern for a part done: one that it begins, up to swaps, one that it ends up to them, one as long of the lightest move, or any.
     fn pattern(&mut self, table: &Table, done: &[i8]) -> Word {
         let more = self.random.pick(&[0, 1, 2, 4, 9]);
         let rest = forward_word(&mut self.random, table.moves, more);
@@ -329,21 +408,45 @@ impl Case<'_> {
             0 => self.other(table, done),
             1 => walk(&mut self.random, table, &[rest, done.to_vec()].concat(), swaps).1,
             2 => forward_word(&mut self.random, table.moves, done.len() + more),
+            3 => {
+                let weight = table.weight(done) + table.weight(&rest);
+                self.as_heavy(table, weight).unwrap_or(rest)
+            }
+            4 => {
+                let lightest = (1..=table.moves).min_by_key(|m| table.weight(&[*m as i8])).unwrap();
+                vec![lightest as i8; done.len()]
+            }
             _ => walk(&mut self.random, table, &[done.to_vec(), rest].concat(), swaps).1,
         }
+    }
+
+    /// A part done of a pattern: all but at most two moves of a word joined to it, which may be more moves than the pattern has.
+    fn begun(&mut self, table: &Table, pattern: &[i8]) -> Word {
+        let swaps = self.random.pick(&[1, 3, 10, 30]);
+        let (_, mut word) = walk(&mut self.random, table, pattern, swaps);
+        word.truncate(word.len().saturating_sub(self.random.below(3)));
+        word
     }
 
     fn remaining(&mut self) -> Held<()> {
         let table = if self.random.once_in(8) { any(&mut self.random) } else { clearing(&mut self.random) };
         let length = self.random.pick(&[0, 1, 2, 3, 4, 6, 12, 25]);
-        let done = forward_word(&mut self.random, table.moves, length);
-        let pattern = self.pattern(&table, &done);
+        let word = forward_word(&mut self.random, table.moves, length);
+        let (done, pattern) = if self.random.once_in(4) {
+            (self.begun(&table, &word), word)
+        } else {
+            let pattern = self.pattern(&table, &word);
+            (word, pattern)
+        };
         let (t, d, p) = (table_image(&table), program_image(table.moves, &done), program_image(table.moves, &pattern));
         let sound = Call::Remainder { table: t.clone(), done: d.clone(), pattern: p.clone(), allowance: 3_000 };
         let most = self.most(&sound);
         let left = self.held(&sound, most.bytes, 70_000)?;
         self.search_rest(&table, &done, &pattern, &left)?;
-        let [_, exact, steps, _] = left.values.map(|value| value as usize);
+        let [none, exact, steps, _] = left.values.map(|value| value as usize);
+        let (answered, shorter) = (left.result == 0, pattern.len() < done.len());
+        self.tally.note(Weighed::MovesOfShorterPattern, answered && none == 0 && shorter);
+        self.tally.note(Weighed::NoneOfLongerPattern, answered && (none, steps) == (1, 0) && !shorter && !self.open_at_once(&sound));
         for _ in 0..8 {
             let near = self.random.pick(&[most.steps, most.steps, steps]);
             let allowance = self.allowance(near);
@@ -380,17 +483,39 @@ impl Case<'_> {
         }
     }
 
-    /// Both implementations follow a listed chain to the second program; a workspace of the program's length is enough.
+    /// Whether the reversing of a call meets an open pair before any step.
+    fn open_at_once(&self, made: &Call) -> bool {
+        let (Call::Chain { table, first, second, .. } | Call::Remainder { table, done: first, pattern: second, .. }) = made else {
+            return false;
+        };
+        let read = |image: &[u8], table: &Table| read_forward(image, table.moves).ok();
+        let meeting = |table: &Table| Some((*read(first, table)?.first()? as u8, *read(second, table)?.first()? as u8));
+        read_table(table).is_ok_and(|table| meeting(&table).is_some_and(|(a, b)| table.completion(a, b).is_none()))
+    }
+
+    /// Both implementations follow a listed chain to the second program; as many bytes of workspace as the first one weighs are enough, and as many as
+    /// the longest word has moves are needed.
     fn listed(&mut self, made: &Call, left: &Left) -> Held<()> {
         let Call::Chain { table, first, second, .. } = made else {
             return Err("no chain was asked for".into());
         };
-        let entries = listed_chain(made, left.values[1] as usize, &left.answer)?;
-        let length = read_table(table).and_then(|table| read_forward(first, table.moves)).map_err(|r| format!("{r:?}"))?.len();
-        let check = Call::Check { table: table.clone(), first: first.clone(), second: second.clone(), entries };
-        let checked = self.held(&check, length, 0)?;
+        let image = listed_chain(made, left.values[1] as usize, &left.answer)?;
+        let refused = |r| format!("{r:?}");
+        let read = read_table(table).map_err(refused)?;
+        let (from, to) = (read_forward(first, read.moves).map_err(refused)?, read_forward(second, read.moves).map_err(refused)?);
+        let entries = read_chain(&image, read.moves).map_err(refused)?;
+        let mut longest = 0;
+        follow(&read, &from, &to, &entries, usize::MAX, &mut longest).map_err(refused)?;
+        self.tally.note(Weighed::ListedThroughLongerWord, longest > from.len().max(to.len()));
+        self.tally.note(Weighed::ListedFarOffset, entries.iter().any(|entry| entry.offset > 4_095));
+        let check = Call::Check { table: table.clone(), first: first.clone(), second: second.clone(), entries: image };
+        let checked = self.held(&check, read.weight(&from), 0)?;
         if (checked.result, checked.values[0]) != (0, 0) {
             return Err(format!("the firmware doesn't accept its own chain: {check:02x?}"));
+        }
+        if longest > 0 && self.random.once_in(8) {
+            self.held(&check, longest, 0)?;
+            self.held(&check, longest - 1, 0)?;
         }
         Ok(())
     }
@@ -404,8 +529,8 @@ impl Case<'_> {
                 let at = self.random.below(entries.len());
                 let entry = &mut entries[at];
                 match self.random.below(4) {
-                    0 => entry.offset = (entry.offset + 1) % 4_096,
-                    1 => entry.offset = self.random.below(4_096),
+                    0 => entry.offset = (entry.offset + 1) % 32_768,
+                    1 => entry.offset = self.random.below(32_768),
                     2 => entry.a = letter(&mut self.random),
                     _ => entry.b = letter(&mut self.random),
                 }
@@ -473,10 +598,70 @@ impl Case<'_> {
         Ok(())
     }
 
+    /// A given chain from q times 2 that turns each 2 into 1s, from either end on, and all back again. The words on the way have up to 32,760 moves.
+    fn given_growth(&mut self) -> Held<()> {
+        let power = self.random.pick(&[2, 8, 8, 8]);
+        let table = growing(power, 1);
+        let q = self.random.pick(&[1, 7, 600, 2_100, 4_095, 4_095]);
+        let first = vec![2; q];
+        let mut entries = Vec::new();
+        let from_left = self.random.once_in(2);
+        for k in 0..q {
+            let offset = if from_left { k * usize::from(power) } else { q - 1 - k };
+            entries.push(Entry { offset, a: 2, b: 1 });
+        }
+        for k in 0..q {
+            let offset = if from_left { k } else { (q - 1 - k) * usize::from(power) };
+            entries.push(Entry { offset, a: 1, b: 2 });
+        }
+        let program = program_image(table.moves, &first);
+        let entries = if self.random.once_in(2) { self.changed(table.moves, &entries) } else { entries };
+        let far = entries.iter().any(|entry| entry.offset > 4_095);
+        let made = Call::Check {
+            table: table_image(&table),
+            first: program.clone(),
+            second: program,
+            entries: chain_image(table.moves, &entries),
+        };
+        let grown = table.weight(&first);
+        for workspace in [grown, grown - 1, self.random.between(0, grown + 9)] {
+            let left = self.held(&made, workspace, 0)?;
+            let joins = (left.result, left.values[0]) == (0, 0);
+            self.tally.note(Weighed::JoinsAtFarOffset, joins && far);
+            self.tally.note(Weighed::LongestWord, joins && grown == 32_760);
+        }
+        Ok(())
+    }
+
+    /// q times 2, then 3 3, is 3 3, then q times 2, in (2 p + 1) q + 2 steps where 2 is p times 1. The first 3 leaves 1s behind, past which the second is
+    /// then brought.
+    fn listed_growth(&mut self) -> Held<()> {
+        let power = self.random.pick(&[2, 5, 8, 8]);
+        let third = self.random.between(1, 8) as u8;
+        let table = growing(power, third);
+        let q = self.random.pick(&[1, 4, 60, 520, 700, 1_000]);
+        let (twos, threes) = (vec![2; q], vec![3, 3]);
+        let [first, second] = [[twos.clone(), threes.clone()], [threes, twos]].map(|words| program_image(table.moves, &words.concat()));
+        let steps = (2 * usize::from(power) + 1) * q + 2;
+        let exact = chain_bytes(table.moves, steps);
+        let sound = Call::Chain { table: table_image(&table), first: first.clone(), second: second.clone(), allowance: steps as u16 };
+        let left = self.held(&sound, 32_768, exact)?;
+        if left.values != [0, steps as u64, 0, 0] {
+            return Err(format!("not the same after {steps} steps: {table:?} {q}"));
+        }
+        self.listed(&sound, &left)?;
+        let answer = self.random.pick(&[exact, exact - 1, exact + 9]);
+        let workspace = self.random.between(2 * q, 10 * q + 9);
+        let allowance = self.allowance(steps);
+        self.held(&Call::Chain { table: table_image(&table), first, second, allowance }, workspace, answer)?;
+        Ok(())
+    }
+
     /// Under commuting moves, k times 1 then k times 2 is k times 2 then k times 1, in k * k + 2 * k steps: 65,535 for k = 255.
     fn many_steps(&mut self) -> Held<()> {
         let k = self.random.pick(&[60, 200, 254, 255, 256]);
-        let table = Table { moves: 2, pairs: vec![Some((vec![2], vec![1]))] };
+        let weights = vec![self.random.between(1, 8) as u8, self.random.between(1, 8) as u8];
+        let table = Table::light(2, vec![Some((vec![2], vec![1]))]).weighing(weights);
         let (ones, twos) = (vec![1; k], vec![2; k]);
         let [first, second] = [[ones.clone(), twos.clone()], [twos, ones]].map(|words| program_image(2, &words.concat()));
         let allowance = self.allowance(k * k + 2 * k);

@@ -1,4 +1,5 @@
-//! The words joined to a word, by search: for short words under relations of equal length.
+//! The words joined to a word, by search: for short words under relations whose sides weigh the same. Joined words then weigh the same too, though
+//! their lengths may differ, so that there are finitely many.
 use crate::chain::swapped;
 use crate::table::Table;
 use crate::tables::fitting;

@@ -9,6 +9,15 @@ fn cell(a: u8, b: u8) -> usize {
     ((a as usize - 1) * 16 + (b as usize - 1)) * 16
 }
 
+/// Where the weight of a move stands, less 1: behind the length, 0, of C(a,a).
+fn weight_place(a: u8) -> usize {
+    cell(a, a) + 1
+}
+
+fn weight(cells: &Cells, a: u8) -> u32 {
+    u32::from(cells[weight_place(a)]) + 1
+}
+
 /// A field of at most 16 bits, from the three bytes that it may touch.
 fn field(image: &[u8], at: usize, width: usize) -> Option<u16> {
     if at + width > 8 * image.len() {
@@ -52,6 +61,10 @@ fn read_table(image: &[u8], cells: &mut Cells) -> Result<u8, u8> {
     let width = width_of(moves);
     let mut at = 4;
     for a in 1..=moves {
+        cells[weight_place(a)] = field(image, at, 3).ok_or(1)? as u8;
+        at += 3;
+    }
+    for a in 1..=moves {
         for b in a + 1..=moves {
             let given = field(image, at, 1).ok_or(1)?;
             at += 1;
@@ -91,6 +104,12 @@ fn read_program(image: &[u8], moves: u8, forward: bool) -> Result<usize, u8> {
         return Err(7);
     }
     Ok(count)
+}
+
+/// The weight of a program of forward moves, which was read before.
+fn program_weight(cells: &Cells, image: &[u8], moves: u8, count: usize) -> u32 {
+    let width = width_of(moves);
+    (0..count).map(|k| weight(cells, signed(image, 12 + k * (1 + width), moves, width).unwrap())).sum()
 }
 
 fn unpack(image: &[u8], moves: u8, area: &mut [u8]) {
@@ -225,10 +244,17 @@ fn cube(cells: &Cells, bytes: &mut [u8], a: u8, b: u8, c: u8, allowance: u16) ->
     }
 }
 
+/// The weight of the side of a relation that begins with a.
+fn side_weight(cells: &Cells, a: u8, b: u8) -> u32 {
+    let at = cell(a, b);
+    let completion = &cells[at + 1..][..cells[at] as usize];
+    completion.iter().chain(&[a]).map(|m| weight(cells, *m)).sum()
+}
+
 fn clear_cells(cells: &Cells, moves: u8, allowance: u16, workspace: &mut [u8]) -> Result<(), u8> {
     for a in 1..=moves {
         for b in a + 1..=moves {
-            if cells[cell(a, b)] != cells[cell(b, a)] {
+            if cells[cell(a, b)] != OPEN && side_weight(cells, a, b) != side_weight(cells, b, a) {
                 return Err(8);
             }
         }
@@ -297,7 +323,7 @@ pub fn compare(table: &[u8], first: &[u8], second: &[u8], allowance: u16, worksp
     }
     workspace.fill(0);
     cleared?;
-    if m != n {
+    if program_weight(&cells, first, moves, m) != program_weight(&cells, second, moves, n) {
         return Ok((false, 0));
     }
     let end = workspace.len();
@@ -410,6 +436,14 @@ pub fn pack_table(plain: &[u8], answer: &mut [u8]) -> Result<usize, u8> {
     let mut writer = Writer { area: &mut image, next: 0, bits: 0, held: 0 };
     let width = width_of(*moves);
     writer.field(4, u32::from(*moves) - 1);
+    for _ in 0..*moves {
+        let (weight, behind) = rest.split_first().ok_or(1)?;
+        if !(1..=8).contains(weight) {
+            return Err(2);
+        }
+        writer.field(3, u32::from(*weight) - 1);
+        rest = behind;
+    }
     for _ in 0..usize::from(*moves) * (usize::from(*moves) - 1) / 2 {
         if *rest.first().ok_or(1)? == OPEN {
             writer.field(1, 0);
@@ -434,6 +468,10 @@ pub fn unpack_table(table: &[u8], answer: &mut [u8]) -> Result<usize, u8> {
     let mut plain = [0; 8192];
     plain[0] = moves;
     let mut next = 1;
+    for a in 1..=moves {
+        plain[next] = weight(&cells, a) as u8;
+        next += 1;
+    }
     for a in 1..=moves {
         for b in a + 1..=moves {
             for at in [cell(a, b), cell(b, a)] {

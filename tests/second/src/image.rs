@@ -85,9 +85,13 @@ pub fn width(moves: u8) -> usize {
     }
 }
 
-pub fn table_image(table: &Table) -> Vec<u8> {
-    let mut bits = Bits::default();
-    bits.field(4, usize::from(table.moves) - 1);
+fn weight_bits(table: &Table, bits: &mut Bits) {
+    for weight in &table.weights {
+        bits.field(3, usize::from(*weight) - 1);
+    }
+}
+
+fn pair_bits(table: &Table, bits: &mut Bits) {
     for pair in &table.pairs {
         let Some((there, back)) = pair else {
             bits.field(1, 0);
@@ -101,12 +105,23 @@ pub fn table_image(table: &Table) -> Vec<u8> {
             }
         }
     }
+}
+
+pub fn table_image(table: &Table) -> Vec<u8> {
+    let mut bits = Bits::default();
+    bits.field(4, usize::from(table.moves) - 1);
+    for part in [weight_bits, pair_bits] {
+        part(table, &mut bits);
+    }
     bits.image()
 }
 
 fn table_fields(fields: &mut Fields) -> Result<Table, Fault> {
     let moves = fields.number(4)? as u8 + 1;
-    let mut table = Table { moves, pairs: Vec::new() };
+    let mut table = Table { moves, weights: Vec::new(), pairs: Vec::new() };
+    for _ in 0..moves {
+        table.weights.push(fields.number(3)? as u8 + 1);
+    }
     for _ in Table::pair_order(moves) {
         if fields.number(1)? == 0 {
             table.pairs.push(None);
@@ -180,11 +195,14 @@ pub struct Entry {
     pub b: u8,
 }
 
+/// The width of an entry's offset.
+const OFFSET: usize = 15;
+
 pub fn chain_image(moves: u8, entries: &[Entry]) -> Vec<u8> {
     let mut bits = Bits::default();
     bits.field(16, entries.len());
     for entry in entries {
-        bits.field(12, entry.offset);
+        bits.field(OFFSET, entry.offset);
         bits.field(width(moves), usize::from(entry.a) - 1);
         bits.field(width(moves), usize::from(entry.b) - 1);
     }
@@ -193,14 +211,14 @@ pub fn chain_image(moves: u8, entries: &[Entry]) -> Vec<u8> {
 
 /// The bytes of a chain image with that many entries.
 pub fn chain_bytes(moves: u8, entries: usize) -> usize {
-    (16 + entries * (12 + 2 * width(moves))).div_ceil(8)
+    (16 + entries * (OFFSET + 2 * width(moves))).div_ceil(8)
 }
 
 fn chain_fields(fields: &mut Fields, moves: u8) -> Result<Vec<Entry>, Fault> {
     let count = fields.number(16)?;
     let mut entries = Vec::new();
     for _ in 0..count {
-        let offset = fields.number(12)?;
+        let offset = fields.number(OFFSET)?;
         let a = fields.letter(moves)? as u8;
         let b = fields.letter(moves)? as u8;
         entries.push(Entry { offset, a, b });

@@ -5,6 +5,7 @@ use crate::word::{byte, Word};
 
 pub fn plain_table(table: &Table) -> Vec<u8> {
     let mut plain = vec![table.moves];
+    plain.extend(&table.weights);
     for pair in &table.pairs {
         let Some((there, back)) = pair else {
             plain.push(255);
@@ -44,7 +45,14 @@ pub fn read_plain_table(bytes: &[u8]) -> Result<Table, Refusal> {
     if !(1..=16).contains(&moves) {
         return Err(Refusal::plain(2));
     }
-    let mut table = Table { moves, pairs: Vec::new() };
+    let mut table = Table { moves, weights: Vec::new(), pairs: Vec::new() };
+    for _ in 0..moves {
+        let weight = next(&mut plain)?;
+        if !(1..=8).contains(&weight) {
+            return Err(Refusal::plain(2));
+        }
+        table.weights.push(weight);
+    }
     for _ in Table::pair_order(moves) {
         let first = next(&mut plain)?;
         if first == 255 {

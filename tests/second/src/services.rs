@@ -1,6 +1,6 @@
 //! The services of specification 6. Areas come in only by their lengths; what would be written is in the result.
 use crate::bed::Bed;
-use crate::chain::follow;
+use crate::chain::{follow, side};
 use crate::image::*;
 use crate::outcome::{Passage, Place, Refusal, Remainder, Verdict};
 use crate::plain::{plain_table, read_plain_program, read_plain_table};
@@ -92,9 +92,14 @@ fn cube_holds(table: &Table, a: u8, b: u8, c: u8, limits: Limits, most: &mut Mos
     }
 }
 
+/// The weight of a relation's side that begins with a, or none where the pair is open.
+fn side_weight(table: &Table, a: u8, b: u8) -> Option<usize> {
+    side(table, a, b).map(|side| table.weight(&side))
+}
+
 pub fn cleared(table: &Table, limits: Limits, most: &mut Most) -> Result<(), Refusal> {
     for (a, b) in Table::pair_order(table.moves) {
-        if table.completion(a, b).map(<[i8]>::len) != table.completion(b, a).map(<[i8]>::len) {
+        if side_weight(table, a, b) != side_weight(table, b, a) {
             return Err(Refusal::at(8, Place::Pair(a, b)));
         }
     }
@@ -117,7 +122,7 @@ pub fn compare(table: &[u8], first: &[u8], second: &[u8], limits: Limits, most: 
     let first = read_forward(first, table.moves)?;
     let second = read_forward(second, table.moves)?;
     cleared(&table, limits, most)?;
-    if first.len() != second.len() {
+    if table.weight(&first) != table.weight(&second) {
         return Ok((Verdict::Different, 0));
     }
     match run(&table, [undoing(&first), second].concat(), 0, limits, most) {
@@ -158,7 +163,7 @@ pub fn remainder(
     let done = read_forward(done, table.moves)?;
     let pattern = read_forward(pattern, table.moves)?;
     cleared(&table, limits, most)?;
-    if pattern.len() < done.len() {
+    if table.weight(&pattern) < table.weight(&done) {
         return Ok((Remainder::None, 0));
     }
     match run(&table, [undoing(&done), pattern].concat(), 0, limits, most) {
@@ -207,7 +212,7 @@ pub fn unpack_program(table: &[u8], program: &[u8], answer: usize) -> Result<Vec
 /// The bed after so many moves, or after all.
 pub fn bed(table: &[u8], program: &[u8], moves: u64, answer: usize) -> Result<Vec<u8>, Refusal> {
     let table = read_table(table)?;
-    if table != braid(table.moves) {
+    if table.pairs != braid(table.moves).pairs {
         return Err(Refusal::plain(15));
     }
     let word = read_program(program, table.moves)?;

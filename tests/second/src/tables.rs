@@ -38,42 +38,101 @@ fn alternating(b: u8, a: u8, length: usize) -> Word {
     (0..length).map(|k| if k % 2 == 0 { b as i8 } else { a as i8 }).collect()
 }
 
-/// A table of Artin and Tits: for each pair a b a ... = b a b ..., of a random length, or open. It always clears but for stops.
+/// Weights of so many moves: mostly all 1, at times all the same or any.
+pub fn weights(random: &mut Random, moves: u8) -> Vec<u8> {
+    match random.below(8) {
+        0 => vec![random.between(1, 8) as u8; moves as usize],
+        1 => (0..moves).map(|_| random.between(1, 2) as u8).collect(),
+        2 => (0..moves).map(|_| random.between(1, 8) as u8).collect(),
+        _ => vec![1; moves as usize],
+    }
+}
+
+/// A random word of forward moves that has that weight, if one is met.
+pub fn word_of_weight(random: &mut Random, weights: &[u8], mut weight: usize) -> Option<Word> {
+    let mut word = Word::new();
+    while weight > 0 {
+        let light: Vec<usize> = (0..weights.len()).filter(|m| usize::from(weights[*m]) <= weight).collect();
+        if light.is_empty() {
+            return None;
+        }
+        let m = random.pick(&light);
+        weight -= usize::from(weights[m]);
+        word.push(m as i8 + 1);
+    }
+    Some(word)
+}
+
+/// A table of Artin and Tits: for each pair a b a ... = b a b ..., of a random length, or open. It always clears but for stops. Sides of an
+/// even length weigh the same whatever the weights are, others where a and b do.
 fn artin(random: &mut Random, moves: u8) -> Table {
     let longest = random.between(2, 5);
     let open = random.pick(&[0, 0, 10, 50]);
-    Table::from_pairs(moves, |a, b| {
+    let weights = weights(random, moves);
+    let table = Table::from_pairs(moves, |a, b| {
         if random.below(100) < open {
             return None;
         }
-        let length = if random.once_in(2) { 2 } else { random.between(2, longest) };
+        let mut length = if random.once_in(2) { 2 } else { random.between(2, longest) };
+        if weights[a as usize - 1] != weights[b as usize - 1] {
+            length -= length % 2;
+        }
         Some((alternating(b, a, length - 1), alternating(a, b, length - 1)))
-    })
+    });
+    table.weighing(weights)
 }
 
-/// All p-th powers are the same.
+/// Powers of all moves are the same, all p-th ones or those of the same weight.
 fn powers(random: &mut Random, moves: u8) -> Table {
     let p = random.between(1, 6);
-    Table::from_pairs(moves, |a, b| Some((vec![a as i8; p - 1], vec![b as i8; p - 1])))
+    let whole = random.pick(&[1, 1, 1, 4, 6, 8]);
+    let divisors: Vec<u8> = (1..=whole).filter(|weight| whole % weight == 0).collect();
+    let weights: Vec<u8> = (0..moves).map(|_| random.pick(&divisors)).collect();
+    let rest = |m: u8| {
+        let power = if whole == 1 { p } else { usize::from(whole / weights[m as usize - 1]) };
+        vec![m as i8; power - 1]
+    };
+    Table::from_pairs(moves, |a, b| Some((rest(a), rest(b)))).weighing(weights.clone())
 }
 
-/// Words of random lengths; `open` in a hundred pairs are open.
-fn arbitrary(random: &mut Random, moves: u8, longest: usize, open: usize, equal: bool) -> Table {
-    Table::from_pairs(moves, |_, _| {
+/// What weighs the same in every relation of a table.
+#[derive(Clone, Copy)]
+enum Equal {
+    Sides,
+    Completions,
+    Nothing,
+}
+
+/// Random words; `open` in a hundred pairs are open, and so are those for which no word of the right weight is met.
+fn arbitrary(random: &mut Random, weights: Vec<u8>, longest: usize, open: usize, equal: Equal) -> Table {
+    let moves = weights.len() as u8;
+    let table = Table::from_pairs(moves, |a, b| {
         if random.below(100) < open {
             return None;
         }
-        let there = random.between(0, longest);
-        let back = if equal { there } else { random.between(0, longest) };
-        Some((forward_word(random, moves, there), forward_word(random, moves, back)))
-    })
+        let weight = |m: u8| usize::from(weights[m as usize - 1]);
+        let length = random.between(0, longest);
+        let there = forward_word(random, moves, length);
+        let completion: usize = there.iter().map(|m| weight(*m as u8)).sum();
+        let back = match equal {
+            Equal::Sides => word_of_weight(random, &weights, (weight(a) + completion).checked_sub(weight(b))?)?,
+            Equal::Completions => word_of_weight(random, &weights, completion)?,
+            Equal::Nothing => {
+                let length = random.between(0, longest);
+                forward_word(random, moves, length)
+            }
+        };
+        (back.len() <= 15).then_some((there, back))
+    });
+    table.weighing(weights)
 }
 
-/// Random short relations of equal length, taken again until the table clears within small limits.
+/// Random short relations of equal weight, taken again until the table clears within small limits.
 fn searched(random: &mut Random, moves: u8) -> Table {
     for _ in 0..200 {
         let open = random.pick(&[0, 30, 60]);
-        let table = arbitrary(random, moves, 2, open, true);
+        let weights = weights(random, moves);
+        let table = arbitrary(random, weights, 2, open, Equal::Sides);
         let limits = Limits { allowance: 60, workspace: 60 };
         if cleared(&table, limits, &mut Most::default()).is_ok() {
             return table;
@@ -82,11 +141,37 @@ fn searched(random: &mut Random, moves: u8) -> Table {
     braid(moves)
 }
 
+/// One relation, whose sides weigh the same though they need not be equally long: such as 1 2 1 = 2 2, where 2 weighs twice as much as 1. With
+/// two moves there is no triple, so the table always clears.
+fn single(random: &mut Random) -> Table {
+    loop {
+        let weights = vec![random.between(1, 3) as u8, random.between(1, 3) as u8];
+        let longest = random.between(0, 3);
+        let table = arbitrary(random, weights, longest, 0, Equal::Sides);
+        if table.pairs[0].is_some() {
+            return table;
+        }
+    }
+}
+
+/// 1 2 1 = 2 2, where 2 weighs twice as much as 1.
+pub fn doubled() -> Table {
+    Table::light(2, vec![Some((vec![2, 1], vec![2]))]).weighing(vec![1, 2])
+}
+
+/// Move 2 is `power` times move 1, and both commute with move 3: 1 1 .. = 2, 1 3 = 3 1, and 2 3 = 3 1 1 .., in which a word grows.
+pub fn growing(power: u8, third: u8) -> Table {
+    let ones = |count: u8| vec![1; count as usize];
+    Table::light(3, vec![Some((ones(power - 1), vec![])), Some((vec![3], vec![1])), Some((vec![3], ones(power)))])
+        .weighing(vec![1, power, third])
+}
+
 /// Two tables side by side; moves of different ones commute, or are open to each other.
 fn beside(one: &Table, two: &Table, commute: bool) -> Table {
     let shift = one.moves;
     let moved = |word: &[i8]| word.iter().map(|m| m + shift as i8).collect::<Word>();
-    Table::from_pairs(one.moves + two.moves, |a, b| {
+    let weights = [one.weights.clone(), two.weights.clone()].concat();
+    let table = Table::from_pairs(one.moves + two.moves, |a, b| {
         if b <= shift {
             one.completion(a, b).map(|there| (there.to_vec(), one.completion(b, a).unwrap().to_vec()))
         } else if a > shift {
@@ -95,7 +180,8 @@ fn beside(one: &Table, two: &Table, commute: bool) -> Table {
         } else {
             commute.then(|| (vec![b as i8], vec![a as i8]))
         }
-    })
+    });
+    table.weighing(weights)
 }
 
 /// The same table with its moves numbered anew.
@@ -106,10 +192,12 @@ fn renumbered(random: &mut Random, table: &Table) -> Table {
     }
     let old = |m: u8| new.iter().position(|x| *x == m).unwrap() as u8 + 1;
     let word = |w: &[i8]| w.iter().map(|m| new[*m as usize - 1] as i8).collect::<Word>();
-    Table::from_pairs(table.moves, |a, b| {
+    let weights = (1..=table.moves).map(|m| table.weights[old(m) as usize - 1]).collect();
+    let pairs = Table::from_pairs(table.moves, |a, b| {
         let there = table.completion(old(a), old(b))?;
         Some((word(there), word(table.completion(old(b), old(a)).unwrap())))
-    })
+    });
+    pairs.weighing(weights)
 }
 
 /// Moves of a table: mostly few, at times up to 16.
@@ -121,14 +209,18 @@ fn size(random: &mut Random) -> u8 {
 /// A table that is likely to clear.
 pub fn clearing(random: &mut Random) -> Table {
     let moves = size(random);
-    let table = match random.below(7) {
-        0..=2 => braid(moves),
+    let table = match random.below(9) {
+        0..=1 => braid(moves),
+        2 => braid(moves).weighing(vec![random.between(1, 8) as u8; moves as usize]),
         3 => artin(random, moves.min(5)),
         4 => powers(random, moves),
         5 => searched(random, moves.min(4)),
+        6 if random.once_in(4) => growing(random.between(1, 8) as u8, random.between(1, 8) as u8),
+        6 if random.once_in(2) => doubled(),
+        6 => single(random),
         _ => {
             let few = moves.min(3);
-            let (one, two) = (searched(random, few), braid(few));
+            let (one, two) = (if random.once_in(4) { single(random) } else { searched(random, few) }, braid(few));
             let commute = random.once_in(2);
             beside(&one, &two, commute)
         }
@@ -144,13 +236,15 @@ pub fn clearing(random: &mut Random) -> Table {
 pub fn any(random: &mut Random) -> Table {
     let moves = size(random);
     let longest = random.pick(&[1, 2, 2, 3, 15]);
-    match random.below(8) {
+    let weights = weights(random, moves);
+    match random.below(9) {
         0..=1 => clearing(random),
-        2 => arbitrary(random, moves, longest, 0, true),
-        3 => arbitrary(random, moves, longest, 5, true),
-        4 => arbitrary(random, moves, longest, 50, true),
-        5 => arbitrary(random, moves, longest, 0, false),
-        6 => arbitrary(random, moves, longest, 90, false),
+        2 => arbitrary(random, weights, longest, 0, Equal::Sides),
+        3 => arbitrary(random, weights, longest, 5, Equal::Sides),
+        4 => arbitrary(random, weights, longest, 50, Equal::Sides),
+        5 => arbitrary(random, weights, longest, 0, Equal::Nothing),
+        6 => arbitrary(random, weights, longest, 90, Equal::Nothing),
+        7 => arbitrary(random, weights, longest, 20, Equal::Completions),
         // C(a,b) = b a throughout: endless.
         _ => Table::from_pairs(moves, |a, b| Some((vec![b as i8, a as i8], vec![a as i8, b as i8]))),
     }

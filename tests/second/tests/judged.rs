@@ -4,16 +4,24 @@ use second::image::{program_image, table_image};
 use second::judge::{expected, judge};
 use second::plain::plain_table;
 use second::reversing::Most;
-use second::tables::braid;
+use second::tables::{braid, doubled};
 
 /// A call, and whether it is refused with the workspace as found.
 fn calls() -> Vec<(Call, bool)> {
     let table = table_image(&braid(3));
     let program = program_image(3, &[-3, 1, -2, 1, 2]);
     let [first, second] = [[1, 2, 1], [2, 1, 2]].map(|word| program_image(3, &word));
-    let entries = vec![0x00, 0x01, 0x00, 0x01];
+    let entries = vec![0x00, 0x01, 0x00, 0x00, 0x20];
     let (t, f, s) = (table.clone(), first.clone(), second.clone());
+    let heavy = table_image(&doubled());
+    let [longer, shorter, lighter] = [vec![1, 2, 1], vec![2, 2], vec![1, 1]].map(|word| program_image(2, &word));
     vec![
+        (Call::Compare { table: heavy.clone(), first: longer.clone(), second: shorter.clone(), allowance: 100 }, false),
+        (Call::Compare { table: heavy.clone(), first: lighter.clone(), second: shorter.clone(), allowance: 100 }, false),
+        (Call::Chain { table: heavy.clone(), first: shorter.clone(), second: longer.clone(), allowance: 100 }, false),
+        (Call::Remainder { table: heavy.clone(), done: shorter, pattern: lighter, allowance: 100 }, false),
+        (Call::UnpackTable { table: heavy }, true),
+        (Call::PackTable { plain: vec![2, 1, 9, 255] }, true),
         (Call::Reverse { table: t.clone(), program: program.clone(), allowance: 5 }, false),
         (Call::Reverse { table: t.clone(), program: program.clone(), allowance: 4 }, false),
         (Call::Reverse { table: vec![], program: program.clone(), allowance: 5 }, true),
@@ -29,7 +37,7 @@ fn calls() -> Vec<(Call, bool)> {
         (Call::UnpackTable { table: t.clone() }, true),
         (Call::PackProgram { table: t.clone(), plain: vec![131, 1, 130, 1, 2] }, true),
         (Call::Bed { table: t.clone(), program: program.clone(), moves: 5 }, true),
-        (Call::Bed { table: vec![0x10], program: program.clone(), moves: 5 }, true),
+        (Call::Bed { table: vec![0x10, 0x00], program: program.clone(), moves: 5 }, true),
         (Call::UnpackProgram { table: t, program }, true),
     ]
 }

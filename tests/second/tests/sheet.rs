@@ -5,9 +5,9 @@ use second::outcome::{Passage, Place, Refusal, Remainder, Verdict};
 use second::plain::{plain_table, read_plain_table};
 use second::random::Random;
 use second::reversing::{Ending, Limits, Most};
-use second::services::{bed, check, clear, compare, remainder, reverse};
+use second::services::{bed, chain, check, clear, compare, remainder, reverse};
 use second::table::Table;
-use second::tables::braid;
+use second::tables::{braid, doubled};
 
 const WIDE: Limits = Limits { allowance: 65_535, workspace: 32_768 };
 
@@ -31,13 +31,42 @@ fn cleared(table: &Table, limits: Limits) -> Result<(), Refusal> {
 }
 
 fn table3(pairs: [(&[i8], &[i8]); 3]) -> Table {
-    Table { moves: 3, pairs: pairs.map(|(there, back)| Some((there.to_vec(), back.to_vec()))).to_vec() }
+    Table::light(3, pairs.map(|(there, back)| Some((there.to_vec(), back.to_vec()))).to_vec())
+}
+
+/// K of specification 10: 1 2 = 2 1, 1 3 = 3 1, 2 1 = 3 1.
+fn no_cube() -> Table {
+    table3([(&[2], &[1]), (&[3], &[1]), (&[1], &[1])])
+}
+
+/// E of specification 10: C(a,b) = b a for each pair.
+fn endless() -> Table {
+    table3([(&[2, 1], &[1, 2]), (&[3, 1], &[1, 3]), (&[3, 2], &[2, 3])])
+}
+
+/// Q of specification 10, where only the last reversing of a triple meets an open pair.
+fn open_at_last() -> Table {
+    let given = |there: &[i8], back: &[i8]| Some((there.to_vec(), back.to_vec()));
+    Table::light(4, vec![given(&[], &[]), given(&[3], &[1]), None, given(&[4], &[2]), None, None])
+}
+
+/// X of specification 10: the completions weigh the same, the sides do not.
+fn completions_alone() -> Table {
+    Table::light(2, vec![Some((vec![2], vec![1, 1]))]).weighing(vec![1, 2])
 }
 
 #[test]
 fn images_of_tables() {
-    assert_eq!(table_image(&braid(3)), [0x29, 0x21, 0x0C, 0x61, 0x25, 0x24, 0xC0]);
+    assert_eq!(table_image(&braid(3)), [0x20, 0x04, 0x90, 0x86, 0x30, 0x92, 0x92, 0x60]);
     assert_eq!(table_image(&braid(1)), [0x00]);
+    assert_eq!(table_image(&braid(1).weighing(vec![8])), [0x0E]);
+    assert_eq!(table_image(&Table::light(2, vec![None])), [0x10, 0x00]);
+    assert_eq!(table_image(&no_cube()), [0x20, 0x04, 0x51, 0x23, 0x09, 0x10, 0x40]);
+    assert_eq!(table_image(&doubled().weighing(vec![1, 1])), [0x10, 0x25, 0x0C]);
+    assert_eq!(table_image(&doubled()), [0x10, 0x65, 0x0C]);
+    assert_eq!(table_image(&completions_alone()), [0x10, 0x63, 0x20]);
+    assert_eq!(table_image(&endless()), [0x20, 0x04, 0x90, 0x86, 0x50, 0x45, 0x29, 0x26]);
+    assert_eq!(table_image(&open_at_last()), [0x30, 0x00, 0x80, 0x46, 0x11, 0x1C, 0x50]);
     for moves in 1..=16 {
         assert_eq!(read_table(&table_image(&braid(moves))), Ok(braid(moves)));
         assert_eq!(read_plain_table(&plain_table(&braid(moves))), Ok(braid(moves)));
@@ -68,7 +97,7 @@ fn other_orders() {
     assert_eq!(orders::reverse(&braid(3), &word, Order::Rightmost, 5), whole);
     assert_eq!(orders::reverse(&braid(3), &word, Order::Random(Random::new(1)), 5), whole);
     assert_eq!(orders::reverse(&braid(3), &word, Order::Rightmost, 4), Ending::AllowanceUsed);
-    let none = Table { moves: 4, pairs: vec![None; 6] };
+    let none = Table::light(4, vec![None; 6]);
     assert_eq!(reversed(&none, &[-1, 2, -3, 4], WIDE), Err(Refusal::at(10, Place::Pair(1, 2))));
     assert_eq!(orders::reverse(&none, &[-1, 2, -3, 4], Order::Rightmost, 5), Ending::Open { a: 3, b: 4, steps: 0 });
 }
@@ -88,38 +117,90 @@ fn what_is_left_to_run() {
     assert_eq!(left(&braid(3), &[1, 2, 1], &[2, 1, 2], 0), Ok((Remainder::Moves(vec![]), 5)));
     assert_eq!(left(&braid(3), &[1], &[2], 0), Ok((Remainder::None, 1)));
     assert_eq!(left(&braid(3), &[1], &[], 0), Ok((Remainder::None, 0)));
-    assert_eq!(left(&Table { moves: 2, pairs: vec![None] }, &[1, 1], &[1, 2], 0), Ok((Remainder::None, 1)));
+    assert_eq!(left(&Table::light(2, vec![None]), &[1, 1], &[1, 2], 0), Ok((Remainder::None, 1)));
 }
 
 #[test]
 fn the_single_entry_is_a_chain() {
     let [first, second] = [[1, 2, 1], [2, 1, 2]].map(|word| program_image(3, &word));
     let entries = chain_image(3, &[Entry { offset: 0, a: 1, b: 2 }]);
+    assert_eq!(entries, [0x00, 0x01, 0x00, 0x00, 0x20]);
     assert_eq!(check(&table_image(&braid(3)), &first, &second, &entries, 3, &mut 0), Ok(Passage::Joins));
 }
 
 #[test]
 fn an_open_pair() {
-    let table = Table { moves: 2, pairs: vec![None] };
+    let table = Table::light(2, vec![None]);
     assert_eq!(reversed(&table, &[-1, 2], WIDE), Err(Refusal::at(10, Place::Pair(1, 2))));
     assert_eq!(compared(&table, &[1], &[2], WIDE), Ok((Verdict::Different, 0)));
 }
 
 #[test]
 fn a_cube_that_fails() {
-    let table = table3([(&[2], &[1]), (&[3], &[1]), (&[1], &[1])]);
-    assert_eq!(cleared(&table, WIDE), Err(Refusal::at(9, Place::Triple(1, 2, 3))));
+    for table in [no_cube(), open_at_last()] {
+        assert_eq!(cleared(&table, WIDE), Err(Refusal::at(9, Place::Triple(1, 2, 3))));
+    }
 }
 
 #[test]
-fn unequal_lengths() {
-    let table = Table { moves: 2, pairs: vec![Some((vec![2, 1], vec![2]))] };
-    assert_eq!(compared(&table, &[1], &[1], WIDE), Err(Refusal::at(8, Place::Pair(1, 2))));
+fn unequal_weights() {
+    for table in [doubled().weighing(vec![1, 1]), completions_alone()] {
+        assert_eq!(compared(&table, &[1], &[1], WIDE), Err(Refusal::at(8, Place::Pair(1, 2))));
+    }
+}
+
+#[test]
+fn weights() {
+    assert_eq!(cleared(&doubled(), Limits { allowance: 0, workspace: 0 }), Ok(()));
+    assert_eq!(read_table(&table_image(&doubled())), Ok(doubled()));
+    assert_eq!(read_plain_table(&plain_table(&doubled())), Ok(doubled()));
+    assert_eq!(compared(&doubled(), &[1, 2, 1], &[2, 2], WIDE), Ok((Verdict::Same, 4)));
+    assert_eq!(compared(&doubled(), &[1, 1], &[2, 2], WIDE), Ok((Verdict::Different, 0)));
+    assert_eq!(compared(&doubled(), &[1, 1], &[2], WIDE), Ok((Verdict::Different, 3)));
+    assert_eq!(left(&doubled(), &[1, 2], &[2, 2], 1), Ok((Remainder::Moves(vec![1]), 3)));
+    assert_eq!(left(&doubled(), &[2, 2], &[1, 2, 1], 0), Ok((Remainder::Moves(vec![]), 4)));
+    assert_eq!(left(&doubled(), &[2], &[1], 0), Ok((Remainder::None, 0)));
+    assert_eq!(left(&doubled(), &[2], &[1, 1], 0), Ok((Remainder::None, 3)));
+    assert_eq!(compared(&doubled(), &[1, 2, 1], &[2, 2], Limits { workspace: 6, ..WIDE }), Ok((Verdict::Same, 4)));
+    assert_eq!(compared(&doubled(), &[1, 2, 1], &[2, 2], Limits { workspace: 5, ..WIDE }), Err(Refusal::plain(12)));
+}
+
+#[test]
+fn a_word_that_grows() {
+    let [first, second] = [vec![2, 2], vec![1, 2, 1]].map(|word| program_image(2, &word));
+    let entries = chain_image(2, &[Entry { offset: 0, a: 2, b: 1 }]);
+    assert_eq!(entries, [0x00, 0x01, 0x00, 0x01, 0x00]);
+    let checked = |workspace| check(&table_image(&doubled()), &first, &second, &entries, workspace, &mut 0);
+    assert_eq!([4, 3, 2].map(checked), [Ok(Passage::Joins), Ok(Passage::Joins), Err(Refusal::plain(12))]);
+    let listed = |answer| chain(&table_image(&doubled()), &first, &second, WIDE, answer, &mut Most::default());
+    assert_eq!([11, 10].map(listed), [Ok((Verdict::Same, 4)), Err(Refusal::plain(13))]);
+}
+
+#[test]
+fn faults_of_tables() {
+    let refused = |number| Err(Refusal::plain(number));
+    assert_eq!(read_plain_table(&[2, 1, 8, 255]), Ok(Table::light(2, vec![None]).weighing(vec![1, 8])));
+    assert_eq!(read_plain_table(&[2, 1, 9, 255]), refused(2));
+    assert_eq!(read_plain_table(&[2, 0, 1, 255]), refused(2));
+    assert_eq!(read_plain_table(&[2, 0]), refused(2));
+    assert_eq!(read_plain_table(&[2, 9]), refused(2));
+    assert_eq!(read_plain_table(&[2, 1, 1, 16]), refused(2));
+    assert_eq!(read_plain_table(&[3, 1, 1, 1, 2, 1]), refused(1));
+    assert_eq!(read_plain_table(&[2, 1, 1, 0, 255]), refused(2));
+    assert_eq!(read_plain_table(&[2, 1, 1, 255, 0]), refused(3));
+    assert_eq!(read_plain_table(&[2, 1]), refused(1));
+    for (image, number) in [(&[0x20, 0x04, 0xB0], 2), (&[0x20, 0x02, 0x03], 1)] {
+        assert_eq!(read_table(image), refused(number));
+    }
+    for (image, number) in [(0x10, 1), (0x20, 1), (0x01, 3)] {
+        assert_eq!(read_table(&[image]), refused(number));
+    }
+    assert_eq!(read_table(&[0x11, 0xC0]), Ok(Table::light(2, vec![None]).weighing(vec![1, 8])));
 }
 
 #[test]
 fn an_endless_table_is_stopped_at_every_allowance() {
-    let table = table3([(&[2, 1], &[1, 2]), (&[3, 1], &[1, 3]), (&[3, 2], &[2, 3])]);
+    let table = endless();
     for allowance in (0..200).chain([4_095, 20_000, 65_535]) {
         let stopped = cleared(&table, Limits { allowance, ..WIDE });
         assert!(matches!(stopped, Err(Refusal { number: 11 | 12, place: Place::Triple(..) })), "{allowance}: {stopped:?}");
@@ -137,7 +218,7 @@ fn beds() {
     assert_eq!(bed(&table, &program, 1, 16), Ok(vec![1, 2, 4, 3, 0, 0, 0, 0, 0, 0, 0, 0, 0, 0, 255, 255]));
     assert_eq!(bed(&table, &program, 5, 15), Err(Refusal::plain(13)));
     assert_eq!(bed(&[0x00], &[0x00, 0x18], 1, 4), Ok(vec![2, 1, 255, 255]));
-    assert_eq!(bed(&[0x10], &[], 0, 0), Err(Refusal::plain(15)));
+    assert_eq!(bed(&[0x10, 0x00], &[], 0, 0), Err(Refusal::plain(15)));
     let half = program_image(16, &[16; 4_095]);
     let bytes = bed(&table_image(&braid(16)), &half, 5_000, 289).unwrap();
     assert_eq!((&bytes[14..17], &bytes[287..]), (&[15, 17, 16][..], &[0x0F, 0xFF][..]));

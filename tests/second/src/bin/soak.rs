@@ -3,7 +3,7 @@
 //!     soak [--calls N | --minutes M] [--seed S] [--case SEED]
 //!
 //! Cases are numbered from the seed on. A case that fails is printed with its number and bytes; `--case` runs that one again.
-use second::cases::{run, Tally};
+use second::cases::{run, Tally, Weighed};
 use std::process::ExitCode;
 use std::sync::atomic::{AtomicBool, AtomicU64, AtomicUsize, Ordering};
 use std::sync::Mutex;
@@ -65,6 +65,9 @@ fn met(tally: &Tally) -> Vec<String> {
     if tally.orders.0 == 0 || tally.orders.1 == 0 {
         missing.push("no other order was held against an answer, or none against an open pair".into());
     }
+    for what in Weighed::ALL.iter().filter(|what| !tally.weighed.contains_key(what)) {
+        missing.push(format!("weights never led to {what:?}"));
+    }
     missing
 }
 
@@ -110,6 +113,9 @@ fn main() -> ExitCode {
     let (tally, failures) = soak(&plan);
     for ((service, result, value), count) in &tally.results {
         println!("{service:14} {result:2} {value} {count:9}");
+    }
+    for (what, count) in &tally.weighed {
+        println!("{what:?} {count}");
     }
     for failure in &failures {
         println!("DIFFERENCE in {failure}");

@@ -3,7 +3,7 @@ use super::{Case, Held};
 use crate::guarded::{Call, Left};
 use crate::image::{program_image, table_image};
 use crate::table::Table;
-use crate::tables::{any, braid, forward_word, signed_word, walk};
+use crate::tables::{any, braid, forward_word, signed_word, walk, weights};
 use crate::word::{undoing, Word};
 
 impl Case<'_> {
@@ -32,7 +32,7 @@ impl Case<'_> {
 
     fn every_number_of_moves(&mut self, moves: u8) -> Held<()> {
         let length = self.random.pick(&[0, 1, 2, 5, 12, 40]);
-        let table = braid(moves);
+        let table = self.weighed_braid(moves);
         let word = if self.random.once_in(4) { vec![moves as i8; length] } else { signed_word(&mut self.random, moves, length) };
         let exact = (usize::from(moves) + 1).pow(2);
         for k in 0..=word.len() as u64 + 1 {
@@ -43,6 +43,11 @@ impl Case<'_> {
             self.held(&self.made(&table, &word, k), 0, exact)?;
         }
         Ok(())
+    }
+
+    /// The braid table, whatever its moves weigh.
+    fn weighed_braid(&mut self, moves: u8) -> Table {
+        braid(moves).weighing(weights(&mut self.random, moves))
     }
 
     /// The braid table with one completion changed.
