@@ -2,16 +2,16 @@
 -- pairs are undefined. They are what [D1] section 1 asks of a right complement, with the arguments in the order of [D2].
 use mathlib.Core.Path.{_≡_, refl, sym, ap, _∙_}
 use mathlib.Core.Logic.{_≢_}
-use mathlib.Core.List.{[]}
+use mathlib.Core.List.{List, [], _∷_}
 use mathlib.Core.Bool.{Bool, true, false, _&&_, cond}
-use Prim.Native.Nat.{ℕ, _-_, _<_}
+use Prim.Native.Nat.{ℕ, zero, suc, _-_, _<_}
 use native.Mathlib.Omega.{arith}
 use native.Mathlib.Decide.{ℕ-discrete, decLt}
 use lib.Dec.{leb, ltb}
 use lib.ListN.{getD}
 use borrow.Author.Tests.{eq-eqb, ne-eqb, lt-ltb, le-ltb, leb-true}
 use Rattle.model.specs.Word.{Positive}
-use Rattle.model.specs.Range.{InRange}
+use Rattle.model.specs.Range.{InRange, All, Rows, WordInRange, PairInRange, TableInRange}
 use Rattle.model.specs.Presentation.{Presentation, Complement, undefined, complement, swapped, listed, complete}
 use Rattle.model.proofs.Impossible.{impossible}
 
@@ -20,19 +20,19 @@ module _ (T : Presentation) where
   unfolding complete
   complete-same a = ap (λ t. cond t (complement [] []) (cond (ltb a a) (listed T a a) (swapped (listed T a a)))) (eq-eqb a a refl)
 
-  complete-below : {a b : ℕ} → a < b → complete T a b ≡ listed T a b
+  pub complete-below : {a b : ℕ} → a < b → complete T a b ≡ listed T a b
   unfolding complete
   complete-below {a} {b} h =
       ap (λ t. cond t (complement [] []) (cond (ltb a b) (listed T a b) (swapped (listed T b a)))) (ne-eqb a b (omega arith))
       ∙ ap (λ t. cond t (listed T a b) (swapped (listed T b a))) (lt-ltb a b h)
 
-  complete-above : {a b : ℕ} → b < a → complete T a b ≡ swapped (listed T b a)
+  pub complete-above : {a b : ℕ} → b < a → complete T a b ≡ swapped (listed T b a)
   unfolding complete
   complete-above {a} {b} h =
       ap (λ t. cond t (complement [] []) (cond (ltb a b) (listed T a b) (swapped (listed T b a)))) (ne-eqb a b (omega arith))
       ∙ ap (λ t. cond t (listed T a b) (swapped (listed T b a))) (le-ltb a b (omega arith))
 
-swapped-twice : (c : Complement) → swapped (swapped c) ≡ c
+pub swapped-twice : (c : Complement) → swapped (swapped c) ≡ c
 swapped-twice undefined = refl
 swapped-twice (complement x y) = refl
 
@@ -78,3 +78,41 @@ module _ (T : Presentation) where
           let below : b < a = omega arith in
           let r = listed-named {x = y} {y = x} below (sym (complete-below T below) ∙ (complete-turn a b ∙ ap swapped e)) in
           (r .1, r .0)
+
+-- THE LETTERS OF COMPLETIONS
+
+all-at : {A : Type 0} (P : A → Type 0) (d : A) → P d → (xs : List A) → All P xs → (i : ℕ) → P (getD xs i d)
+all-at P d p [] h i = p
+all-at P d p (x ∷ xs) h zero = h .0
+all-at P d p (x ∷ xs) h (suc i) = all-at P d p xs (h .1) i
+
+rows-at : {A : Type 0} (P : A → Type 0) (d : A) → P d → (k : ℕ) (rows : List (List A)) → Rows P k rows → (i j : ℕ) → P (getD (getD rows i []) j d)
+rows-at P d p zero [] h i j = p
+rows-at P d p (suc k) (row ∷ rows) h zero j = all-at P d p row (h .1) j
+rows-at P d p (suc k) (row ∷ rows) h (suc i) j = rows-at P d p k rows (h .2) i j
+
+module _ (T : Presentation) (h : TableInRange T) where
+  listed-in-range : (a b : ℕ) → PairInRange (T .size) (listed T a b)
+  listed-in-range a b = go (leb 1 a && leb b (T .size))
+    where
+      go : (t : Bool) → PairInRange (T .size) (cond t (getD (getD (T .rows) (a - 1) []) (b - a - 1) undefined) undefined)
+      go true = rows-at (PairInRange (T .size)) undefined tt (T .size) (T .rows) (h .pairs) (a - 1) (b - a - 1)
+      go false = tt
+
+  swapped-in-range : (c : Complement) → PairInRange (T .size) c → PairInRange (T .size) (swapped c)
+  swapped-in-range undefined p = tt
+  swapped-in-range (complement x y) p = (p .1, p .0)
+
+  -- those of a table in range name letters
+  pub complete-in-range : (a b : ℕ) → PairInRange (T .size) (complete T a b)
+  complete-in-range a b = go (ℕ-discrete a b) (decLt a b)
+    where
+      none : WordInRange (T .size) []
+      none = record { short = omega arith; letters = tt }
+
+      go : Dec (a ≡ b) → Dec (a < b) → PairInRange (T .size) (complete T a b)
+      go (yes e) _ = rw (← e, complete-same T a) (none, none)
+      go (no d) (yes l) = rw (complete-below T l) (listed-in-range a b)
+      go (no d) (no l) =
+          let below : b < a = omega arith in
+          rw (complete-above T below) (swapped-in-range (listed T b a) (listed-in-range b a))

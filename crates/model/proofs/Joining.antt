@@ -24,7 +24,7 @@ pub record Chain (T : Presentation) (u v : Positive) (r : ℕ) : Type 0 where
 
 module _ (T : Presentation) where
   -- a step on a and a changes nothing
-  idle : {u v : Positive} (s : Swap (complete T) u v) → s .a ≡ s .b → u ≡ v
+  pub idle : {u v : Positive} (s : Swap (complete T) u v) → s .a ≡ s .b → u ≡ v
   idle s h =
       let empty : complete T (s .a) (s .b) ≡ complement [] [] = rw (← h) (complete-same T (s .a)) in
       let rule = s .rule in

@@ -1,5 +1,6 @@
 pub mod Impossible
 pub mod Complete
+pub mod Mirrors
 pub mod Count
 pub mod Words
 pub mod Leftmost
@@ -17,3 +18,4 @@ pub mod Fitted
 pub mod Positions
 pub mod Beds
 pub mod BedCases
+pub mod MirrorCases

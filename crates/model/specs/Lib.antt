@@ -11,6 +11,7 @@ pub mod Range
 pub mod Plain
 pub mod Services
 pub mod Bed
+pub mod Mirror
 pub mod Areas
 pub mod Stated
 pub mod Refusals

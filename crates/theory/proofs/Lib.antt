@@ -1,12 +1,14 @@
 pub mod Reduction
 pub mod Descent
 pub mod Orders
+pub mod Mirroring
 pub mod Grid
 pub mod Diagram
 pub mod Completeness
 pub mod Cancelling
 pub mod Residuals
 pub mod Enumerated
+pub mod Backward
 pub mod Braiding
 pub mod Crossings
 pub mod Beds
