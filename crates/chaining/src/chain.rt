@@ -21,7 +21,7 @@ use loading::loading::read_programs;
 use model::answers::Compared;
 use model::answers::Refusal;
 
-// Two accepted forward programs under a table that was loaded. The workspace is wiped, unless the length check refused.
+// Two accepted forward programs under a table that was loaded. The workspace is wiped, unless the weight check refused.
 pub fn chain_programs(
     cells: &[u8],
     size: u8,

@@ -180,10 +180,10 @@ programs =
     (compare braidBytes [] firstBytes 65535 32768 gives refused 4 []) ∷
     (compare braidBytes (pattern 3 []) firstBytes 65535 32768 gives refused 7 []) ∷ []
 
--- Compare and chain: unequal lengths, stops, and the area of a chain.
+-- Compare and chain: unequal weights, stops, and the area of a chain.
 abbrev pub comparisons : List {1} Case
 comparisons =
-    -- programs of different lengths: 0 steps, but only after the table clears
+    -- programs of different weights: 0 steps, but only after the table clears
     (compare braidBytes (pattern 3 (1 ∷ [])) (pattern 3 []) 65535 32768 gives answered (different-after 0)) ∷
     (compare (image broken3) (pattern 3 (1 ∷ [])) (pattern 3 []) 65535 32768 gives refused 9 (1 ∷ 2 ∷ 3 ∷ [])) ∷
     -- 11 and 12 of the programs come with no numbers
