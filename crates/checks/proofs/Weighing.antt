@@ -1,24 +1,19 @@
 -- The weight of a side of a relation, from the cells: that of its first letter, then of one letter of the completion after the other.
 use mathlib.Core.Path.{_≡_, sym, ap, subst, _∙_}
-use mathlib.Core.List.{List, [], _∷_, _++_}
-use Prim.Native.Nat.{ℕ, zero, suc, _+_, _≤_, _<_}
+use mathlib.Core.List.{List, _∷_}
+use Prim.Native.Nat.{ℕ, suc, _+_, _≤_, _<_}
 use native.Mathlib.Omega.{arith}
-use native.Mathlib.Numerals.{add-one}
 use lib.ListN.{length, take, getD}
-use lib.Seq.{take-suc, take-all}
+use lib.Seq.{take-all}
 use Rattle.model.specs.Word.{Positive}
 use Rattle.model.specs.Presentation.{Presentation, complement, complete, weightOf, weigh}
-use Rattle.model.specs.Range.{All, InRange}
-use Rattle.model.proofs.Equiv.{total-append}
+use Rattle.model.specs.Range.{InRange}
+use Rattle.model.proofs.Equiv.{total-more}
+use Rattle.model.proofs.Complete.{all-at}
 use Rattle.cells.specs.Layout.{cellAt, weightAt}
 use Rattle.cells.specs.Stands.{HoldsWord, HoldsFirst, Of}
 use Rattle.cells.proofs.Rules.{Rule, word-cell, held-weight, light-letter}
 use Rattle.checks.specs.Table.{Related}
-
-all-in : (n : ℕ) (x : Positive) (k : ℕ) → All (InRange n) x → k < length x → InRange n (getD x k 0)
-all-in n [] k p h = absurd (omega arith)
-all-in n (a ∷ x) zero p h = p .0
-all-in n (a ∷ x) (suc k) p h = all-in n x k (p .1) (omega arith)
 
 module _ (cells : List ℕ) (size : ℕ) (T : Presentation) (o : Of cells size T) (a b : ℕ) (r : Related cells size a b) where
   abbrev named : {c : ℕ} → InRange size c → InRange (T .size) c
@@ -49,7 +44,7 @@ module _ (cells : List ℕ) (size : ℕ) (T : Presentation) (o : Of cells size T
 
     pub side-letter : (k : ℕ) → k < length x → InRange size (getD cells (cellAt a b + 1 + k) 0)
     side-letter k h =
-        subst (InRange size) (sym (completion .letters k h)) (subst (λ n. InRange n (getD x k 0)) (o .sized) (all-in (T .size) x k (completion .in-range .letters) h))
+        subst (InRange size) (sym (completion .letters k h)) (subst (λ n. InRange n (getD x k 0)) (o .sized) (all-at (InRange (T .size)) x k 0 (completion .in-range .letters) h))
 
     -- the first letter, and one letter more
     pub side-begun : suc (getD cells (weightAt a) 0) ≡ weigh T (a ∷ take 0 x)
@@ -59,8 +54,7 @@ module _ (cells : List ℕ) (size : ℕ) (T : Presentation) (o : Of cells size T
         → weigh T (a ∷ take k x) + suc (getD cells (weightAt (getD cells (cellAt a b + 1 + k) 0)) 0) ≡ weigh T (a ∷ take (k + 1) x)
     side-more k h =
         let next : suc (getD cells (weightAt (getD cells (cellAt a b + 1 + k) 0)) 0) ≡ weightOf T (getD x k 0) = letter-held (side-letter k h) ∙ ap (weightOf T) (completion .letters k h) in
-        let taken : take (k + 1) x ≡ take k x ++ (getD x k 0 ∷ []) = ap (λ i. take i x) (add-one k) ∙ take-suc x k 0 h in
-        omega (arith, next, ap (weigh T) taken, total-append (weightOf T) (take k x) (getD x k 0 ∷ []))
+        omega (arith, next, total-more (weightOf T) x k h)
 
     pub side-whole : (k : ℕ) → length x ≤ k → weigh T (a ∷ take k x) ≡ weigh T (a ∷ x)
     side-whole k h = ap (λ l. weigh T (a ∷ l)) (take-all k x h)

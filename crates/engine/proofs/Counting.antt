@@ -8,16 +8,11 @@ use lib.ListN.{length, take, getD, length-append, length-take, length-reverse}
 use lib.Seq.{take-suc, length-take-le}
 use Rattle.model.specs.Word.{Letter, forward, back, Word, forwards, backs, letter, positive, negative}
 use Rattle.model.specs.Reversing.{ended, site}
-use Rattle.model.proofs.Words.{site-fraction}
+use Rattle.model.proofs.Words.{forwards-append, site-fraction}
 use Rattle.engine.specs.Gap.{letters, AtEnd}
 use Rattle.engine.specs.Run.{LeavesWord}
 use Rattle.engine.proofs.Letters.{letter-forward, letter-back, letters-append, letters-cons, letters-nil, length-letters}
 use Rattle.engine.proofs.AtGap.{end-word}
-
-forwards-append : (u v : Word) → forwards (u ++ v) ≡ forwards u ++ forwards v
-forwards-append [] v = refl
-forwards-append (forward a ∷ u) v = ap (λ w. a ∷ w) (forwards-append u v)
-forwards-append (back a ∷ u) v = forwards-append u v
 
 module _ (bytes : List ℕ) (i : ℕ) (h : i < length bytes) where
   one-more : letters (take (i + 1) bytes) ≡ letters (take i bytes) ++ (letter (getD bytes i 0) ∷ [])

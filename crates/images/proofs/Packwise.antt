@@ -18,7 +18,7 @@ use Rattle.cells.specs.Stands.{HoldsWord}
 use Rattle.cells.specs.Layout.{cellAt}
 use Rattle.images.specs.Tables.{HoldsPair}
 use Rattle.images.specs.Bitwise.{AppendedTo}
-use Rattle.images.proofs.Several.{all-at}
+use Rattle.model.proofs.Complete.{all-at}
 use Rattle.images.proofs.Appending.{concat-append}
 use Rattle.bits.proofs.Appending.{appended-field, appended-none, appended-more}
 

@@ -5,7 +5,6 @@ use Prim.Native.Nat.{ℕ, zero, suc, _+_, _*_, _<_}
 use native.Mathlib.Omega.{arith}
 use native.Mathlib.Nat.{suc-mul, zero-mul}
 use lib.ListN.{length, drop, getD}
-use Rattle.model.specs.Range.{All}
 use Rattle.model.specs.Outcome.{Outcome, answered, refused, _>>=_}
 use Rattle.model.specs.Bits.{Read}
 use Rattle.model.specs.Images.{several, rowsOf}
@@ -21,12 +20,6 @@ same-answer x y e = cc
 pub bind-assoc : {A B C : Type 0} (o : Outcome A) (f : A → Outcome B) (g : B → Outcome C) → ((o >>= f) >>= g) ≡ (o >>= λ x. f x >>= g)
 bind-assoc (answered x) f g = refl
 bind-assoc (refused n ps) f g = refl
-
--- what holds of all holds of each
-pub all-at : {A : Type 0} (P : A → Type 0) (xs : List A) (i : ℕ) (d : A) → All P xs → i < length xs → P (getD xs i d)
-all-at P [] i d a h = absurd (omega arith)
-all-at P (x ∷ xs) zero d a h = a .0
-all-at P (x ∷ xs) (suc i) d a h = all-at P xs i d (a .1) (omega arith)
 
 -- what is left to read, after values that were read
 unfoldable pub after : {A : Type 0} → List A → Outcome (Read (List A)) → Outcome (Read (List A))

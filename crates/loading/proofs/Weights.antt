@@ -1,15 +1,14 @@
 -- A program's weight, one letter of its image after the other.
 use mathlib.Core.Path.{_≡_, refl, sym, ap, subst, _∙_}
-use mathlib.Core.List.{List, [], _∷_, _++_}
+use mathlib.Core.List.{List, [], _∷_}
 use Prim.Native.Nat.{ℕ, zero, suc, _+_, _≤_, _<_}
 use native.Mathlib.Omega.{arith}
-use native.Mathlib.Numerals.{add-one}
 use lib.ListN.{length, take, getD}
-use lib.Seq.{take-suc, take-all}
+use lib.Seq.{take-all}
 use Rattle.model.specs.Word.{Positive, forward, positive, byte}
 use Rattle.model.specs.Presentation.{Presentation, weightOf, weigh}
 use Rattle.model.specs.Range.{InRange, Lettered}
-use Rattle.model.proofs.Equiv.{total-append}
+use Rattle.model.proofs.Equiv.{total-more}
 use Rattle.cells.specs.Layout.{weightAt}
 use Rattle.cells.specs.Stands.{Of}
 use Rattle.cells.proofs.Rules.{held-weight, light-letter}
@@ -59,8 +58,7 @@ module _ (cells : List ℕ) (size : ℕ) (program : List ℕ) (count : ℕ) (T :
     pub weight-more : weigh T (take i (f .word)) + suc (getD cells (weightAt (getD (f .word) i 0)) 0) ≡ weigh T (take (i + 1) (f .word))
     weight-more =
         let next = held-weight cells T (o .stands) (getD (f .word) i 0) named in
-        let taken : take (i + 1) (f .word) ≡ take i (f .word) ++ (getD (f .word) i 0 ∷ []) = ap (λ k. take k (f .word)) (add-one i) ∙ take-suc (f .word) i 0 within in
-        omega (arith, next, ap (weigh T) taken, total-append (weightOf T) (take i (f .word)) (getD (f .word) i 0 ∷ []))
+        omega (arith, next, total-more (weightOf T) (f .word) i within)
 
   pub weight-whole : (i : ℕ) → count ≤ i → weigh T (take i (f .word)) ≡ weigh T (f .word)
   weight-whole i h = ap (weigh T) (take-all i (f .word) (omega (arith, f .count-is)))

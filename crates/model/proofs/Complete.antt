@@ -8,7 +8,7 @@ use Prim.Native.Nat.{ℕ, zero, suc, _-_, _<_}
 use native.Mathlib.Omega.{arith}
 use native.Mathlib.Decide.{ℕ-discrete, decLt}
 use lib.Dec.{leb, ltb}
-use lib.ListN.{getD}
+use lib.ListN.{length, getD}
 use borrow.Author.Tests.{eq-eqb, ne-eqb, lt-ltb, le-ltb, leb-true}
 use Rattle.model.specs.Word.{Positive}
 use Rattle.model.specs.Range.{InRange, All, Rows, WordInRange, PairInRange, TableInRange}
@@ -81,14 +81,21 @@ module _ (T : Presentation) where
 
 -- THE LETTERS OF COMPLETIONS
 
-all-at : {A : Type 0} (P : A → Type 0) (d : A) → P d → (xs : List A) → All P xs → (i : ℕ) → P (getD xs i d)
-all-at P d p [] h i = p
-all-at P d p (x ∷ xs) h zero = h .0
-all-at P d p (x ∷ xs) h (suc i) = all-at P d p xs (h .1) i
+-- what holds of all holds of each
+pub all-at : {A : Type 0} (P : A → Type 0) (xs : List A) (i : ℕ) (d : A) → All P xs → i < length xs → P (getD xs i d)
+all-at P [] i d a h = absurd (omega arith)
+all-at P (x ∷ xs) zero d a h = a .0
+all-at P (x ∷ xs) (suc i) d a h = all-at P xs i d (a .1) (omega arith)
+
+-- also past the end, where it holds of what stands there
+all-default : {A : Type 0} (P : A → Type 0) (d : A) → P d → (xs : List A) → All P xs → (i : ℕ) → P (getD xs i d)
+all-default P d p [] h i = p
+all-default P d p (x ∷ xs) h zero = h .0
+all-default P d p (x ∷ xs) h (suc i) = all-default P d p xs (h .1) i
 
 rows-at : {A : Type 0} (P : A → Type 0) (d : A) → P d → (k : ℕ) (rows : List (List A)) → Rows P k rows → (i j : ℕ) → P (getD (getD rows i []) j d)
 rows-at P d p zero [] h i j = p
-rows-at P d p (suc k) (row ∷ rows) h zero j = all-at P d p row (h .1) j
+rows-at P d p (suc k) (row ∷ rows) h zero j = all-default P d p row (h .1) j
 rows-at P d p (suc k) (row ∷ rows) h (suc i) j = rows-at P d p k rows (h .2) i j
 
 module _ (T : Presentation) (h : TableInRange T) where

@@ -2,9 +2,11 @@
 -- It is a congruence ([D1] section 1), and keeps a weight of letters where relations do: the norm that [D1] Lemma 1.4 asks for.
 use mathlib.Core.Path.{_≡_, refl, sym, ap, _∙_}
 use mathlib.Core.List.{[], _∷_, _++_, append-assoc}
-use Prim.Native.Nat.{ℕ, _+_, _≤_}
+use Prim.Native.Nat.{ℕ, _+_, _≤_, _<_}
 use native.Mathlib.Omega.{arith}
-use lib.ListN.{length}
+use native.Mathlib.Numerals.{add-one}
+use lib.ListN.{length, take, getD}
+use lib.Seq.{take-suc}
 use Rattle.model.specs.Word.{Positive}
 use Rattle.model.specs.Presentation.{Complement, complement, swapped, total}
 use Rattle.model.specs.Reversing.{count}
@@ -144,6 +146,12 @@ length-total weight weighs (a ∷ u) = omega (arith, weighs a, length-total weig
 pub total-append : (weight : ℕ → ℕ) (u v : Positive) → total weight (u ++ v) ≡ total weight u + total weight v
 total-append weight [] v = omega arith
 total-append weight (a ∷ u) v = omega (arith, total-append weight u v)
+
+-- one letter more
+pub total-more : (weight : ℕ → ℕ) (u : Positive) (k : ℕ) → k < length u → total weight (take (k + 1) u) ≡ total weight (take k u) + weight (getD u k 0)
+total-more weight u k h =
+    let taken : take (k + 1) u ≡ take k u ++ (getD u k 0 ∷ []) = ap (λ i. take i u) (add-one k) ∙ take-suc u k 0 h in
+    omega (arith, ap (total weight) taken, total-append weight (take k u) (getD u k 0 ∷ []))
 
 -- both sides of every relation weigh the same
 abbrev pub Homogeneous : (ℕ → ℕ) → (ℕ → ℕ → Complement) → Type 0

@@ -1,4 +1,5 @@
 pub mod Impossible
+pub mod Booleans
 pub mod Complete
 pub mod Mirrors
 pub mod Count

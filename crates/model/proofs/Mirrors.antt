@@ -15,17 +15,9 @@ use Rattle.model.specs.Enumeration.{range, Two, pairs}
 use Rattle.model.specs.Mirror.{FromEnd, fromEnd, endingIn, relationEnding, orElse, found, backward, mirror, names, leftComplete}
 use Rattle.model.proofs.Complete.{complete-same, complete-below, complete-above, swapped-twice}
 use Rattle.model.proofs.Impossible.{impossible}
+use Rattle.model.proofs.Booleans.{both-true, both, second-false}
 
 -- THE PAIR THE OTHER WAY ROUND
-
-pub and-true : (s t : Bool) → s && t ≡ true → (s ≡ true) × (t ≡ true)
-and-true true true e = (refl, refl)
-and-true true false e = impossible (cc)
-and-true false t e = impossible (cc)
-
-false-second : (s : Bool) → s && false ≡ false
-false-second true = refl
-false-second false = refl
 
 either-turned : (s t : Bool) (u v : Positive) → (s ≡ true → t ≡ true → ⊥)
     → cond t (complement u v) (cond s (complement v u) undefined) ≡ swapped (cond s (complement u v) (cond t (complement v u) undefined))
@@ -38,8 +30,8 @@ ending-turned : (p q : ℕ) → p ≢ q → (u v : FromEnd) → endingIn q p u v
 ending-turned p q d u v =
     either-turned (eqb (u .last) p && eqb (v .last) q) (eqb (u .last) q && eqb (v .last) p) (u .before) (v .before)
     (λ e f.
-    let at-p = eqb-true (u .last) p (and-true (eqb (u .last) p) (eqb (v .last) q) e .0) in
-    let at-q = eqb-true (u .last) q (and-true (eqb (u .last) q) (eqb (v .last) p) f .0) in
+    let at-p = eqb-true (u .last) p (both-true (eqb (u .last) p) (eqb (v .last) q) e .0) in
+    let at-q = eqb-true (u .last) q (both-true (eqb (u .last) q) (eqb (v .last) p) f .0) in
     d (sym at-p ∙ at-q))
 
 relation-turned : (p q : ℕ) → p ≢ q → (a b : ℕ) (c : Complement) → relationEnding q p a b c ≡ swapped (relationEnding p q a b c)
@@ -89,7 +81,7 @@ module _ (T : Presentation) where
 
   -- LEFT COMPLETIONS
 
-  pub left-same : (p : ℕ) → leftComplete T p p ≡ complement [] []
+  left-same : (p : ℕ) → leftComplete T p p ≡ complement [] []
   unfolding leftComplete
   left-same p = ap (λ t. cond t (complement [] []) (cond (names T p && names T p) (found T p p (pairs (T .size))) undefined)) (eq-eqb p p refl)
 
@@ -100,17 +92,17 @@ module _ (T : Presentation) where
       ∙ ap (λ t. cond t (found T p q (pairs (T .size))) undefined) e
 
   named : (p : ℕ) → 1 ≤ p → p ≤ T .size → names T p ≡ true
-  named p low high = ap₂ (λ s t. s && t) (le-leb 1 p low) (le-leb p (T .size) high)
+  named p low high = both (le-leb 1 p low) (le-leb p (T .size) high)
 
   zero-unnamed : (p : ℕ) → p < 1 → names T p ≡ false
   zero-unnamed p h = ap (λ s. s && leb p (T .size)) (lt-leb 1 p h)
 
   large-unnamed : (p : ℕ) → T .size < p → names T p ≡ false
-  large-unnamed p h = ap (λ t. leb 1 p && t) (lt-leb p (T .size) h) ∙ false-second (leb 1 p)
+  large-unnamed p h = second-false (leb 1 p) (lt-leb p (T .size) h)
 
   -- of two different letters, the lower first
   pub left-found : (p q : ℕ) → 1 ≤ p → p ≤ T .size → 1 ≤ q → q ≤ T .size → p ≢ q → leftComplete T p q ≡ found T p q (pairs (T .size))
-  left-found p q low-p high-p low-q high-q d = left-by p q d (ap₂ (λ s t. s && t) (named p low-p high-p) (named q low-q high-q))
+  left-found p q low-p high-p low-q high-q d = left-by p q d (both (named p low-p high-p) (named q low-q high-q))
 
   left-outside : (p q : ℕ) → p ≢ q → names T p && names T q ≡ false → leftComplete T p q ≡ undefined
   left-outside p q d e = left-by p q d e
@@ -125,8 +117,8 @@ module _ (T : Presentation) where
           listed-outside p q (ap (λ s. s && leb q (T .size)) (lt-leb 1 p (omega arith)))
           ∙ ap backward (sym (left-outside p q (omega arith) (ap (λ s. s && names T q) (zero-unnamed p (omega arith)))))
       go (yes l) (no g) =
-          listed-outside p q (ap (λ t. leb 1 p && t) (lt-leb q (T .size) (omega arith)) ∙ false-second (leb 1 p))
-          ∙ ap backward (sym (left-outside p q (omega arith) (ap (λ t. names T p && t) (large-unnamed q (omega arith)) ∙ false-second (names T p))))
+          listed-outside p q (second-false (leb 1 p) (lt-leb q (T .size) (omega arith)))
+          ∙ ap backward (sym (left-outside p q (omega arith) (second-false (names T p) (large-unnamed q (omega arith)))))
 
   left-turned : (p q : ℕ) → p ≢ q → leftComplete T q p ≡ swapped (leftComplete T p q)
   left-turned p q d = go (names T p) (names T q) refl refl
@@ -138,7 +130,7 @@ module _ (T : Presentation) where
       go true false e f =
           left-by q p (λ h. d (sym h)) (ap₂ (λ s t. s && t) f e) ∙ ap swapped (sym (left-by p q d (ap₂ (λ s t. s && t) e f)))
       go false t e f =
-          left-by q p (λ h. d (sym h)) (ap₂ (λ s t. s && t) f e ∙ false-second t) ∙ ap swapped (sym (left-by p q d (ap₂ (λ s t. s && t) e f)))
+          left-by q p (λ h. d (sym h)) (second-false (names T q) e) ∙ ap swapped (sym (left-by p q d (ap₂ (λ s t. s && t) e f)))
 
   -- the mirror's completions of q and p are V and U, read backward
   pub mirror-complete : (p q : ℕ) → complete (mirror T) q p ≡ backward (swapped (leftComplete T p q))

@@ -1,11 +1,28 @@
 -- Laws of signed words: inverses of positive words, and where the leftmost site is. A word without a site is N followed by the inverse of D,
 -- in one way: specification 3.3, and [D1] section 1 on R-irreducible words.
 use mathlib.Core.Path.{_≡_, refl, sym, ap, _∙_}
-use mathlib.Core.List.{[], _∷_, _++_, map, reverse, append-nil, reverse-cons, reverse-append, reverse-reverse, map-append}
+use mathlib.Core.List.{List, [], _∷_, _++_, map, reverse, append-nil, reverse-cons, reverse-append, reverse-reverse, map-append}
 use Prim.Native.Nat.{ℕ}
 use Rattle.model.specs.Word.{Letter, forward, back, Word, Positive, flip, positive, negative, forwards, backs}
 use Rattle.model.specs.Reversing.{Site, nowhere, at, beyond, siteAfter, site}
 use Rattle.model.proofs.Impossible.{impossible}
+
+-- SIGNS APART, AND LETTERS FROM THE END
+
+pub forwards-append : (v w : Word) → forwards (v ++ w) ≡ forwards v ++ forwards w
+forwards-append [] w = refl
+forwards-append (forward a ∷ v) w = ap (λ u. a ∷ u) (forwards-append v w)
+forwards-append (back a ∷ v) w = forwards-append v w
+
+pub backs-append : (v w : Word) → backs (v ++ w) ≡ backs v ++ backs w
+backs-append [] w = refl
+backs-append (forward a ∷ v) w = backs-append v w
+backs-append (back a ∷ v) w = ap (λ u. a ∷ u) (backs-append v w)
+
+pub map-reverse : {A B : Type 0} (h : A → B) (l : List A) → map h (reverse l) ≡ reverse (map h l)
+map-reverse h [] = refl
+map-reverse h (x ∷ l) =
+    ap (map h) (reverse-cons x l) ∙ (map-append h (reverse l) (x ∷ []) ∙ (ap (λ m. m ++ (h x ∷ [])) (map-reverse h l) ∙ sym (reverse-cons (h x) (map h l))))
 
 -- INVERSES
 

@@ -7,6 +7,7 @@ use lib.ListN.{length, take, drop, length-append, length-drop, take-append-drop}
 use lib.Seq.{take-add, take-at, drop-at, length-take-le}
 use Rattle.model.specs.Word.{forward, back, Word, Positive, flip, inverse, positive, negative}
 use Rattle.model.specs.Areas.{begins}
+use Rattle.model.proofs.Words.{map-reverse}
 use Rattle.engine.specs.Gap.{letters}
 use Rattle.engine.proofs.Letters.{letters-append, letters-forward, length-letters}
 use Rattle.engine.proofs.Lettering.{length-positive}
@@ -18,15 +19,8 @@ flip-flip [] = refl
 flip-flip (forward a ∷ w) = ap (λ v. forward a ∷ v) (flip-flip w)
 flip-flip (back a ∷ w) = ap (λ v. back a ∷ v) (flip-flip w)
 
-map-reverse : (w : Word) → map flip (reverse w) ≡ reverse (map flip w)
-map-reverse w = reversed-onto w []
-  where
-    reversed-onto : (u v : Word) → map flip (mathlib.Core.List.reverseAux u v) ≡ mathlib.Core.List.reverseAux (map flip u) (map flip v)
-    reversed-onto [] v = refl
-    reversed-onto (x ∷ u) v = reversed-onto u (x ∷ v)
-
 pub inverse-inverse : (w : Word) → inverse (inverse w) ≡ w
-inverse-inverse w = ap reverse (map-reverse (map flip w)) ∙ (reverse-reverse (map flip (map flip w)) ∙ flip-flip w)
+inverse-inverse w = ap reverse (map-reverse flip (map flip w)) ∙ (reverse-reverse (map flip (map flip w)) ∙ flip-flip w)
 
 module _ (word before mid part after : List ℕ) (n d : ℕ) (inside : n + d ≤ length word) (copied : mid ≡ take (n + d) word ++ drop (n + d) before)
     (p : Inverted (drop n mid) d part) (back : after ≡ take n mid ++ part)

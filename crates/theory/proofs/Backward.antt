@@ -3,7 +3,7 @@
 use mathlib.Core.Path.{_≡_, refl, sym, ap, ap₂, subst, _∙_}
 use mathlib.Core.Logic.{_≢_}
 use mathlib.Core.List.{List, [], _∷_, _++_, reverse, append-assoc, reverse-cons, reverse-append, reverse-reverse, List·Memᴰ, List·Memᴰ·head, List·Memᴰ·tail}
-use mathlib.Core.Bool.{Bool, true, false, _&&_, _||_, cond}
+use mathlib.Core.Bool.{Bool, true, false, _&&_, cond}
 use Prim.Native.Nat.{ℕ, _<_}
 use native.Mathlib.Omega.{arith}
 use native.Mathlib.Decide.{ℕ-discrete, decLt}
@@ -17,8 +17,9 @@ use Rattle.model.specs.Range.{InRange, All, PairInRange, TableInRange}
 use Rattle.model.specs.Outcome.{answered, refused}
 use Rattle.model.specs.Mirror.{FromEnd, fromEnd, endingIn, relationEnding, orElse, found, backward, mirror, isDefined, offending, mirrored, mirrorCheck, leftComplete}
 use Rattle.model.proofs.Impossible.{impossible}
+use Rattle.model.proofs.Booleans.{both-true, neither-true}
 use Rattle.model.proofs.Complete.{complete-turn, complete-named, complete-in-range}
-use Rattle.model.proofs.Mirrors.{and-true, left-found, left-defined, mirror-different}
+use Rattle.model.proofs.Mirrors.{left-found, left-defined, mirror-different}
 use Rattle.model.proofs.Equiv.{Equiv, Swap, done, step, trans, one, by-eq}
 use Rattle.model.proofs.Joining.{idle, joined-equiv, equiv-joined}
 use Rattle.theory.specs.Mirrors.{JoinedBackward}
@@ -62,7 +63,7 @@ module _ (T : Presentation) (p q : ℕ) (u v : Positive) where
           → cond s (complement (fromEnd a x .before) (fromEnd b y .before)) (cond t (complement (fromEnd b y .before) (fromEnd a x .before)) undefined) ≡ complement u v
           → Sides T u p v q
       go true t f g h =
-          let ends = and-true (eqb (fromEnd a x .last) p) (eqb (fromEnd b y .last) q) f in
+          let ends = both-true (eqb (fromEnd a x .last) p) (eqb (fromEnd b y .last) q) f in
           let at-p : fromEnd a x .last ≡ p = eqb-true (fromEnd a x .last) p (ends .0) in
           let at-q : fromEnd b y .last ≡ q = eqb-true (fromEnd b y .last) q (ends .1) in
           let u≡ : fromEnd a x .before ≡ u = cc in
@@ -77,7 +78,7 @@ module _ (T : Presentation) (p q : ℕ) (u v : Positive) where
             right = from-end b y ∙ ap₂ (λ w l. w ++ (l ∷ [])) v≡ at-q;
           }
       go false true f g h =
-          let ends = and-true (eqb (fromEnd a x .last) q) (eqb (fromEnd b y .last) p) g in
+          let ends = both-true (eqb (fromEnd a x .last) q) (eqb (fromEnd b y .last) p) g in
           let at-q : fromEnd a x .last ≡ q = eqb-true (fromEnd a x .last) q (ends .0) in
           let at-p : fromEnd b y .last ≡ p = eqb-true (fromEnd b y .last) p (ends .1) in
           let u≡ : fromEnd b y .before ≡ u = cc in
@@ -138,10 +139,6 @@ not-defined : (c : Complement) → isDefined c ≡ false → c ≡ undefined
 not-defined undefined e = refl
 not-defined (complement x y) e = impossible (cc)
 
-or-false : (s t : Bool) → s || t ≡ false → (s ≡ false) × (t ≡ false)
-or-false true t e = impossible (cc)
-or-false false t e = (refl, e)
-
 ending-own : (u v : FromEnd) → endingIn (u .last) (v .last) u v ≡ complement (u .before) (v .before)
 ending-own u v =
     ap₂ (λ s t. cond (s && t) (complement (u .before) (v .before)) (cond (eqb (u .last) (v .last) && eqb (v .last) (u .last)) (complement (v .before) (u .before)) undefined))
@@ -168,7 +165,7 @@ module _ (T : Presentation) where
   own-first earlier r rs {x} {y} rule h =
       let u = fromEnd (r .a) x in
       let v = fromEnd (r .b) y in
-      let parts = or-false (eqb (u .last) (v .last)) (isDefined (found T (u .last) (v .last) earlier)) (ap (offending T earlier (r .a) (r .b)) (sym rule) ∙ h) in
+      let parts = neither-true (eqb (u .last) (v .last)) (isDefined (found T (u .last) (v .last) earlier)) (ap (offending T earlier (r .a) (r .b)) (sym rule) ∙ h) in
       let none : found T (u .last) (v .last) earlier ≡ undefined = not-defined (found T (u .last) (v .last) earlier) (parts .1) in
       record {
         apart = eqb-false (u .last) (v .last) (parts .0);

@@ -13,23 +13,13 @@ use Rattle.model.specs.Enumeration.{Two, pairs}
 use Rattle.model.specs.Range.{InRange}
 use Rattle.model.specs.Bed.{braidWord, hasWords, every, braidPair, isBraid}
 use Rattle.model.proofs.Impossible.{impossible}
+use Rattle.model.proofs.Booleans.{both-true, both, second-false}
 use Rattle.model.proofs.Complete.{complete-turn}
 use Rattle.model.proofs.Positions.{rowOf, rowsFrom}
 use Rattle.model.proofs.Entries.{equal-same, equal-true}
 use Rattle.theory.proofs.Enumerated.{pairs-have}
 
 -- A TEST OF EVERY ELEMENT
-
-both-true : (s t : Bool) → s && t ≡ true → (s ≡ true) × (t ≡ true)
-both-true true t e = (refl, e)
-both-true false t e = impossible (cc)
-
-both : {s t : Bool} → s ≡ true → t ≡ true → s && t ≡ true
-both {t} p q = ap (λ s. s && t) p ∙ q
-
-second-false : (s : Bool) {t : Bool} → t ≡ false → s && t ≡ false
-second-false true e = e
-second-false false e = refl
 
 module _ {A : Type 0} (test : A → Bool) where
   every-each : {x : A} {xs : List A} → List·Memᴰ x xs → every test xs ≡ true → test x ≡ true

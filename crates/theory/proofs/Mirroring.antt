@@ -1,7 +1,7 @@
 -- Left reversing is right reversing of the word read backward, under the mirror: the sites correspond, the words after a step correspond, and so
 -- the four endings do.
 use mathlib.Core.Path.{_≡_, refl, sym, ap, ap₂, _∙_}
-use mathlib.Core.List.{List, [], _∷_, _++_, map, reverse, append-assoc, append-nil, reverse-cons, reverse-append, reverse-reverse, map-append}
+use mathlib.Core.List.{[], _∷_, _++_, map, reverse, append-assoc, append-nil, reverse-cons, reverse-append, reverse-reverse}
 use mathlib.Core.Bool.{Bool, true, false, cond}
 use Prim.Native.Nat.{ℕ, zero, suc}
 use lib.Dec.{ltb}
@@ -10,7 +10,7 @@ use Rattle.model.specs.Word.{Letter, forward, back, Word, Positive, flip, posit
 use Rattle.model.specs.Presentation.{Presentation, Complement, undefined, complement, swapped}
 use Rattle.model.specs.Reversing.{Site, nowhere, at, beyond, siteAfter, site, replaced, Next, no-site, blocked, step, byComplement, bySite, next, Ending, finished, stopped, room, ended, count, spent, onward, run, reversing}
 use Rattle.model.specs.Mirror.{backward, mirror, leftOf, leftSite, leftComplete, leftReplaced, leftByComplement, leftBySite, leftNext, leftRun, leftReversing}
-use Rattle.model.proofs.Words.{beyond-at, beyond-nowhere}
+use Rattle.model.proofs.Words.{beyond-at, beyond-nowhere, forwards-append, backs-append, map-reverse}
 use Rattle.model.proofs.Mirrors.{mirror-complete}
 use Rattle.model.proofs.Impossible.{impossible}
 use Rattle.theory.specs.Mirrors.{readBackward, LeftIsRight}
@@ -81,16 +81,11 @@ one-more (forward a) (back b ∷ s) nowhere e h =
 one-more (forward a) (forward b ∷ s) nowhere e h =
     ap (λ v. site (v ++ (forward a ∷ []))) (reverse-cons (forward b) s) ∙ passes (reverse s) b a (ap site (sym (reverse-cons (forward b) s)) ∙ h)
 
-pub sites-correspond : (w : Word) → site (reverse w) ≡ turned (leftSite w)
+sites-correspond : (w : Word) → site (reverse w) ≡ turned (leftSite w)
 sites-correspond [] = refl
 sites-correspond (x ∷ w) = ap site (reverse-cons x w) ∙ one-more x w (leftSite w) refl (sites-correspond w)
 
 -- THE WORDS AFTER A STEP CORRESPOND
-
-map-reverse : {A B : Type 0} (h : A → B) (l : List A) → map h (reverse l) ≡ reverse (map h l)
-map-reverse h [] = refl
-map-reverse h (x ∷ l) =
-    ap (map h) (reverse-cons x l) ∙ (map-append h (reverse l) (x ∷ []) ∙ (ap (λ m. m ++ (h x ∷ [])) (map-reverse h l) ∙ sym (reverse-cons (h x) (map h l))))
 
 positive-backward : (v : Positive) → reverse (positive v) ≡ positive (reverse v)
 positive-backward v = sym (map-reverse forward v)
@@ -101,7 +96,7 @@ negative-backward u =
     ∙ (sym (reverse-reverse (map flip (positive u)))
     ∙ (ap reverse (sym (map-reverse flip (positive u))) ∙ ap (λ w. reverse (map flip w)) (positive-backward u)))
 
-pub steps-correspond : (p : Word) (u v : Positive) (s : Word)
+steps-correspond : (p : Word) (u v : Positive) (s : Word)
     → reverse (leftReplaced p u v s) ≡ replaced (reverse s) (reverse v) (reverse u) (reverse p)
 steps-correspond p u v s =
     reverse-append p (negative u ++ (positive v ++ s))
@@ -132,16 +127,6 @@ module _ (T : Presentation) where
   next-backward w = ap (bySite (mirror T)) (sites-correspond w) ∙ by-site (leftSite w)
 
 -- THE ENDINGS
-
-forwards-append : (v w : Word) → forwards (v ++ w) ≡ forwards v ++ forwards w
-forwards-append [] w = refl
-forwards-append (forward a ∷ v) w = ap (λ u. a ∷ u) (forwards-append v w)
-forwards-append (back a ∷ v) w = forwards-append v w
-
-backs-append : (v w : Word) → backs (v ++ w) ≡ backs v ++ backs w
-backs-append [] w = refl
-backs-append (forward a ∷ v) w = backs-append v w
-backs-append (back a ∷ v) w = ap (λ u. a ∷ u) (backs-append v w)
 
 forwards-backward : (w : Word) → forwards (reverse w) ≡ reverse (forwards w)
 forwards-backward [] = refl
