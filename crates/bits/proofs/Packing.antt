@@ -1,27 +1,21 @@
 -- Packing bits into bytes: the bytes' bits are those bits, then fewer than eight zero bits. Bytes are told by their bits, so an image is told
 -- by what it holds.
 use mathlib.Core.Path.{_≡_, refl, sym, ap, _∙_}
-use mathlib.Core.Logic.{_⊎_, inl, inr, ⊎-elim}
+use mathlib.Core.Logic.{_⊎_, ⊎-elim}
 use mathlib.Core.List.{List, [], _∷_, _++_, append-assoc, append-nil}
 use mathlib.Core.Bool.{Bool, true, false, _&&_}
 use Prim.Native.Nat.{ℕ, zero, suc, _+_, _-_, _*_, _^_, _≤_, _<_}
 use native.Mathlib.Omega.{arith}
-use native.Mathlib.Decide.{decLt}
 use borrow.Author.Tests.{lt-ltb, ltb-true, eqb-true}
 use lib.Dec.{ltb, eqb}
 use lib.ListN.{length, take, drop, replicate, length-append, length-take, length-drop, length-replicate, take-append-drop}
 use lib.Seq.{take-at, drop-at, take-append-le, take-append-add, length-take-le}
 use Rattle.model.specs.Bits.{digits, number, bitsOf, packed, bytesFor, pack, allZero, filling}
 use Rattle.model.specs.Range.{AreBytes}
+use Rattle.model.proofs.Numbers.{below-or}
 use Rattle.bits.proofs.Digits.{AreBits, length-digits, bits-append, number-bound, number-of-digits, digits-of-number}
 use Rattle.bits.proofs.Bytes.{length-bits}
 use Rattle.bits.proofs.Fields.{bits-take, bits-drop}
-
-pub below-or : (a b : ℕ) → (a < b) ⊎ (b ≤ a)
-below-or a b = elim (decLt a b) [ yes p ↦ inl p | no p ↦ inr (not-below p) ]
-  where
-    not-below : (a < b → ⊥) → b ≤ a
-    not-below p = omega arith
 
 pub zeros-are-bits : (n : ℕ) → AreBits (replicate n 0)
 zeros-are-bits zero = tt

@@ -16,7 +16,7 @@ use Rattle.bits.proofs.Digits.{length-digits}
 use Rattle.model.specs.Range.{InRange}
 use Rattle.cells.specs.Stands.{HoldsWord}
 use Rattle.cells.specs.Layout.{cellAt}
-use Rattle.images.specs.Tables.{HoldsPair}
+use Rattle.cells.specs.Kept.{HoldsPair}
 use Rattle.images.specs.Bitwise.{AppendedTo}
 use Rattle.model.proofs.Complete.{all-at}
 use Rattle.images.proofs.Appending.{concat-append}

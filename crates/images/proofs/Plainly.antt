@@ -12,7 +12,8 @@ use Rattle.model.specs.Enumeration.{concatMap}
 use Rattle.model.specs.Plain.{plainWord, plainPair}
 use Rattle.cells.specs.Stands.{HoldsWord}
 use Rattle.cells.specs.Layout.{cellAt}
-use Rattle.images.specs.Tables.{HoldsPair, HoldsRow, RowsHeld}
+use Rattle.cells.specs.Kept.{HoldsPair}
+use Rattle.images.specs.Tables.{HoldsRow, RowsHeld}
 use Rattle.model.specs.Areas.{written}
 use Rattle.images.specs.Bytewise.{Wrote}
 use Rattle.images.proofs.Appending.{concat-append}

@@ -16,18 +16,19 @@ use Rattle.model.specs.Outcome.{Outcome, answered, refused, _>>=_, unless}
 use Rattle.model.specs.Bits.{Read, field, finish, filling}
 use Rattle.model.specs.Images.{weightWidth, pairField, several, rowsOf, readTable}
 use Rattle.model.specs.Plain.{plainWeight, plainPairAt, readPlainTable}
-use Rattle.bits.proofs.Packing.{below-or}
+use Rattle.model.proofs.Numbers.{below-or}
 use Rattle.images.specs.Fields.{FieldAt, from}
 use Rattle.cells.specs.Layout.{Letters, cellAt, weightAt}
 use Rattle.model.specs.Range.{InRange}
 use Rattle.model.proofs.Complete.{complete-same}
 use Rattle.cells.specs.Stands.{HoldsFirst, HoldsWeights, Stands, Blank}
-use Rattle.images.specs.Tables.{SameCell, HoldsPair, HoldsRow, PairFrom, RowFrom, RowAt, RowsHeld, rowsThen, plainRowsThen, LoadedOr, TableOf, TableDone, SizeDone, bytesFrom, PlainTableOf, PlainTableDone}
+use Rattle.cells.specs.Kept.{SameCell, HoldsPair}
+use Rattle.cells.proofs.Kept.{holds-kept, same-cell-after, swap-letters}
+use Rattle.images.specs.Tables.{HoldsRow, PairFrom, RowFrom, RowAt, RowsHeld, rowsThen, plainRowsThen, LoadedOr, TableOf, TableDone, SizeDone, bytesFrom, PlainTableOf, PlainTableDone}
 use Rattle.images.specs.declared.tables.TableRead.{TableRead}
 use Rattle.images.specs.declared.tables.TableRead.the-variants.{Table, Refused}
 use Rattle.images.proofs.Several.{after, after-none, several-step, several-refused, several-done, several-length, rows-step, rows-refused, rows-done}
 use Rattle.images.proofs.Words.{byte-ends, byte-at}
-use Rattle.images.proofs.Pairs.{holds-kept, same-cell-after, swap-letters}
 
 -- what holds of each index before the last and of the last holds of each
 pub one-more : {A : Type 0} (P : ℕ → A → Type 0) (xs : List A) (x d : A) → ((j : ℕ) → j < length xs → P j (getD xs j d)) → P (length xs) x

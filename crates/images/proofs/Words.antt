@@ -16,10 +16,12 @@ use Rattle.model.specs.Outcome.{Outcome, answered, refused, _>>=_, unless}
 use Rattle.model.specs.Bits.{Read, field}
 use Rattle.model.specs.Images.{letterField, wordField, several}
 use Rattle.model.specs.Plain.{nextByte, plainLetter, plainLetters}
-use Rattle.bits.proofs.Packing.{below-or}
+use Rattle.model.proofs.Numbers.{below-or}
 use Rattle.images.specs.Fields.{FieldAt, from}
 use Rattle.model.specs.Range.{All, InRange}
-use Rattle.images.specs.Tables.{KeptOutside, WordFrom, bytesFrom}
+use Rattle.cells.specs.Kept.{KeptOutside}
+use Rattle.cells.proofs.Kept.{kept-store}
+use Rattle.images.specs.Tables.{WordFrom, bytesFrom}
 use Rattle.images.proofs.Several.{after, after-none, several-step, several-refused, several-done}
 
 -- the letters of a word whose length was read and stored; `begin` is the position after it
@@ -55,10 +57,6 @@ stored-letters cells place done a h old j l =
     ∙ (getD-set-same cells (place + length done) a 0 h
     ∙ (sym (getD-at done a [] 0 (length done) refl) ∙ ap (λ j. getD (done ++ (a ∷ [])) j 0) (sym e))))
     (below-or j (length done))
-
-pub kept-store : (before : List ℕ) (cell : ℕ) (cells : List ℕ) (i v : ℕ) → KeptOutside before cell cells → cell ≤ i → i < cell + 16 → KeptOutside before cell (set cells i v)
-kept-store before cell cells i v k low high j o =
-    getD-set-other cells i j v 0 (λ e. ⊎-elim (λ (h : j < cell). omega arith) (λ (h : cell + 16 ≤ j). omega arith) o) ∙ k j o
 
 module _ (reader : List ℕ → Outcome (Read ℕ)) (source : ℕ → List ℕ) (limit begin size : ℕ) (before : List ℕ) (cell count : ℕ) (room : cell + 16 ≤ length before) (small : count < 16) where
   pub letters-none : begin ≤ limit → Filled reader source limit begin size (set before cell count) cell count (set before cell count) begin 0

@@ -6,7 +6,8 @@ use lib.ListN.{length}
 use Rattle.model.specs.Word.{Positive}
 use Rattle.model.specs.Presentation.{Complement}
 use Rattle.cells.specs.Stands.{HoldsWord, HoldsWeights}
-use Rattle.images.specs.Tables.{HoldsPair, HoldsRow, RowsHeld}
+use Rattle.cells.specs.Kept.{HoldsPair}
+use Rattle.images.specs.Tables.{HoldsRow, RowsHeld}
 
 -- a cell holds some word
 pub record HoldsSomeWord (size : ℕ) (cells : List ℕ) (cell : ℕ) : Type 0 where

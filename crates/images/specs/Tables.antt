@@ -6,7 +6,7 @@ use Prim.Native.Nat.{ℕ, _+_, _-_, _*_, _^_, _≤_, _<_}
 use lib.Dec.{ltb}
 use lib.ListN.{length, getD, drop}
 use Rattle.model.specs.Word.{Positive}
-use Rattle.model.specs.Presentation.{Presentation, Complement, undefined, swapped}
+use Rattle.model.specs.Presentation.{Presentation, Complement, undefined}
 use Rattle.model.specs.Outcome.{Outcome, answered, refused, _>>=_, unless}
 use Rattle.model.specs.Bits.{Read, field, finish}
 use Rattle.model.specs.Images.{weightWidth, wordField, pairField, several, rowsOf, readTable}
@@ -15,7 +15,8 @@ use Rattle.model.specs.Stated.{refusal}
 use Rattle.images.specs.Fields.{from}
 use Rattle.model.specs.Range.{InRange}
 use Rattle.cells.specs.Layout.{Letters, cellAt}
-use Rattle.cells.specs.Stands.{Of, HoldsWord, HoldsFirst, HoldsWeights, Blank}
+use Rattle.cells.specs.Stands.{Of, HoldsWord, HoldsWeights, Blank}
+use Rattle.cells.specs.Kept.{KeptOutside, SameCell, HoldsPair, KeptPair}
 use Rattle.images.specs.declared.tables.TablePart.{TablePart}
 use Rattle.images.specs.declared.tables.TablePart.the-variants.{Next, Ends, Wrong}
 use Rattle.images.specs.declared.tables.TableRead.{TableRead}
@@ -25,10 +26,6 @@ use Rattle.images.specs.declared.tables.TableRead.the-variants.{Table, R
 pub record After (limit at most next : ℕ) : Type 0 where
   pub inside : next ≤ limit
   pub near : next ≤ at + most
-
--- every byte outside the cell that begins at a place is as it was
-abbrev pub KeptOutside : List ℕ → ℕ → List ℕ → Type 0
-KeptOutside before cell after = (i : ℕ) → (i < cell) ⊎ (cell + 16 ≤ i) → getD after i 0 ≡ getD before i 0
 
 -- WORDS, PAIRS AND ROWS, whatever they are read from: `source` is what is left to read from a position on
 
@@ -43,19 +40,6 @@ abbrev pub WordDoneFrom : (List ℕ → Outcome (Read Positive)) → (ℕ → Li
 WordDoneFrom reader source limit most at size before cell after (Next next) = WordFrom reader source limit most at size before cell after next
 WordDoneFrom reader source limit most at size before cell after Ends = reader (source at) ≡ refused 1 []
 WordDoneFrom reader source limit most at size before cell after Wrong = reader (source at) ≡ refused 2 []
-
--- the cell of two letters is as it was
-abbrev pub SameCell : List ℕ → List ℕ → ℕ → ℕ → Type 0
-SameCell before after p q = (k : ℕ) → k < 16 → getD after (cellAt p q + k) 0 ≡ getD before (cellAt p q + k) 0
-
--- the pair a, b stands in the cells of a, b and of b, a
-pub record HoldsPair (size : ℕ) (cells : List ℕ) (a b : ℕ) (pair : Complement) : Type 0 where
-  pub there : HoldsFirst size cells (cellAt a b) pair
-  pub back : HoldsFirst size cells (cellAt b a) (swapped pair)
-
--- every cell but those of a, b and of b, a is as it was
-abbrev pub KeptPair : List ℕ → ℕ → ℕ → List ℕ → Type 0
-KeptPair before a b after = (p q : ℕ) → Letters p q → ((p ≡ a) × (q ≡ b) → ⊥) → ((p ≡ b) × (q ≡ a) → ⊥) → SameCell before after p q
 
 pub record PairFrom (reader : List ℕ → Outcome (Read Complement)) (source : ℕ → List ℕ) (limit at size : ℕ) (before : List ℕ) (a b : ℕ) (after : List ℕ) (next : ℕ) : Type 0 where
   pub pair : Complement

@@ -19,7 +19,8 @@ ghost use Rattle.model.specs.Enumeration.{concatMap};
 ghost use Rattle.model.specs.Plain.{plainWord, plainPair};
 ghost use Rattle.cells.specs.Stands.{HoldsWord, HoldsWeights, Blank};
 ghost use Rattle.cells.specs.Layout.{Letters};
-ghost use Rattle.images.specs.Tables.{HoldsPair, HoldsRow, RowsHeld, PlainBefore, PlainWordDone, PlainPairDone, PlainRowDone, PlainWeightsDone, PlainRowsDone, PlainTableDone};
+ghost use Rattle.cells.specs.Kept.{HoldsPair};
+ghost use Rattle.images.specs.Tables.{HoldsRow, RowsHeld, PlainBefore, PlainWordDone, PlainPairDone, PlainRowDone, PlainWeightsDone, PlainRowsDone, PlainTableDone};
 ghost use Rattle.images.specs.Held.{HoldsSomeWord, HoldsSomePair, HoldsSomeRow, HoldsSomeTable};
 ghost use Rattle.images.specs.Bytewise.{PlainDone, Wrote};
 

@@ -1,5 +1,6 @@
 pub mod Impossible
 pub mod Booleans
+pub mod Numbers
 pub mod Complete
 pub mod Mirrors
 pub mod Count

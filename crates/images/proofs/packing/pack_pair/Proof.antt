@@ -10,7 +10,7 @@ use Rattle.model.specs.Bits.{digits}
 use Rattle.model.specs.Images.{wordBits, pairBits}
 use Rattle.cells.specs.Stands.{HoldsWord}
 use Rattle.cells.specs.Layout.{cellAt}
-use Rattle.images.specs.Tables.{HoldsPair}
+use Rattle.cells.specs.Kept.{HoldsPair}
 use Rattle.images.specs.Bitwise.{AppendedTo}
 use Rattle.images.proofs.Plainly.{both-words}
 use Rattle.images.proofs.Packwise.{to-field, to-more, undefined-bits}

@@ -7,7 +7,8 @@ use lib.ListN.{length, take, getD}
 use Rattle.model.specs.Presentation.{Complement, undefined}
 use Rattle.model.specs.Enumeration.{concatMap}
 use Rattle.model.specs.Images.{pairBits}
-use Rattle.images.specs.Tables.{HoldsPair, HoldsRow}
+use Rattle.cells.specs.Kept.{HoldsPair}
+use Rattle.images.specs.Tables.{HoldsRow}
 use Rattle.images.specs.Bitwise.{AppendedTo}
 use Rattle.images.proofs.Plainly.{row-pair, row-more, row-all}
 use Rattle.images.proofs.Packwise.{to-none, to-more}

@@ -7,7 +7,8 @@ use lib.ListN.{length, take, getD}
 use Rattle.model.specs.Presentation.{Complement, undefined}
 use Rattle.model.specs.Enumeration.{concatMap}
 use Rattle.model.specs.Plain.{plainPair}
-use Rattle.images.specs.Tables.{HoldsPair, HoldsRow}
+use Rattle.cells.specs.Kept.{HoldsPair}
+use Rattle.images.specs.Tables.{HoldsRow}
 use Rattle.images.specs.Bytewise.{Wrote}
 use Rattle.images.proofs.Plainly.{wrote-none, wrote-more, pair-short, row-pair, row-more, row-all}
 use Rattle.images.proofs.plain.write_plain_row.Statement.{statement}

@@ -6,7 +6,8 @@ use lib.ListN.{set, length-set}
 use Rattle.images.specs.Fields.{FieldDone, FieldAt}
 use Rattle.cells.specs.Layout.{cellAt}
 use Rattle.images.specs.Tables.{WordDone, WordAt, PairAt}
-use Rattle.images.proofs.Pairs.{bit-ends, cell-inside, back-inside, pair-undefined, first-refused, second-done}
+use Rattle.cells.proofs.Kept.{cell-inside, swap-letters}
+use Rattle.images.proofs.Pairs.{bit-ends, pair-undefined, first-refused, second-done}
 use borrow.Author.Needs.{needs}
 use Rattle.images.proofs.tables.read_pair.Statement.{statement}
 use Rattle.images.proofs.tables.read_pair.Tie as tie
@@ -83,7 +84,7 @@ read-word-requires c κs =
     let s = start (e .before .before .before) in
     let p = s .pre .0 in (
       record { inside = bit-at (e .before .before .before) .inside; small = omega (arith, s .pre .4); some = p .some; few = p .few; narrow = p .narrow; width-is = p .width-is },
-      omega (arith, e .before .before .cell-at .ensures, cell-inside (s .args .size) (s .args .cells .now) (s .args .a) (s .args .b) (s .pre .1) (s .pre .2) (s .pre .3), s .pre .3),
+      omega (arith, e .before .before .cell-at .ensures, cell-inside (s .args .a) (s .args .b) (s .pre .1), s .pre .3),
     )
 
 enum-told-2 : tie.Need-enum-told-2
@@ -103,7 +104,7 @@ read-word-requires-2 c κs =
     let s = start k in
     let p = s .pre .0 in (
       record { inside = first-read n .position .inside; small = omega (arith, s .pre .4, first-read n .position .near); some = p .some; few = p .few; narrow = p .narrow; width-is = p .width-is },
-      omega (arith, w .before .before .before .cell-at2 .ensures, back-inside (s .args .size) (s .args .cells .now) (s .args .a) (s .args .b) (s .pre .1) (s .pre .2) (s .pre .3), s .pre .3, w .read-word .ensures .0),
+      omega (arith, w .before .before .before .cell-at2 .ensures, cell-inside (s .args .b) (s .args .a) (swap-letters (s .args .a) (s .args .b) (s .pre .1)), s .pre .3, w .read-word .ensures .0),
     )
 
 same-length-2 : tie.Need-same-length-2
