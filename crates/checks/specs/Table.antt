@@ -1,12 +1,12 @@
 -- What the two checks of a table say of every presentation of so many letters that the cells stand for.
-use mathlib.Core.List.{List, _∷_, map}
+use mathlib.Core.List.{List, _∷_}
 use mathlib.Core.Bool.{Bool}
 use mathlib.Core.Path.{_≡_}
-use Prim.Native.Nat.{ℕ, suc, _-_}
+use Prim.Native.Nat.{ℕ}
 use lib.ListN.{getD}
 use Rattle.model.specs.Word.{Positive}
 use Rattle.model.specs.Presentation.{Presentation, complement, complete, weigh}
-use Rattle.model.specs.Enumeration.{range, Two, pairs, triples}
+use Rattle.model.specs.Enumeration.{row, pairs, triples}
 use Rattle.model.specs.Outcome.{Outcome, answered}
 use Rattle.model.specs.Checks.{balanced, weightCheck, cubeCheck}
 use Rattle.model.specs.Stated.{refusal}
@@ -51,10 +51,6 @@ SideWeighs cells size a b r =
 -- whether both sides weigh the same
 abbrev pub PairMeans : List ℕ → ℕ → ℕ → ℕ → Bool → Type 0
 PairMeans cells size a b r = (T : Presentation) → Of cells size T → r ≡ balanced T a b (complete T a b)
-
--- the pairs of a with the letters after it
-abbrev pub row : ℕ → ℕ → List Two
-row size a = map (λ b. record { a = a; b = b }) (range (suc a) (size - a))
 
 abbrev pub RowMeans : List ℕ → ℕ → ℕ → Weights → Type 0
 RowMeans cells size a r = (T : Presentation) → Of cells size T → weightsAs r ≡ weightCheck T (row size a)

@@ -1,6 +1,7 @@
 pub mod Impossible
 pub mod Booleans
 pub mod Numbers
+pub mod Pairs
 pub mod Complete
 pub mod Mirrors
 pub mod Count

@@ -22,9 +22,13 @@ pub record Three : Type 0 where
   pub b : ℕ
   pub c : ℕ
 
+-- the pairs of a with the letters after it
+abbrev pub row : ℕ → ℕ → List Two
+row size a = map (λ b. record { a = a; b = b }) (range (suc a) (size - a))
+
 -- 4.1: the pairs with a < b, by a and then by b
 abbrev pub pairs : ℕ → List Two
-pairs n = concatMap (λ a. map (λ b. record { a = a; b = b }) (range (suc a) (n - a))) (range 1 n)
+pairs n = concatMap (row n) (range 1 n)
 
 -- the numbers of a list but for a and b
 abbrev pub others : ℕ → ℕ → List ℕ → List ℕ

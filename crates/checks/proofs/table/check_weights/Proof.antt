@@ -4,12 +4,12 @@ use Prim.Native.Nat.{_+_, _-_, _≤_}
 use native.Mathlib.Omega.{arith}
 use borrow.Author.Needs.{needs}
 use Rattle.model.specs.Presentation.{Presentation}
-use Rattle.model.specs.Enumeration.{pairs}
+use Rattle.model.specs.Enumeration.{row, pairs}
 use Rattle.model.specs.Outcome.{_>>=_}
 use Rattle.model.specs.Checks.{weightCheck}
 use Rattle.cells.specs.Stands.{Of}
-use Rattle.checks.specs.Table.{row, RowMeans}
-use Rattle.checks.proofs.Remaining.{pairsFrom, pairs-begin, pairs-some, pairs-none}
+use Rattle.checks.specs.Table.{RowMeans}
+use Rattle.model.proofs.Pairs.{pairsFrom, pairs-begin, pairs-some, pairs-none}
 use Rattle.checks.proofs.Passing.{weights-append, of-few}
 use Rattle.checks.proofs.table.check_weights.Statement.{statement}
 use Rattle.checks.proofs.table.check_weights.Tie as tie

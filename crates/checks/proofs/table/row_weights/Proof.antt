@@ -6,8 +6,8 @@ use borrow.Author.Tests.{not-true, not-false}
 use Rattle.model.specs.Presentation.{Presentation}
 use Rattle.model.specs.Checks.{weightCheck}
 use Rattle.cells.specs.Stands.{Of}
-use Rattle.checks.specs.Table.{row}
-use Rattle.checks.proofs.Remaining.{pair, rowFrom, row-begins, row-some, row-none}
+use Rattle.model.specs.Enumeration.{row}
+use Rattle.model.proofs.Pairs.{pair, rowFrom, row-begins, row-some, row-none}
 use Rattle.checks.proofs.Passing.{pair-passes, pair-fails, of-few}
 use Rattle.checks.proofs.table.row_weights.Statement.{statement}
 use Rattle.checks.proofs.table.row_weights.Tie as tie
