@@ -16,8 +16,8 @@ use Rattle.model.specs.Bed.{adjacent, braidWord}
 use Rattle.model.proofs.Impossible.{impossible}
 use Rattle.model.proofs.Complete.{complete-turn}
 use Rattle.cells.specs.Layout.{cellAt}
-use Rattle.cells.specs.Stands.{HoldsFirst, HoldsWord, Stands, Of, Sized}
-use Rattle.bed.specs.BraidTable.{Decides, Filled, HasBraidWord, BraidPair}
+use Rattle.cells.specs.Stands.{HoldsFirst, HoldsWord, Stands}
+use Rattle.bed.specs.BraidTable.{Decides, HasBraidWord, BraidPair}
 
 -- NEIGHBOURS
 
@@ -51,24 +51,6 @@ one-more P b a before here k low high = go (ℕ-discrete k b)
     go : Dec (k ≡ b) → P k
     go (yes e) = subst P (sym e) here
     go (no n) = before k low (omega arith)
-
--- LETTERS OF A TABLE OF SO MANY
-
-module _ {cells : List ℕ} {size : ℕ} {T : Presentation} (o : Of cells size T) where
-  pub of-few : size ≤ 16
-  of-few = omega (arith, o .sized, o .stands .few)
-
-  pub of-range : (a : ℕ) → 1 ≤ a → a ≤ size → InRange (T .size) a
-  of-range a low high = record { low = low; high = omega (arith, o .sized) }
-
-pub filled : {cells : List ℕ} {size : ℕ} → Sized cells size → (a b : ℕ) → 1 ≤ a → a ≤ size → 1 ≤ b → b ≤ size → Filled cells a b
-filled s a b low-a high-a low-b high-b =
-    record {
-      table = s .0;
-      stands = s .1 .stands;
-      a-names = of-range (s .1) a low-a high-a;
-      b-names = of-range (s .1) b low-b high-b;
-    }
 
 -- THE WORD IN A CELL
 

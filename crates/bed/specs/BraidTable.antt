@@ -18,13 +18,6 @@ pub record Decides (r : Bool) (P : Type 0) : Type 0 where
   pub holds : r ≡ true → P
   pub fails : r ≡ false → P → ⊥
 
--- the cells stand for a presentation that has both letters
-pub record Filled (cells : List ℕ) (a b : ℕ) : Type 0 where
-  pub table : Presentation
-  pub stands : Stands cells table
-  pub a-names : InRange (table .size) a
-  pub b-names : InRange (table .size) b
-
 -- C(a,b) is as in the braid table
 pub record HasBraidWord (T : Presentation) (a b : ℕ) : Type 0 where
   pub other : Positive

@@ -1,10 +1,10 @@
 // Whether a table is the braid table of its number of letters (specification 2.4).
 ghost use mathlib.Core.Path.{_≡_};
 ghost use Prim.Native.Nat.{_≤_};
-ghost use Rattle.cells.specs.Stands.{Sized, Of};
+ghost use Rattle.cells.specs.Stands.{Sized, Of, Filled};
 ghost use Rattle.model.specs.Presentation.{Presentation};
 ghost use Rattle.model.specs.Bed.{isBraid, adjacent};
-ghost use Rattle.bed.specs.BraidTable.{Filled, WordDecided, RowDecided, BraidDone};
+ghost use Rattle.bed.specs.BraidTable.{WordDecided, RowDecided, BraidDone};
 use cells::layout::CELLS;
 use cells::layout::cell_at;
 use images::tables::TableRead;

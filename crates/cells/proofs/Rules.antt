@@ -10,11 +10,31 @@ use Rattle.model.specs.Presentation.{Presentation, Complement, undefined, compl
 use Rattle.model.specs.Range.{All, InRange, Lettered}
 use Rattle.model.proofs.Complete.{complete-turn}
 use Rattle.cells.specs.Layout.{cellAt, weightAt}
-use Rattle.cells.specs.Stands.{HoldsWord, HoldsFirst, Stands, Blank}
+use Rattle.cells.specs.Stands.{HoldsWord, HoldsFirst, Stands, Of, Sized, Filled, Blank}
 
 lettered-all : (n : ℕ) (x : Positive) → All (InRange n) x → Lettered n (positive x)
 lettered-all n [] p = tt
 lettered-all n (a ∷ x) p = (p .0, lettered-all n x (p .1))
+
+-- LETTERS OF A TABLE OF SO MANY
+
+module _ {cells : List ℕ} {size : ℕ} {T : Presentation} (o : Of cells size T) where
+  pub of-few : size ≤ 16
+  of-few = omega (arith, o .sized, o .stands .few)
+
+  pub of-range : (a : ℕ) → 1 ≤ a → a ≤ size → InRange (T .size) a
+  of-range a low high = record { low = low; high = omega (arith, o .sized) }
+
+pub filled : {cells : List ℕ} {size : ℕ} → Sized cells size → (a b : ℕ) → 1 ≤ a → a ≤ size → 1 ≤ b → b ≤ size → Filled cells a b
+filled s a b low-a high-a low-b high-b =
+    record {
+      table = s .0;
+      stands = s .1 .stands;
+      a-names = of-range (s .1) a low-a high-a;
+      b-names = of-range (s .1) b low-b high-b;
+    }
+
+-- WORDS IN CELLS
 
 -- a cell's word as the bytes behind its length
 pub record WordAt (cells : List ℕ) (at n : ℕ) (x : Positive) : Type 0 where

@@ -55,6 +55,13 @@ pub record Serves (cells : List ℕ) (word : Word) (T : Presentation) : Type 0 w
 abbrev pub Ready : List ℕ → Word → Type 0
 Ready cells word = (T : Presentation) × Serves cells word T
 
+-- for one that has both letters
+pub record Filled (cells : List ℕ) (a b : ℕ) : Type 0 where
+  pub table : Presentation
+  pub stands : Stands cells table
+  pub a-names : InRange (table .size) a
+  pub b-names : InRange (table .size) b
+
 -- cells that a table can be read into: C(a,a) is empty, and a reader writes no length into the cell of a letter with itself
 pub record Blank (cells : List ℕ) : Type 0 where
   pub full : length cells ≡ cellBytes

@@ -3,7 +3,6 @@ use mathlib.Core.Path.{_≡_, refl, sym, ap, ap₂, _∙_}
 use mathlib.Core.List.{List, [], _∷_, _++_}
 use mathlib.Core.Bool.{Bool, true, false, cond}
 use Prim.Native.Nat.{ℕ, _≤_}
-use native.Mathlib.Omega.{arith}
 use lib.Dec.{eqb}
 use lib.ListN.{getD}
 use Rattle.model.specs.Word.{positive}
@@ -19,7 +18,7 @@ use Rattle.model.proofs.Impossible.{impossible}
 use Rattle.cells.specs.Layout.{cellAt}
 use Rattle.model.specs.Range.{InRange}
 use Rattle.cells.specs.Stands.{Serves, Of}
-use Rattle.cells.proofs.Rules.{open-cell, word-cell}
+use Rattle.cells.proofs.Rules.{of-range, open-cell, word-cell}
 use Rattle.checks.specs.Cube.{cubeAnswer}
 use Rattle.checks.specs.Table.{SideWeighs, stoppedAs}
 use Rattle.checks.specs.declared.cube.CubeVerdict.the-variants.{Holds, Fails, Halts}
@@ -87,13 +86,7 @@ module _ (T : Presentation) (steps width : ℕ) (t : Three) (ts : List Three) wh
       go (halts room) f Budget g = impossible (cc)
       go (halts room) f Room g = sym (ap (λ v. reported t v (cubeCheck T steps width ts)) f)
 
--- a letter of the table
-pub of-range : {cells : List ℕ} {size : ℕ} {T : Presentation} → Of cells size T → (a : ℕ) → 1 ≤ a → a ≤ size → InRange (T .size) a
-of-range o a l h = record { low = l; high = omega (arith, o .sized) }
-
-pub of-few : {cells : List ℕ} {size : ℕ} {T : Presentation} → Of cells size T → size ≤ 16
-of-few o = omega (arith, o .sized, o .stands .few)
-
+-- three letters of the table
 pub of-serves : {cells : List ℕ} {size : ℕ} {T : Presentation} → Of cells size T → (a b c : ℕ) → 1 ≤ a → a ≤ size → 1 ≤ b → b ≤ size → 1 ≤ c → c ≤ size
     → Serves cells (positive (a ∷ b ∷ c ∷ [])) T
 of-serves o a b c la ha lb hb lc hc =

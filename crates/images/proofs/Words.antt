@@ -17,6 +17,7 @@ use Rattle.model.specs.Bits.{Read, field}
 use Rattle.model.specs.Images.{letterField, wordField, several}
 use Rattle.model.specs.Plain.{nextByte, plainLetter, plainLetters}
 use Rattle.model.proofs.Numbers.{below-or}
+use Rattle.model.proofs.Complete.{all-more}
 use Rattle.images.specs.Fields.{FieldAt, from}
 use Rattle.model.specs.Range.{All, InRange}
 use Rattle.cells.specs.Kept.{KeptOutside}
@@ -37,10 +38,6 @@ pub record Filled (reader : List ℕ → Outcome (Read ℕ)) (source : ℕ → L
   pub letters : (j : ℕ) → j < length done → getD cells (cell + 1 + j) 0 ≡ getD done j 0
   pub in-range : All (InRange size) done
   pub kept : KeptOutside before cell cells
-
-all-more : {A : Type 0} (P : A → Type 0) (xs : List A) (x : A) → All P xs → P x → All P (xs ++ (x ∷ []))
-all-more P [] x h p = (p, tt)
-all-more P (y ∷ xs) x h p = (h .0, all-more P xs x (h .1) p)
 
 -- one letter more
 stored-letters : (cells : List ℕ) (place : ℕ) (done : Positive) (a : ℕ) → place + length done < length cells

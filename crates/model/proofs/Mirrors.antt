@@ -1,21 +1,96 @@
--- The mirror's completions: those of p towards q are the words of `leftComplete`, read backward, for every table and all numbers.
+-- Relations from their ends, and which one is found. The mirror's completions: those of p towards q are the words of `leftComplete`, read backward,
+-- for every table and all numbers.
 use mathlib.Core.Path.{_≡_, refl, sym, ap, ap₂, _∙_}
 use mathlib.Core.Logic.{_≢_}
-use mathlib.Core.List.{List, [], _∷_, map}
+use mathlib.Core.List.{List, [], _∷_, _++_, map}
 use mathlib.Core.Bool.{Bool, true, false, _&&_, cond}
 use Prim.Native.Nat.{ℕ, zero, suc, _+_, _-_, _≤_, _<_}
 use native.Mathlib.Omega.{arith}
 use native.Mathlib.Decide.{ℕ-discrete, decLt, decLe}
 use lib.Dec.{leb, eqb}
-use lib.ListN.{getD}
+use lib.ListN.{length, take, getD}
 use borrow.Author.Tests.{eq-eqb, ne-eqb, eqb-true, le-leb, lt-leb}
 use Rattle.model.specs.Word.{Positive}
 use Rattle.model.specs.Presentation.{Presentation, Complement, undefined, complement, swapped, listed, complete}
 use Rattle.model.specs.Enumeration.{range, Two, pairs}
-use Rattle.model.specs.Mirror.{FromEnd, fromEnd, endingIn, relationEnding, orElse, found, backward, mirror, names, leftComplete}
+use Rattle.model.specs.Range.{All, InRange}
+use Rattle.model.specs.Mirror.{FromEnd, fromEnd, endingIn, relationEnding, orElse, found, backward, mirror, isDefined, names, leftComplete}
 use Rattle.model.proofs.Complete.{complete-same, complete-below, complete-above, swapped-twice}
 use Rattle.model.proofs.Impossible.{impossible}
 use Rattle.model.proofs.Booleans.{both-true, both, second-false}
+
+-- A SIDE FROM ITS END: the last letter of a x, and what stands before it
+
+pub last-is : (a : ℕ) (x : Positive) → fromEnd a x .last ≡ getD (a ∷ x) (length x) 0
+last-is a [] = refl
+last-is a (b ∷ x) = last-is b x
+
+pub before-is : (a : ℕ) (x : Positive) → fromEnd a x .before ≡ take (length x) (a ∷ x)
+before-is a [] = refl
+before-is a (b ∷ x) = ap (λ u. a ∷ u) (before-is b x)
+
+pub before-length : (a : ℕ) (x : Positive) → length (fromEnd a x .before) ≡ length x
+before-length a [] = refl
+before-length a (b ∷ x) = ap suc (before-length b x)
+
+pub last-named : (n a : ℕ) (x : Positive) → InRange n a → All (InRange n) x → InRange n (fromEnd a x .last)
+last-named n a [] h p = h
+last-named n a (b ∷ x) h p = last-named n b x (p .0) (p .1)
+
+pub before-named : (n a : ℕ) (x : Positive) → InRange n a → All (InRange n) x → All (InRange n) (fromEnd a x .before)
+before-named n a [] h p = tt
+before-named n a (b ∷ x) h p = (h, before-named n b x (p .0) (p .1))
+
+-- TWO SIDES
+
+one-neither : (s t : Bool) (x y : Positive) → (s ≡ true → t ≡ true → ⊥) → cond (s && t) (complement x y) undefined ≡ undefined
+one-neither true true x y f = absurd (f refl refl)
+one-neither true false x y f = refl
+one-neither false t x y f = refl
+
+pub ending-own : (u v : FromEnd) → endingIn (u .last) (v .last) u v ≡ complement (u .before) (v .before)
+ending-own u v =
+    ap₂ (λ s t. cond (s && t) (complement (u .before) (v .before)) (cond (eqb (u .last) (v .last) && eqb (v .last) (u .last)) (complement (v .before) (u .before)) undefined))
+    (eq-eqb (u .last) (u .last) refl) (eq-eqb (v .last) (v .last) refl)
+
+-- two sides that do not end in p and q, in either order
+pub ending-other : (p q : ℕ) (u v : FromEnd) → ((p ≡ u .last) × (q ≡ v .last) → ⊥) → ((p ≡ v .last) × (q ≡ u .last) → ⊥) → endingIn p q u v ≡ undefined
+ending-other p q u v there back =
+    either-neither (eqb (u .last) p) (eqb (v .last) q) (eqb (u .last) q) (eqb (v .last) p) (u .before) (v .before)
+    (λ e f. there (sym (eqb-true (u .last) p e), sym (eqb-true (v .last) q f)))
+    (λ e f. back (sym (eqb-true (v .last) p f), sym (eqb-true (u .last) q e)))
+  where
+    either-neither : (s t s′ t′ : Bool) (x y : Positive) → (s ≡ true → t ≡ true → ⊥) → (s′ ≡ true → t′ ≡ true → ⊥)
+        → cond (s && t) (complement x y) (cond (s′ && t′) (complement y x) undefined) ≡ undefined
+    either-neither true true s′ t′ x y f g = absurd (f refl refl)
+    either-neither true false s′ t′ x y f g = one-neither s′ t′ y x g
+    either-neither false t s′ t′ x y f g = one-neither s′ t′ y x g
+
+-- WHAT IS FOUND
+
+pub else-none : (c : Complement) → orElse c undefined ≡ c
+else-none undefined = refl
+else-none (complement x y) = refl
+
+pub not-defined : (c : Complement) → isDefined c ≡ false → c ≡ undefined
+not-defined undefined e = refl
+not-defined (complement x y) e = impossible (cc)
+
+pub else-found : (T : Presentation) (p q : ℕ) (rs ss : List Two) → found T p q (rs ++ ss) ≡ orElse (found T p q rs) (found T p q ss)
+else-found T p q [] ss = refl
+else-found T p q (r ∷ rs) ss =
+    ap (orElse (relationEnding p q (r .a) (r .b) (complete T (r .a) (r .b)))) (else-found T p q rs ss)
+    ∙ else-assoc (relationEnding p q (r .a) (r .b) (complete T (r .a) (r .b))) (found T p q rs) (found T p q ss)
+  where
+    else-assoc : (c d e : Complement) → orElse c (orElse d e) ≡ orElse (orElse c d) e
+    else-assoc undefined d e = refl
+    else-assoc (complement x y) d e = refl
+
+-- with one relation more
+pub found-more : (T : Presentation) (p q : ℕ) (rs : List Two) (r : Two)
+    → found T p q (rs ++ (r ∷ [])) ≡ orElse (found T p q rs) (relationEnding p q (r .a) (r .b) (complete T (r .a) (r .b)))
+found-more T p q rs r =
+    else-found T p q rs (r ∷ []) ∙ ap (orElse (found T p q rs)) (else-none (relationEnding p q (r .a) (r .b) (complete T (r .a) (r .b))))
 
 -- THE PAIR THE OTHER WAY ROUND
 
@@ -42,13 +117,13 @@ else-turned : (c d : Complement) → orElse (swapped c) (swapped d) ≡ swapped 
 else-turned undefined d = refl
 else-turned (complement x y) d = refl
 
-found-turned : (T : Presentation) (p q : ℕ) → p ≢ q → (rs : List Two) → found T q p rs ≡ swapped (found T p q rs)
+pub found-turned : (T : Presentation) (p q : ℕ) → p ≢ q → (rs : List Two) → found T q p rs ≡ swapped (found T p q rs)
 found-turned T p q d [] = refl
 found-turned T p q d (r ∷ rs) =
     let relation = relationEnding p q (r .a) (r .b) (complete T (r .a) (r .b)) in
     ap₂ orElse (relation-turned p q d (r .a) (r .b) (complete T (r .a) (r .b))) (found-turned T p q d rs) ∙ else-turned relation (found T p q rs)
 
-backward-turned : (c : Complement) → backward (swapped c) ≡ swapped (backward c)
+pub backward-turned : (c : Complement) → backward (swapped c) ≡ swapped (backward c)
 backward-turned undefined = refl
 backward-turned (complement x y) = refl
 

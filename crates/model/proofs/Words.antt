@@ -2,7 +2,11 @@
 -- in one way: specification 3.3, and [D1] section 1 on R-irreducible words.
 use mathlib.Core.Path.{_≡_, refl, sym, ap, _∙_}
 use mathlib.Core.List.{List, [], _∷_, _++_, map, reverse, append-nil, reverse-cons, reverse-append, reverse-reverse, map-append}
-use Prim.Native.Nat.{ℕ}
+use Prim.Native.Nat.{ℕ, suc, _-_, _<_}
+use native.Mathlib.Omega.{arith}
+use native.Mathlib.Decide.{decLt}
+use lib.ListN.{length, getD, length-reverse, List·getD-append}
+use lib.Seq.{getD-append-seam}
 use Rattle.model.specs.Word.{Letter, forward, back, Word, Positive, flip, positive, negative, forwards, backs}
 use Rattle.model.specs.Reversing.{Site, nowhere, at, beyond, siteAfter, site}
 use Rattle.model.proofs.Impossible.{impossible}
@@ -23,6 +27,21 @@ pub map-reverse : {A B : Type 0} (h : A → B) (l : List A) → map h (reverse l
 map-reverse h [] = refl
 map-reverse h (x ∷ l) =
     ap (map h) (reverse-cons x l) ∙ (map-append h (reverse l) (x ∷ []) ∙ (ap (λ m. m ++ (h x ∷ [])) (map-reverse h l) ∙ sym (reverse-cons (h x) (map h l))))
+
+-- a letter from the end
+pub reverse-at : {A : Type 0} (l : List A) (k : ℕ) (d : A) → k < length l → getD (reverse l) k d ≡ getD l (length l - 1 - k) d
+reverse-at [] k d h = absurd (omega arith)
+reverse-at (x ∷ l) k d h = ap (λ v. getD v k d) (reverse-cons x l) ∙ go (decLt k (length l)) (reverse-at l k d)
+  where
+    go : Dec (k < length l) → (k < length l → getD (reverse l) k d ≡ getD l (length l - 1 - k) d)
+        → getD (reverse l ++ (x ∷ [])) k d ≡ getD (x ∷ l) (suc (length l) - 1 - k) d
+    go (yes i) known =
+        let e : suc (length l) - 1 - k ≡ suc (length l - 1 - k) = omega arith in
+        List·getD-append (reverse l) (x ∷ []) d k (omega (arith, length-reverse l)) ∙ (known i ∙ ap (λ j. getD (x ∷ l) j d) (sym e))
+    go (no i) known =
+        let e : k ≡ length (reverse l) = omega (arith, length-reverse l) in
+        let f : suc (length l) - 1 - k ≡ 0 = omega arith in
+        ap (λ j. getD (reverse l ++ (x ∷ [])) j d) e ∙ (getD-append-seam (reverse l) x [] d ∙ ap (λ j. getD (x ∷ l) j d) (sym f))
 
 -- INVERSES
 

@@ -8,18 +8,18 @@ use Prim.Native.Nat.{ℕ, _<_}
 use native.Mathlib.Omega.{arith}
 use native.Mathlib.Decide.{ℕ-discrete, decLt}
 use lib.Dec.{eqb}
-use borrow.Author.Tests.{eq-eqb, eqb-true, eqb-false}
+use borrow.Author.Tests.{eqb-true, eqb-false}
 use Rattle.model.specs.Word.{Positive}
 use Rattle.model.specs.Presentation.{Presentation, Complement, undefined, complement, swapped, complete}
 use Rattle.model.specs.Enumeration.{Two, pairs}
 use Rattle.model.specs.Equivalence.{Joined}
-use Rattle.model.specs.Range.{InRange, All, PairInRange, TableInRange}
+use Rattle.model.specs.Range.{PairInRange, TableInRange}
 use Rattle.model.specs.Outcome.{answered, refused}
 use Rattle.model.specs.Mirror.{FromEnd, fromEnd, endingIn, relationEnding, orElse, found, backward, mirror, isDefined, offending, mirrored, mirrorCheck, leftComplete}
 use Rattle.model.proofs.Impossible.{impossible}
 use Rattle.model.proofs.Booleans.{both-true, neither-true}
 use Rattle.model.proofs.Complete.{complete-turn, complete-named, complete-in-range}
-use Rattle.model.proofs.Mirrors.{left-found, left-defined, mirror-different}
+use Rattle.model.proofs.Mirrors.{last-named, else-found, not-defined, ending-own, left-found, left-defined, mirror-different}
 use Rattle.model.proofs.Equiv.{Equiv, Swap, done, step, trans, one, by-eq}
 use Rattle.model.proofs.Joining.{idle, joined-equiv, equiv-joined}
 use Rattle.theory.specs.Mirrors.{JoinedBackward}
@@ -33,10 +33,6 @@ from-end a (b ∷ x) = ap (λ u. a ∷ u) (from-end b x)
 
 side-backward : (a : ℕ) (x : Positive) → reverse (a ∷ x) ≡ fromEnd a x .last ∷ reverse (fromEnd a x .before)
 side-backward a x = ap reverse (from-end a x) ∙ reverse-append (fromEnd a x .before) (fromEnd a x .last ∷ [])
-
-last-named : (n a : ℕ) (x : Positive) → InRange n a → All (InRange n) x → InRange n (fromEnd a x .last)
-last-named n a [] h p = h
-last-named n a (b ∷ x) h p = last-named n b x (p .0) (p .1)
 
 three-backward : (s m t : Positive) → reverse (s ++ (m ++ t)) ≡ reverse t ++ (reverse m ++ reverse s)
 three-backward s m t =
@@ -124,25 +120,6 @@ mirror-sides T {p} {q} {x} {y} d e = go (leftComplete T p q) refl
         rw (← u≡, ← v≡) (found-sides T p q u v (pairs (T .size)) (left-defined T p q d f))
 
 -- A RELATION OF THE TABLE IS FOUND
-
-else-found : (T : Presentation) (p q : ℕ) (rs ss : List Two) → found T p q (rs ++ ss) ≡ orElse (found T p q rs) (found T p q ss)
-else-found T p q [] ss = refl
-else-found T p q (r ∷ rs) ss =
-    ap (orElse (relationEnding p q (r .a) (r .b) (complete T (r .a) (r .b)))) (else-found T p q rs ss)
-    ∙ else-assoc (relationEnding p q (r .a) (r .b) (complete T (r .a) (r .b))) (found T p q rs) (found T p q ss)
-  where
-    else-assoc : (c d e : Complement) → orElse c (orElse d e) ≡ orElse (orElse c d) e
-    else-assoc undefined d e = refl
-    else-assoc (complement x y) d e = refl
-
-not-defined : (c : Complement) → isDefined c ≡ false → c ≡ undefined
-not-defined undefined e = refl
-not-defined (complement x y) e = impossible (cc)
-
-ending-own : (u v : FromEnd) → endingIn (u .last) (v .last) u v ≡ complement (u .before) (v .before)
-ending-own u v =
-    ap₂ (λ s t. cond (s && t) (complement (u .before) (v .before)) (cond (eqb (u .last) (v .last) && eqb (v .last) (u .last)) (complement (v .before) (u .before)) undefined))
-    (eq-eqb (u .last) (u .last) refl) (eq-eqb (v .last) (v .last) refl)
 
 -- the relation of a pair, with sides that end in two letters, is the one that is found for these
 record Own (T : Presentation) (rs : List Two) (u v : FromEnd) : Type 0 where

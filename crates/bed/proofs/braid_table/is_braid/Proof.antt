@@ -7,7 +7,8 @@ use Rattle.model.specs.Presentation.{Presentation}
 use Rattle.cells.specs.Stands.{Of}
 use Rattle.theory.proofs.Braiding.{all-braid, not-braid}
 use Rattle.bed.specs.BraidTable.{BraidRow}
-use Rattle.bed.proofs.BraidWords.{of-few, one-more}
+use Rattle.cells.proofs.Rules.{of-few}
+use Rattle.bed.proofs.BraidWords.{one-more}
 use Rattle.bed.proofs.braid_table.is_braid.Statement.{statement}
 use Rattle.bed.proofs.braid_table.is_braid.Tie as tie
 

@@ -5,7 +5,8 @@ use borrow.Author.Tests.{not-true, not-false}
 use Rattle.model.specs.Presentation.{Presentation}
 use Rattle.cells.specs.Stands.{Of}
 use Rattle.bed.specs.BraidTable.{BraidPair}
-use Rattle.bed.proofs.BraidWords.{decided-false, decided-true, of-few, of-range, filled, one-more, pair-of-words, first-of-pair, second-of-pair}
+use Rattle.cells.proofs.Rules.{of-few, of-range, filled}
+use Rattle.bed.proofs.BraidWords.{decided-false, decided-true, one-more, pair-of-words, first-of-pair, second-of-pair}
 use Rattle.bed.proofs.braid_table.is_braid_row.Statement.{statement}
 use Rattle.bed.proofs.braid_table.is_braid_row.Tie as tie
 

@@ -12,7 +12,8 @@ use Rattle.checks.specs.Cube.{CubeMeans}
 use Rattle.checks.specs.Table.{triplesAs}
 use Rattle.checks.specs.declared.table.Triples.the-variants.{Hold}
 use Rattle.checks.proofs.Remaining.{firsts, seconds, thirds}
-use Rattle.checks.proofs.Passing.{of-few, of-serves}
+use Rattle.cells.proofs.Rules.{of-few}
+use Rattle.checks.proofs.Passing.{of-serves}
 use Rattle.checks.proofs.Searching.{Left, left-all, enter-first, leave-first, enter-second, leave-second, all-hold, skip-first, skip-second, pass-third, fail-third, halt-third}
 use Rattle.checks.proofs.table.check_triples.Statement.{statement}
 use Rattle.checks.proofs.table.check_triples.Tie as tie

@@ -10,7 +10,8 @@ use Rattle.model.specs.Checks.{weightCheck}
 use Rattle.cells.specs.Stands.{Of}
 use Rattle.checks.specs.Table.{RowMeans}
 use Rattle.model.proofs.Pairs.{pairsFrom, pairs-begin, pairs-some, pairs-none}
-use Rattle.checks.proofs.Passing.{weights-append, of-few}
+use Rattle.cells.proofs.Rules.{of-few}
+use Rattle.checks.proofs.Passing.{weights-append}
 use Rattle.checks.proofs.table.check_weights.Statement.{statement}
 use Rattle.checks.proofs.table.check_weights.Tie as tie
 

@@ -8,7 +8,8 @@ use Rattle.model.specs.Checks.{weightCheck}
 use Rattle.cells.specs.Stands.{Of}
 use Rattle.model.specs.Enumeration.{row}
 use Rattle.model.proofs.Pairs.{pair, rowFrom, row-begins, row-some, row-none}
-use Rattle.checks.proofs.Passing.{pair-passes, pair-fails, of-few}
+use Rattle.cells.proofs.Rules.{of-few}
+use Rattle.checks.proofs.Passing.{pair-passes, pair-fails}
 use Rattle.checks.proofs.table.row_weights.Statement.{statement}
 use Rattle.checks.proofs.table.row_weights.Tie as tie
 

@@ -1,7 +1,8 @@
 -- `checks::table::sides_balanced` meets its contract.
 use mathlib.Core.Path.{sym, ap, _∙_}
 use lib.ListN.{getD}
-use Rattle.checks.proofs.Passing.{open-balanced, sides-weighed, of-range}
+use Rattle.cells.proofs.Rules.{of-range}
+use Rattle.checks.proofs.Passing.{open-balanced, sides-weighed}
 use Rattle.checks.proofs.Weighing.{related-back}
 use borrow.Author.Needs.{needs}
 use Rattle.checks.proofs.table.sides_balanced.Statement.{statement}

@@ -1,0 +1,5 @@
+pub mod Backward
+pub mod Copying
+pub mod Building
+pub mod Entering
+pub mod Rows

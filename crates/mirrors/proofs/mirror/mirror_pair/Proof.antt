@@ -1,0 +1,133 @@
+-- `mirrors::mirror::mirror_pair` meets its contract.
+use mathlib.Core.Path.{refl, _∙_}
+use native.Mathlib.Omega.{arith}
+use Rattle.cells.specs.Layout.{Letters}
+use Rattle.cells.proofs.Kept.{cell-inside, swap-letters}
+use Rattle.mirrors.specs.Sides.{Short}
+use Rattle.mirrors.proofs.Entering.{open-done, short-there, short-back, ends-named, alike-done, taken-done, entered-done}
+use borrow.Author.Needs.{needs}
+use Rattle.mirrors.proofs.mirror.mirror_pair.Statement.{statement}
+use Rattle.mirrors.proofs.mirror.mirror_pair.Tie as tie
+
+abbrev start : tie.Else1 → tie.Start
+start o = o .before .before .before .before .before .before
+
+-- the letters in which the two sides end
+named : (e : tie.After-last-letter2) → Letters (e .before .last-letter .result) (e .last-letter2 .result)
+named e =
+    let o = e .before .before in
+    let s = start o in
+    ends-named (s .args .cells .now) (s .args .a) (s .args .b) (o .before .before .before .cell-at .result) (o .before .before .cell-at2 .result) (o .before .before .before .cell-at .ensures) (o .before .before .cell-at2 .ensures) (o .if1 .left) (e .before .last-letter .result) (e .last-letter2 .result) (e .before .last-letter .ensures) (e .last-letter2 .ensures) (s .pre .0)
+
+there : (o : tie.Else1) → Short (start o .args .cells .now) (o .before .before .before .cell-at .result)
+there o =
+    let s = start o in
+    short-there (s .args .cells .now) (s .args .a) (s .args .b) (o .before .before .before .cell-at .result) (o .before .before .cell-at2 .result) (o .before .before .before .cell-at .ensures) (o .before .before .cell-at2 .ensures) (o .if1 .left) (s .pre .0)
+
+back : (o : tie.Else1) → Short (start o .args .cells .now) (o .before .before .cell-at2 .result)
+back o =
+    let s = start o in
+    short-back (s .args .cells .now) (s .args .a) (s .args .b) (o .before .before .before .cell-at .result) (o .before .before .cell-at2 .result) (o .before .before .before .cell-at .ensures) (o .before .before .cell-at2 .ensures) (o .if1 .left) (s .pre .0)
+
+cell-at-requires : tie.Need-cell-at-requires
+cell-at-requires c κs = search needs
+
+cell-at-requires-2 : tie.Need-cell-at-requires-2
+cell-at-requires-2 c κs = search needs
+
+shared-slice-read-if1 : tie.Need-shared-slice-read-if1
+shared-slice-read-if1 c = search needs
+
+returns : tie.Need-returns
+returns c =
+    let s = c .before .before .before .before .before .before in
+    (refl, open-done (s .args .cells .now) (s .args .a) (s .args .b) (c .before .before .before .cell-at .result) (c .before .before .before .cell-at .ensures) (c .if1 .taken) (s .args .mirror .now))
+
+last-letter-requires : tie.Need-last-letter-requires
+last-letter-requires c κs = there c
+
+last-letter-requires-2 : tie.Need-last-letter-requires-2
+last-letter-requires-2 c κs = back (c .before)
+
+returns-2 : tie.Need-returns-2
+returns-2 c =
+    let e = c .before in
+    let o = e .before .before in
+    let s = start o in
+    (refl, alike-done (s .args .cells .now) (s .args .a) (s .args .b) (o .before .before .before .cell-at .result) (o .before .before .cell-at2 .result) (o .before .before .before .cell-at .ensures) (o .before .before .cell-at2 .ensures) (o .if1 .left) (e .before .last-letter .result) (e .last-letter2 .result) (e .before .last-letter .ensures) (e .last-letter2 .ensures) (c .if2 .taken) (s .args .mirror .now))
+
+cell-at-requires-3 : tie.Need-cell-at-requires-3
+cell-at-requires-3 c κs = named (c .before)
+
+slice-read-if3 : tie.Need-slice-read-if3
+slice-read-if3 c =
+    let k = c .before in
+    let e = k .before .before in
+    omega (arith, k .cell-at3 .ensures, cell-inside (e .before .last-letter .result) (e .last-letter2 .result) (named e), start (e .before .before) .pre .1)
+
+returns-3 : tie.Need-returns-3
+returns-3 c =
+    let k = c .before .before in
+    let e = k .before .before in
+    let o = e .before .before in
+    let s = start o in
+    (refl, taken-done (s .args .cells .now) (s .args .a) (s .args .b) (o .before .before .before .cell-at .result) (o .before .before .cell-at2 .result) (o .before .before .before .cell-at .ensures) (o .before .before .cell-at2 .ensures) (o .if1 .left) (e .before .last-letter .result) (e .last-letter2 .result) (e .before .last-letter .ensures) (e .last-letter2 .ensures) (k .before .if2 .left) (s .args .mirror .now) (k .cell-at3 .result) (k .cell-at3 .ensures) (c .if3 .taken))
+
+put-backward-requires : tie.Need-put-backward-requires
+put-backward-requires c κs =
+    let k = c .before .before .before in
+    let e = k .before .before in
+    let o = e .before .before in
+    (there o, omega (arith, k .cell-at3 .ensures, cell-inside (e .before .last-letter .result) (e .last-letter2 .result) (named e), start o .pre .1))
+
+cell-at-requires-4 : tie.Need-cell-at-requires-4
+cell-at-requires-4 c κs =
+    let k = c .before .before .before .before .before .before .before in
+    let e = k .before .before in
+    swap-letters (e .before .last-letter .result) (e .last-letter2 .result) (named e)
+
+put-backward-requires-2 : tie.Need-put-backward-requires-2
+put-backward-requires-2 c κs =
+    let w = c .before .before .before .before in
+    let k = w .before .before .before .before in
+    let e = k .before .before in
+    let o = e .before .before in
+    let turned = swap-letters (e .before .last-letter .result) (e .last-letter2 .result) (named e) in
+    (back o, omega (arith, c .cell-at4 .ensures, cell-inside (e .last-letter2 .result) (e .before .last-letter .result) turned, start o .pre .1, w .put-backward .ensures .same-length))
+
+same-length : tie.Need-same-length
+same-length c = search needs
+
+returns-4 : tie.Need-returns-4
+returns-4 c =
+    let v = c .before .before in
+    let f = v .before in
+    let w = f .before .before .before .before in
+    let k = w .before .before .before .before in
+    let e = k .before .before in
+    let o = e .before .before in
+    let s = start o in (
+      v .put-backward2 .ensures .same-length ∙ w .put-backward .ensures .same-length,
+      entered-done (s .args .cells .now) (s .args .a) (s .args .b) (o .before .before .before .cell-at .result) (o .before .before .cell-at2 .result) (o .before .before .before .cell-at .ensures) (o .before .before .cell-at2 .ensures) (o .if1 .left) (e .before .last-letter .result) (e .last-letter2 .result) (e .before .last-letter .ensures) (e .last-letter2 .ensures) (k .before .if2 .left) (s .args .mirror .now) (k .cell-at3 .result) (k .cell-at3 .ensures) (w .before .before .if3 .left)
+          (f .cell-at4 .result) (f .cell-at4 .ensures) (w .put-backward .last .1 .1 .1 .0) (v .put-backward2 .last .1 .1 .1 .0) (w .put-backward .ensures) (v .put-backward2 .ensures),
+    )
+
+pub mirror-pair-spec : {M : Type 1} → statement M
+mirror-pair-spec =
+    tie.close
+    (tie.spec
+    cell-at-requires
+    cell-at-requires-2
+    shared-slice-read-if1
+    returns
+    last-letter-requires
+    last-letter-requires-2
+    returns-2
+    cell-at-requires-3
+    slice-read-if3
+    returns-3
+    put-backward-requires
+    cell-at-requires-4
+    put-backward-requires-2
+    same-length
+    returns-4)

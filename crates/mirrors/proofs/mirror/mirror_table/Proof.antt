@@ -1,0 +1,32 @@
+-- `mirrors::mirror::mirror_table` meets its contract.
+use mathlib.Core.Path.{ap, _∙_}
+use Prim.Native.Nat.{ℕ}
+use lib.ListN.{length, length-replicate}
+use Rattle.mirrors.proofs.Rows.{table-done}
+use borrow.Author.Needs.{needs}
+use Rattle.mirrors.proofs.mirror.mirror_table.Statement.{statement}
+use Rattle.mirrors.proofs.mirror.mirror_table.Tie as tie
+
+copy-weights-requires : tie.Need-copy-weights-requires
+copy-weights-requires c κs = search needs
+
+mirror-rows-requires : tie.Need-mirror-rows-requires
+mirror-rows-requires c κs = search needs
+
+same-length : tie.Need-same-length
+same-length c = search needs
+
+returns : tie.Need-returns
+returns c =
+    let v = c .before .before in
+    let w = v .before .before .before .before in
+    let s = w .before .before .before .before in
+    let same = v .mirror-rows .ensures .0 ∙ w .copy-weights .ensures .same-length in (
+      same,
+      table-done (s .args .cells .now) (s .args .size) (s .args .mirror .now) (w .copy-weights .last .1 .1 .0) (v .mirror-rows .last .1 .1 .0) (s .pre .1) (w .copy-weights .ensures)
+          (same ∙ (ap length (s .pre .1) ∙ length-replicate {A = ℕ} 4096 255)) (v .mirror-rows .result) (v .mirror-rows .ensures .1),
+    )
+
+pub mirror-table-spec : {M : Type 1} → statement M
+mirror-table-spec =
+    tie.close (tie.spec copy-weights-requires mirror-rows-requires same-length returns)
