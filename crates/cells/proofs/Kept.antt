@@ -40,12 +40,17 @@ kept-cell before after p q a b lp la d kept k h = kept (cellAt p q + k) (apart p
 pub same-cell-after : (before mid after : List ℕ) (p q : ℕ) → SameCell before mid p q → SameCell mid after p q → SameCell before after p q
 same-cell-after before mid after p q f g k h = g k h ∙ f k h
 
+-- the first byte of a cell
+pub first-byte : (before after : List ℕ) (p q : ℕ) → SameCell before after p q → getD after (cellAt p q) 0 ≡ getD before (cellAt p q) 0
+first-byte before after p q s =
+    let zero-th : cellAt p q + 0 ≡ cellAt p q = omega arith in
+    subst (λ i. getD after i 0 ≡ getD before i 0) zero-th (s 0 (omega arith))
+
 -- what a cell holds stays as long as its bytes do
 pub holds-word-kept : (size : ℕ) (before after : List ℕ) (p q : ℕ) (x : Positive) → SameCell before after p q → HoldsWord size before (cellAt p q) x → HoldsWord size after (cellAt p q) x
 holds-word-kept size before after p q x s h =
-    let zero-th : cellAt p q + 0 ≡ cellAt p q = omega arith in
     record {
-      count = subst (λ i. getD after i 0 ≡ getD before i 0) zero-th (s 0 (omega arith)) ∙ h .count;
+      count = first-byte before after p q s ∙ h .count;
       letters = λ k l.
           let e : cellAt p q + (1 + k) ≡ cellAt p q + 1 + k = omega arith in
           subst (λ i. getD after i 0 ≡ getD before i 0) e (s (1 + k) (omega (arith, h .in-range .short))) ∙ h .letters k l;
@@ -53,9 +58,7 @@ holds-word-kept size before after p q x s h =
     }
 
 pub holds-kept : (size : ℕ) (before after : List ℕ) (p q : ℕ) (c : Complement) → SameCell before after p q → HoldsFirst size before (cellAt p q) c → HoldsFirst size after (cellAt p q) c
-holds-kept size before after p q undefined s h =
-    let zero-th : cellAt p q + 0 ≡ cellAt p q = omega arith in
-    subst (λ i. getD after i 0 ≡ getD before i 0) zero-th (s 0 (omega arith)) ∙ h
+holds-kept size before after p q undefined s h = first-byte before after p q s ∙ h
 holds-kept size before after p q (complement x y) s h = holds-word-kept size before after p q x s h
 
 pub swap-letters : (a b : ℕ) → Letters a b → Letters b a

@@ -62,8 +62,8 @@ module _ (cells : List ℕ) (a cell count : ℕ) (small : count ≤ 15) (begun :
       record { some-left = omega arith; same-length = refl; first = e; next-is = refl; letters = λ j h. absurd (omega arith); kept = λ i o. refl }
 
   module _ (mirror : List ℕ) (next k : ℕ) (p : Putting cells a cell count begun to mirror next k) where
-    pub put-more : k < count → Putting cells a cell count begun to (set mirror (to + count - k) next) (getD cells (cell + 1 + k) 0) (k + 1)
-    put-more h =
+    one-put : k < count → Putting cells a cell count begun to (set mirror (to + count - k) next) (getD cells (cell + 1 + k) 0) (k + 1)
+    one-put h =
         record {
           some-left = omega arith;
           same-length = length-set mirror (to + count - k) next ∙ p .same-length;
@@ -79,6 +79,10 @@ module _ (cells : List ℕ) (a cell count : ℕ) (small : count ≤ 15) (begun :
             let e : j ≡ k = omega arith in
             ap (λ j. getD (set mirror (to + count - k) next) (to + count - j) 0) e
             ∙ (getD-set-same mirror (to + count - k) next 0 (omega (arith, p .same-length)) ∙ (p .next-is ∙ ap (sideAt cells a cell) (sym e)))
+
+    -- one letter more, at the place that was worked out for it
+    pub put-more : k < count → (place : ℕ) → place ≡ to + count - k → Putting cells a cell count begun to (set mirror place next) (getD cells (cell + 1 + k) 0) (k + 1)
+    put-more h place e = rw e (one-put h)
 
     module _ (done : count ≤ k) (counted : getD cells cell 0 ≡ count) (size : ℕ) (x : Positive) (named : InRange size a) (h : HoldsWord size cells cell x) where
       word-long : length x ≡ count

@@ -22,17 +22,11 @@ use Rattle.model.proofs.Mirrors.{ending-own, ending-other, else-none, found-mor
 use Rattle.cells.specs.Layout.{Letters, cellAt}
 use Rattle.cells.specs.Stands.{HoldsWord, HoldsFirst, Of}
 use Rattle.cells.specs.Kept.{KeptOutside, SameCell, HoldsPair, KeptPair}
-use Rattle.cells.proofs.Kept.{holds-kept, words-held, words-kept}
+use Rattle.cells.proofs.Kept.{first-byte, holds-kept, words-held, words-kept}
 use Rattle.mirrors.specs.Mirror.{offended, Building, WeightsCopied}
 
 pub wide : {n a : ℕ} → n ≤ 16 → InRange n a → InRange 16 a
 wide few r = record { low = r .low; high = omega (arith, r .high) }
-
--- the first byte of a cell
-first-byte : (before after : List ℕ) (p q : ℕ) → SameCell before after p q → getD after (cellAt p q) 0 ≡ getD before (cellAt p q) 0
-first-byte before after p q s =
-    let zero-th : cellAt p q + 0 ≡ cellAt p q = omega arith in
-    subst (λ i. getD after i 0 ≡ getD before i 0) zero-th (s 0 (omega arith))
 
 same-pair : (i j p q : ℕ) → Dec ((i ≡ p) × (j ≡ q))
 same-pair i j p q = go (ℕ-discrete i p) (ℕ-discrete j q)

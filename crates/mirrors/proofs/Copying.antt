@@ -70,9 +70,10 @@ module _ (cells before : List ℕ) (full : length before ≡ 4096) (mirror : Lis
             (kept-cell mirror copied p q a a l (named, named) (λ e. d (e .0 ∙ sym (e .1))) outside);
       }
 
-  -- one letter more, at the places that were worked out for it
-  pub copied-more : (cell place : ℕ) → cell ≡ cellAt a a → place ≡ weightAt a → Copying cells before (set (set mirror cell 0) place (getD cells place 0)) (a + 1)
-  copied-more cell place e f = rw (e, f) one-copied
+  -- one letter more, with the values and at the places that were worked out for it
+  pub copied-more : (cell place from none : ℕ) → cell ≡ cellAt a a → place ≡ weightAt a → from ≡ weightAt a → none ≡ 0
+      → Copying cells before (set (set mirror cell none) place (getD cells from 0)) (a + 1)
+  copied-more cell place from none e f g h = rw (e, f, g, h) one-copied
 
 pub copied-all : (cells : List ℕ) (size : ℕ) (before mirror : List ℕ) (a : ℕ) → size < a → Copying cells before mirror a → WeightsCopied cells size before mirror
 copied-all cells size before mirror a h c =

@@ -123,7 +123,7 @@ found-turned T p q d (r ∷ rs) =
     let relation = relationEnding p q (r .a) (r .b) (complete T (r .a) (r .b)) in
     ap₂ orElse (relation-turned p q d (r .a) (r .b) (complete T (r .a) (r .b))) (found-turned T p q d rs) ∙ else-turned relation (found T p q rs)
 
-pub backward-turned : (c : Complement) → backward (swapped c) ≡ swapped (backward c)
+backward-turned : (c : Complement) → backward (swapped c) ≡ swapped (backward c)
 backward-turned undefined = refl
 backward-turned (complement x y) = refl
 

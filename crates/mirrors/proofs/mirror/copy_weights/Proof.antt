@@ -41,7 +41,7 @@ shared-slice-read-mirror : tie.Need-shared-slice-read-mirror Inv-loop μ-loop
 shared-slice-read-mirror c =
     let s = c .before .before .before .before .before .before .before in
     let l = c .before .before .before .before .loop in
-    omega (arith, c .before .weight-at .ensures, s .pre .0 .1 .stands .full, l .inv .0, l .inv .2, c .before .before .before .loop-test .taken)
+    omega (arith, c .before .before .cell-at .ensures, c .before .weight-at .ensures, s .pre .0 .1 .stands .full, l .inv .0, l .inv .2, c .before .before .before .loop-test .taken)
 
 slice-write-mirror-2 : tie.Need-slice-write-mirror-2 Inv-loop μ-loop
 slice-write-mirror-2 c =
@@ -63,7 +63,8 @@ loop-again c =
       l .inv .2,
       l .inv .3,
       copied-more (s .args .cells .now) (s .args .mirror .now) (l .inv .3) (l .mirror) (l .a) (record { low = l .inv .0; high = omega (arith, l .inv .2, c .before .before .before .loop-test .taken) }) (l .inv .4)
-          (c .before .before .cell-at .result) (c .before .weight-at .result) (c .before .before .cell-at .ensures) (c .before .weight-at .ensures),
+          (c .before .before .cell-at .result) (c .before .weight-at .result) (c .before .weight-at .result) 0
+          (c .before .before .cell-at .ensures) (c .before .weight-at .ensures) (omega (arith, c .before .before .cell-at .ensures, c .before .weight-at .ensures)) (omega arith),
     )
 
 same-length : tie.Need-same-length Inv-loop μ-loop

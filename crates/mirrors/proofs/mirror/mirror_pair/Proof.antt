@@ -1,8 +1,10 @@
 -- `mirrors::mirror::mirror_pair` meets its contract.
-use mathlib.Core.Path.{refl, _∙_}
+use mathlib.Core.Path.{_≡_, refl, _∙_}
+use mathlib.Core.Logic.{_≢_}
 use native.Mathlib.Omega.{arith}
+use lib.ListN.{getD}
 use Rattle.cells.specs.Layout.{Letters}
-use Rattle.cells.proofs.Kept.{cell-inside, swap-letters}
+use Rattle.cells.proofs.Kept.{cell-inside}
 use Rattle.mirrors.specs.Sides.{Short}
 use Rattle.mirrors.proofs.Entering.{open-done, short-there, short-back, ends-named, alike-done, taken-done, entered-done}
 use borrow.Author.Needs.{needs}
@@ -12,22 +14,28 @@ use Rattle.mirrors.proofs.mirror.mirror_pair.Tie as tie
 abbrev start : tie.Else1 → tie.Start
 start o = o .before .before .before .before .before .before
 
+defined : (o : tie.Else1) → getD (start o .args .cells .now) (o .before .before .before .cell-at .result) 0 ≡ 255 → ⊥
+defined o e = omega (arith, o .if1 .left)
+
 -- the letters in which the two sides end
 named : (e : tie.After-last-letter2) → Letters (e .before .last-letter .result) (e .last-letter2 .result)
 named e =
     let o = e .before .before in
     let s = start o in
-    ends-named (s .args .cells .now) (s .args .a) (s .args .b) (o .before .before .before .cell-at .result) (o .before .before .cell-at2 .result) (o .before .before .before .cell-at .ensures) (o .before .before .cell-at2 .ensures) (o .if1 .left) (e .before .last-letter .result) (e .last-letter2 .result) (e .before .last-letter .ensures) (e .last-letter2 .ensures) (s .pre .0)
+    ends-named (s .args .cells .now) (s .args .a) (s .args .b) (o .before .before .before .cell-at .result) (o .before .before .cell-at2 .result) (o .before .before .before .cell-at .ensures) (o .before .before .cell-at2 .ensures) (defined o) (e .before .last-letter .result) (e .last-letter2 .result) (e .before .last-letter .ensures) (e .last-letter2 .ensures) (s .pre .0)
+
+differ : (k : tie.Else2) → k .before .before .last-letter .result ≢ k .before .last-letter2 .result
+differ k e = omega (arith, k .if2 .left)
 
 there : (o : tie.Else1) → Short (start o .args .cells .now) (o .before .before .before .cell-at .result)
 there o =
     let s = start o in
-    short-there (s .args .cells .now) (s .args .a) (s .args .b) (o .before .before .before .cell-at .result) (o .before .before .cell-at2 .result) (o .before .before .before .cell-at .ensures) (o .before .before .cell-at2 .ensures) (o .if1 .left) (s .pre .0)
+    short-there (s .args .cells .now) (s .args .a) (s .args .b) (o .before .before .before .cell-at .result) (o .before .before .cell-at2 .result) (o .before .before .before .cell-at .ensures) (o .before .before .cell-at2 .ensures) (defined o) (s .pre .0)
 
 back : (o : tie.Else1) → Short (start o .args .cells .now) (o .before .before .cell-at2 .result)
 back o =
     let s = start o in
-    short-back (s .args .cells .now) (s .args .a) (s .args .b) (o .before .before .before .cell-at .result) (o .before .before .cell-at2 .result) (o .before .before .before .cell-at .ensures) (o .before .before .cell-at2 .ensures) (o .if1 .left) (s .pre .0)
+    short-back (s .args .cells .now) (s .args .a) (s .args .b) (o .before .before .before .cell-at .result) (o .before .before .cell-at2 .result) (o .before .before .before .cell-at .ensures) (o .before .before .cell-at2 .ensures) (defined o) (s .pre .0)
 
 cell-at-requires : tie.Need-cell-at-requires
 cell-at-requires c κs = search needs
@@ -41,7 +49,7 @@ shared-slice-read-if1 c = search needs
 returns : tie.Need-returns
 returns c =
     let s = c .before .before .before .before .before .before in
-    (refl, open-done (s .args .cells .now) (s .args .a) (s .args .b) (c .before .before .before .cell-at .result) (c .before .before .before .cell-at .ensures) (c .if1 .taken) (s .args .mirror .now))
+    (refl, open-done (s .args .cells .now) (s .args .a) (s .args .b) (c .before .before .before .cell-at .result) (c .before .before .before .cell-at .ensures) (omega (arith, c .if1 .taken)) (s .args .mirror .now))
 
 last-letter-requires : tie.Need-last-letter-requires
 last-letter-requires c κs = there c
@@ -54,7 +62,7 @@ returns-2 c =
     let e = c .before in
     let o = e .before .before in
     let s = start o in
-    (refl, alike-done (s .args .cells .now) (s .args .a) (s .args .b) (o .before .before .before .cell-at .result) (o .before .before .cell-at2 .result) (o .before .before .before .cell-at .ensures) (o .before .before .cell-at2 .ensures) (o .if1 .left) (e .before .last-letter .result) (e .last-letter2 .result) (e .before .last-letter .ensures) (e .last-letter2 .ensures) (c .if2 .taken) (s .args .mirror .now))
+    (refl, alike-done (s .args .cells .now) (s .args .a) (s .args .b) (o .before .before .before .cell-at .result) (o .before .before .cell-at2 .result) (o .before .before .before .cell-at .ensures) (o .before .before .cell-at2 .ensures) (defined o) (e .before .last-letter .result) (e .last-letter2 .result) (e .before .last-letter .ensures) (e .last-letter2 .ensures) (omega (arith, c .if2 .taken)) (s .args .mirror .now))
 
 cell-at-requires-3 : tie.Need-cell-at-requires-3
 cell-at-requires-3 c κs = named (c .before)
@@ -71,7 +79,7 @@ returns-3 c =
     let e = k .before .before in
     let o = e .before .before in
     let s = start o in
-    (refl, taken-done (s .args .cells .now) (s .args .a) (s .args .b) (o .before .before .before .cell-at .result) (o .before .before .cell-at2 .result) (o .before .before .before .cell-at .ensures) (o .before .before .cell-at2 .ensures) (o .if1 .left) (e .before .last-letter .result) (e .last-letter2 .result) (e .before .last-letter .ensures) (e .last-letter2 .ensures) (k .before .if2 .left) (s .args .mirror .now) (k .cell-at3 .result) (k .cell-at3 .ensures) (c .if3 .taken))
+    (refl, taken-done (s .args .cells .now) (s .args .a) (s .args .b) (o .before .before .before .cell-at .result) (o .before .before .cell-at2 .result) (o .before .before .before .cell-at .ensures) (o .before .before .cell-at2 .ensures) (defined o) (e .before .last-letter .result) (e .last-letter2 .result) (e .before .last-letter .ensures) (e .last-letter2 .ensures) (differ (k .before)) (s .args .mirror .now) (k .cell-at3 .result) (k .cell-at3 .ensures) (λ e. omega (arith, c .if3 .taken)))
 
 put-backward-requires : tie.Need-put-backward-requires
 put-backward-requires c κs =
@@ -83,8 +91,8 @@ put-backward-requires c κs =
 cell-at-requires-4 : tie.Need-cell-at-requires-4
 cell-at-requires-4 c κs =
     let k = c .before .before .before .before .before .before .before in
-    let e = k .before .before in
-    swap-letters (e .before .last-letter .result) (e .last-letter2 .result) (named e)
+    let n = named (k .before .before) in
+    (record { low = omega (arith, n .0 .low, n .1 .low); high = omega (arith, n .0 .high, n .1 .high) }, record { low = omega (arith, n .0 .low, n .1 .low); high = omega (arith, n .0 .high, n .1 .high) })
 
 put-backward-requires-2 : tie.Need-put-backward-requires-2
 put-backward-requires-2 c κs =
@@ -92,8 +100,8 @@ put-backward-requires-2 c κs =
     let k = w .before .before .before .before in
     let e = k .before .before in
     let o = e .before .before in
-    let turned = swap-letters (e .before .last-letter .result) (e .last-letter2 .result) (named e) in
-    (back o, omega (arith, c .cell-at4 .ensures, cell-inside (e .last-letter2 .result) (e .before .last-letter .result) turned, start o .pre .1, w .put-backward .ensures .same-length))
+    let n = named e in
+    (back o, omega (arith, c .cell-at4 .ensures, n .0 .low, n .0 .high, n .1 .low, n .1 .high, start o .pre .1, w .put-backward .ensures .same-length))
 
 same-length : tie.Need-same-length
 same-length c = search needs
@@ -108,8 +116,8 @@ returns-4 c =
     let o = e .before .before in
     let s = start o in (
       v .put-backward2 .ensures .same-length ∙ w .put-backward .ensures .same-length,
-      entered-done (s .args .cells .now) (s .args .a) (s .args .b) (o .before .before .before .cell-at .result) (o .before .before .cell-at2 .result) (o .before .before .before .cell-at .ensures) (o .before .before .cell-at2 .ensures) (o .if1 .left) (e .before .last-letter .result) (e .last-letter2 .result) (e .before .last-letter .ensures) (e .last-letter2 .ensures) (k .before .if2 .left) (s .args .mirror .now) (k .cell-at3 .result) (k .cell-at3 .ensures) (w .before .before .if3 .left)
-          (f .cell-at4 .result) (f .cell-at4 .ensures) (w .put-backward .last .1 .1 .1 .0) (v .put-backward2 .last .1 .1 .1 .0) (w .put-backward .ensures) (v .put-backward2 .ensures),
+      entered-done (s .args .cells .now) (s .args .a) (s .args .b) (o .before .before .before .cell-at .result) (o .before .before .cell-at2 .result) (o .before .before .before .cell-at .ensures) (o .before .before .cell-at2 .ensures) (defined o) (e .before .last-letter .result) (e .last-letter2 .result) (e .before .last-letter .ensures) (e .last-letter2 .ensures) (differ (k .before)) (s .args .mirror .now) (k .cell-at3 .result) (k .cell-at3 .ensures) (omega (arith, w .before .before .if3 .left))
+          (f .cell-at4 .result) (omega (arith, f .cell-at4 .ensures)) (w .put-backward .last .1 .1 .1 .0) (v .put-backward2 .last .1 .1 .1 .0) (w .put-backward .ensures) (v .put-backward2 .ensures),
     )
 
 pub mirror-pair-spec : {M : Type 1} → statement M

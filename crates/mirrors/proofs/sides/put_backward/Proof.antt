@@ -68,7 +68,8 @@ loop-again c =
     let count = getD (s .args .cells .now) (s .args .cell) 0 in (
       l .inv .0,
       l .inv .1,
-      put-more (s .args .cells .now) (s .args .a) (s .args .cell) count (l .inv .0) (set (s .args .mirror .now) (s .args .to) count) (s .args .to) (l .inv .1) (l .mirror) (l .next) (l .k) (l .inv .2) (c .before .loop-test .taken),
+      put-more (s .args .cells .now) (s .args .a) (s .args .cell) count (l .inv .0) (set (s .args .mirror .now) (s .args .to) count) (s .args .to) (l .inv .1) (l .mirror) (l .next) (l .k) (l .inv .2) (c .before .loop-test .taken)
+          (s .args .to + count - l .k) (omega arith),
     )
 
 same-length : tie.Need-same-length Inv-loop μ-loop
