@@ -1,5 +1,5 @@
 ghost use mathlib.Core.Path.{_≡_};
-ghost use mathlib.Core.List.{_++_};
+ghost use mathlib.Core.List.{_++_, reverse};
 ghost use Prim.Native.Nat.{_≤_};
 ghost use lib.ListN.{length, take, drop, replicate};
 
@@ -24,5 +24,23 @@ pub fn copy_bytes(from: &[u8], count: usize, area: &mut [u8])
     while i < count {
         area[i] = from[i];
         i += 1;
+    }
+}
+
+// Turns the order of the first bytes around.
+pub fn turn_around(area: &mut [u8], count: usize)
+    requires { ⌜ count ≤ length (now area) ⌝ }
+    ensures length { λ r. ⌜ length (now (area .exit)) ≡ length (now (area .entry)) ⌝ }
+    ensures bytes { λ r. ⌜ now (area .exit) ≡ reverse (take count (now (area .entry))) ++ drop count (now (area .entry)) ⌝ }
+{
+    let mut low: usize = 0;
+    let mut high = count;
+    while low < high {
+        high -= 1;
+        let first = area[low];
+        let last = area[high];
+        area[high] = first;
+        area[low] = last;
+        low += 1;
     }
 }

@@ -16,7 +16,7 @@ refusedTold r = numbers (r .number) (r .place) (r .a) (r .b) (r .c)
 
 abbrev pub told : {A : Type 0} → (A → Numbers) → Outcome A → Numbers
 told tell (answered x) = tell x
-told tell (refused n ps) = refusedTold (numbersTold n ps)
+told tell (refused n place) = refusedTold (numbersTold n place)
 
 -- reverse: the lengths of N and D, and the steps
 abbrev pub sizesTold : Sizes → Numbers

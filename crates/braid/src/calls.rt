@@ -4,12 +4,14 @@ ghost use mathlib.Core.Path.{_≡_};
 ghost use Rattle.model.specs.Outcome.{mapped, answered};
 ghost use Rattle.model.specs.Images.{readTable};
 ghost use Rattle.model.specs.Plain.{readPlainTable};
-ghost use Rattle.model.specs.Services.{reverse, clear, compare, chain, remainder, check, packTable, unpackTable, packProgram, unpackProgram, listable, programUnder, plainProgramUnder};
+ghost use Rattle.model.specs.Services.{reverse, leftReverse, clear, mirrorClear, compare, chain, remainder, check, packTable, unpackTable, packProgram, unpackProgram, listable, programUnder, plainProgramUnder};
 ghost use Rattle.model.specs.Bed.{bed};
 ghost use Rattle.model.specs.Areas.{outputAfter, workspaceAfter, fractionBytes, remainderBytes, ChainArea, ReadsBack};
 ghost use Rattle.model.specs.Stated.{sizes, counted};
 ghost use Rattle.clearing.specs.Clear.{ClearMeaning};
 ghost use Rattle.reversal.specs.Reverse.{ReverseMeaning};
+ghost use Rattle.left_reversal.specs.LeftReverse.{LeftMeaning};
+ghost use Rattle.mirror_clearing.specs.MirrorClear.{MirrorClearMeaning};
 ghost use Rattle.comparing.specs.Compare.{Meaning};
 ghost use Rattle.chaining.specs.Chain.{ListedChecks};
 ghost use Rattle.remainders.specs.Remainder.{RemainderMeaning};
@@ -29,6 +31,8 @@ use chaining::chain::chain;
 use checking::check::check;
 use clearing::clear::clear;
 use comparing::compare::compare;
+use left_reversal::left_reverse::left_reverse;
+use mirror_clearing::mirror_clear::mirror_clear;
 use packing::pack_program;
 use packing::pack_table;
 use packing::unpack_program;
@@ -63,6 +67,24 @@ pub extern "C" fn braid_reverse(
 }
 
 #[no_mangle]
+pub extern "C" fn braid_left_reverse(
+    table: &[u8],
+    program: &[u8],
+    allowance: u16,
+    workspace: &mut [u8],
+    answer: &mut [u8],
+    values: &mut [u64; 4],
+) -> u8
+    ensures told { λ r. ⌜ Tells (told sizesTold (mapped sizes (leftReverse (now (table .entry)) (now (program .entry)) allowance (length (now (workspace .entry))) (length (now (answer .entry)))))) r (now (values .exit)) ⌝ }
+    ensures answer { λ r. ⌜ now (answer .exit) ≡ outputAfter fractionBytes (leftReverse (now (table .entry)) (now (program .entry)) allowance (length (now (workspace .entry))) (length (now (answer .entry)))) (now (answer .entry)) ⌝ }
+    ensures workspace { λ r. ⌜ now (workspace .exit) ≡ workspaceAfter (leftReverse (now (table .entry)) (now (program .entry)) allowance (length (now (workspace .entry))) (length (now (answer .entry)))) (now (workspace .entry)) ⌝ }
+    ensures meaning { λ r. ⌜ LeftMeaning (now (table .entry)) (now (program .entry)) allowance (length (now (workspace .entry))) (now (answer .entry)) (now (answer .exit)) (mapped sizes (leftReverse (now (table .entry)) (now (program .entry)) allowance (length (now (workspace .entry))) (length (now (answer .entry))))) ⌝ }
+{
+    let reversed = left_reverse(table, program, allowance, workspace, answer);
+    tell(of_reversed(reversed), values)
+}
+
+#[no_mangle]
 pub extern "C" fn braid_clear(
     table: &[u8],
     allowance: u16,
@@ -74,6 +96,21 @@ pub extern "C" fn braid_clear(
     ensures meaning { λ r. ⌜ ClearMeaning (now (table .entry)) (clear (now (table .entry)) allowance (length (now (workspace .entry)))) ⌝ }
 {
     let cleared = clear(table, allowance, workspace);
+    tell(of_cleared(cleared), values)
+}
+
+#[no_mangle]
+pub extern "C" fn braid_mirror_clear(
+    table: &[u8],
+    allowance: u16,
+    workspace: &mut [u8],
+    values: &mut [u64; 4],
+) -> u8
+    ensures told { λ r. ⌜ Tells (told passedTold (mirrorClear (now (table .entry)) allowance (length (now (workspace .entry))))) r (now (values .exit)) ⌝ }
+    ensures workspace { λ r. ⌜ now (workspace .exit) ≡ workspaceAfter (mirrorClear (now (table .entry)) allowance (length (now (workspace .entry)))) (now (workspace .entry)) ⌝ }
+    ensures meaning { λ r. ⌜ MirrorClearMeaning (now (table .entry)) allowance (length (now (workspace .entry))) (mirrorClear (now (table .entry)) allowance (length (now (workspace .entry)))) ⌝ }
+{
+    let cleared = mirror_clear(table, allowance, workspace);
     tell(of_cleared(cleared), values)
 }
 

@@ -12,7 +12,7 @@ use lib.Seq.{drop-length}
 use Rattle.model.specs.Word.{Positive, positive}
 use Rattle.model.specs.Presentation.{Presentation}
 use Rattle.model.specs.Equivalence.{Entry, applied, Joined}
-use Rattle.model.specs.Outcome.{Outcome, answered, refused, _>>=_}
+use Rattle.model.specs.Outcome.{unplaced, Outcome, answered, refused, _>>=_}
 use Rattle.model.specs.Images.{readChain}
 use Rattle.model.specs.Plain.{plainProgram}
 use Rattle.model.specs.Services.{Passage, joins, readForward, followedBy, followed, passage, check}
@@ -76,7 +76,7 @@ module _ (T : Presentation) (width : ℕ) where
   abbrev Wipes : Outcome Passage → Type 0
   Wipes o = (area : List ℕ) → workspaceAfter o area ≡ replicate (length area) 0
 
-  fits-wipes : (go : Outcome Passage) → Wipes go → (t : Bool) → Wipes (cond t (refused 12 []) go)
+  fits-wipes : (go : Outcome Passage) → Wipes go → (t : Bool) → Wipes (cond t (refused 12 unplaced) go)
   fits-wipes go h true area = refl
   fits-wipes go h false area = h area
 
@@ -94,11 +94,11 @@ module _ (T : Presentation) (width : ℕ) where
     pub passage-wipes : (area : List ℕ) → workspaceAfter (passage T width u es v) area ≡ replicate (length area) 0
     passage-wipes area = fits-wipes (followed T width 0 u es v) (followed-wipes es 0 u v) (ltb width (length u)) area
 
-    pub passage-long : width < length u → passage T width u es v ≡ refused 12 []
-    passage-long h = ap (λ t. cond t (refused 12 []) (followed T width 0 u es v)) (lt-ltb width (length u) h)
+    pub passage-long : width < length u → passage T width u es v ≡ refused 12 unplaced
+    passage-long h = ap (λ t. cond t (refused 12 unplaced) (followed T width 0 u es v)) (lt-ltb width (length u) h)
 
     pub passage-fits : length u ≤ width → passage T width u es v ≡ followed T width 0 u es v
-    passage-fits h = ap (λ t. cond t (refused 12 []) (followed T width 0 u es v)) (le-ltb width (length u) h)
+    passage-fits h = ap (λ t. cond t (refused 12 unplaced) (followed T width 0 u es v)) (le-ltb width (length u) h)
 
     -- from the first program as it is loaded
     pub passed : (unpacked : List ℕ) (right : ℕ) → length unpacked ≡ width → heldAt unpacked 0 right ≡ u → length u ≤ width

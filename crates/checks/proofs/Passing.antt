@@ -9,7 +9,7 @@ use Rattle.model.specs.Word.{positive}
 use Rattle.model.specs.Presentation.{Presentation, swapped, complete}
 use Rattle.model.specs.Reversing.{budget, room}
 use Rattle.model.specs.Enumeration.{Two, Three}
-use Rattle.model.specs.Outcome.{Outcome, refused, _>>=_}
+use Rattle.model.specs.Outcome.{pair-of, triple-of, Outcome, refused, _>>=_}
 use Rattle.model.specs.Checks.{balanced, weightCheck, CubeVerdict, holds, fails, halts, reported, cubeAt, cubeCheck}
 use Rattle.model.specs.declared.answers.Stop.{Stop}
 use Rattle.model.specs.declared.answers.Stop.the-variants.{Budget, Room}
@@ -39,19 +39,19 @@ module _ (cells : List ℕ) (size : ℕ) (T : Presentation) (o : Of cells size T
 
 module _ (T : Presentation) (p : Two) (ps : List Two) where
   pub pair-passes : balanced T (p .a) (p .b) (complete T (p .a) (p .b)) ≡ true → weightCheck T (p ∷ ps) ≡ weightCheck T ps
-  pair-passes e = ap (λ t. cond t (weightCheck T ps) (refused 8 (p .a ∷ p .b ∷ []))) e
+  pair-passes e = ap (λ t. cond t (weightCheck T ps) (refused 8 (pair-of (p .a) (p .b)))) e
 
-  pub pair-fails : balanced T (p .a) (p .b) (complete T (p .a) (p .b)) ≡ false → weightCheck T (p ∷ ps) ≡ refused 8 (p .a ∷ p .b ∷ [])
-  pair-fails e = ap (λ t. cond t (weightCheck T ps) (refused 8 (p .a ∷ p .b ∷ []))) e
+  pub pair-fails : balanced T (p .a) (p .b) (complete T (p .a) (p .b)) ≡ false → weightCheck T (p ∷ ps) ≡ refused 8 (pair-of (p .a) (p .b))
+  pair-fails e = ap (λ t. cond t (weightCheck T ps) (refused 8 (pair-of (p .a) (p .b)))) e
 
-weights-by : (T : Presentation) (t : Bool) (p : Two) (x y : Outcome (Unit {0})) → (cond t x (refused 8 (p .a ∷ p .b ∷ [])) >>= λ ok. y) ≡ cond t (x >>= λ ok. y) (refused 8 (p .a ∷ p .b ∷ []))
+weights-by : (T : Presentation) (t : Bool) (p : Two) (x y : Outcome (Unit {0})) → (cond t x (refused 8 (pair-of (p .a) (p .b))) >>= λ ok. y) ≡ cond t (x >>= λ ok. y) (refused 8 (pair-of (p .a) (p .b)))
 weights-by T true p x y = refl
 weights-by T false p x y = refl
 
 pub weights-append : (T : Presentation) (xs ys : List Two) → weightCheck T (xs ++ ys) ≡ (weightCheck T xs >>= λ ok. weightCheck T ys)
 weights-append T [] ys = refl
 weights-append T (p ∷ xs) ys =
-    ap (λ o. cond (balanced T (p .a) (p .b) (complete T (p .a) (p .b))) o (refused 8 (p .a ∷ p .b ∷ []))) (weights-append T xs ys)
+    ap (λ o. cond (balanced T (p .a) (p .b) (complete T (p .a) (p .b))) o (refused 8 (pair-of (p .a) (p .b)))) (weights-append T xs ys)
     ∙ sym (weights-by T (balanced T (p .a) (p .b) (complete T (p .a) (p .b))) p (weightCheck T xs) (weightCheck T ys))
 
 -- TRIPLES
@@ -65,10 +65,10 @@ module _ (T : Presentation) (steps width : ℕ) (t : Three) (ts : List Three) wh
   pub triple-passes : Holds ≡ cubeAnswer (cubeAt T steps width t) → cubeCheck T steps width (t ∷ ts) ≡ cubeCheck T steps width ts
   triple-passes e = ap (λ v. reported t v (cubeCheck T steps width ts)) (verdict-holds (cubeAt T steps width t) e)
 
-  pub triple-fails : Fails ≡ cubeAnswer (cubeAt T steps width t) → refused 9 (t .a ∷ t .b ∷ t .c ∷ []) ≡ cubeCheck T steps width (t ∷ ts)
+  pub triple-fails : Fails ≡ cubeAnswer (cubeAt T steps width t) → refused 9 (triple-of (t .a) (t .b) (t .c)) ≡ cubeCheck T steps width (t ∷ ts)
   triple-fails e = go (cubeAt T steps width t) refl e
     where
-      go : (v : CubeVerdict) → cubeAt T steps width t ≡ v → Fails ≡ cubeAnswer v → refused 9 (t .a ∷ t .b ∷ t .c ∷ []) ≡ cubeCheck T steps width (t ∷ ts)
+      go : (v : CubeVerdict) → cubeAt T steps width t ≡ v → Fails ≡ cubeAnswer v → refused 9 (triple-of (t .a) (t .b) (t .c)) ≡ cubeCheck T steps width (t ∷ ts)
       go holds f g = impossible (cc)
       go fails f g = sym (ap (λ v. reported t v (cubeCheck T steps width ts)) f)
       go (halts s) f g = impossible (cc)

@@ -5,7 +5,7 @@ use Prim.Native.Nat.{ℕ, _+_, _≤_, _<_}
 use Rattle.model.specs.Word.{positive}
 use Rattle.model.specs.Presentation.{Presentation}
 use Rattle.model.specs.Enumeration.{Three, triples}
-use Rattle.model.specs.Outcome.{answered, refused}
+use Rattle.model.specs.Outcome.{triple-of, answered, refused}
 use Rattle.model.specs.Checks.{cubeCheck}
 use Rattle.model.specs.declared.answers.Stop.{Stop}
 use Rattle.cells.specs.Stands.{Serves, Of}
@@ -61,7 +61,7 @@ module _ (cells : List ℕ) (size steps width : ℕ) where
       pass-third m T o = here T o ∙ triple-passes T steps width (triple a b c) (thirds size a b (c + 1) ++ rest) (m T (served o))
 
       pub fail-third : CubeMeans cells width a b c steps Fails → (T : Presentation) → Of cells size T
-          → refused 9 (a ∷ b ∷ c ∷ []) ≡ cubeCheck T steps width (triples size)
+          → refused 9 (triple-of a b c) ≡ cubeCheck T steps width (triples size)
       fail-third m T o = triple-fails T steps width (triple a b c) (thirds size a b (c + 1) ++ rest) (m T (served o)) ∙ sym (here T o)
 
       pub halt-third : (s : Stop) → CubeMeans cells width a b c steps (Halts s) → (T : Presentation) → Of cells size T

@@ -1,13 +1,13 @@
 -- What the answer of a reversing in the workspace says of the ending: the finished word, the pair that was met, or the stop.
 use mathlib.Core.Path.{_≡_, refl, sym, ap, ap₂, _∙_}
-use mathlib.Core.List.{List, [], _++_}
+use mathlib.Core.List.{List, _++_}
 use Prim.Native.Nat.{ℕ, _+_, _≤_}
 use native.Mathlib.Omega.{arith}
 use lib.ListN.{length, take, length-append, length-take}
 use Rattle.model.specs.Word.{Word, Positive, positive, negative}
 use Rattle.model.specs.Presentation.{Presentation}
 use Rattle.model.specs.Reversing.{Stop, budget, room, Ending, finished, open-pair, stopped, reversing}
-use Rattle.model.specs.Outcome.{refused}
+use Rattle.model.specs.Outcome.{unplaced, refused}
 use Rattle.model.specs.Checks.{stopNumber}
 use Rattle.model.specs.Stated.{refusal, stopRefusal, stopAnswer, endingAnswer}
 use Rattle.model.specs.declared.answers.Ending.{Ending as EndingAnswer}
@@ -21,7 +21,7 @@ use Rattle.engine.proofs.Letters.{length-letters}
 use Rattle.engine.proofs.Lettering.{length-positive, length-negative}
 
 -- a stop of the programs is refused by its number, without place numbers
-pub stop-numbered : {A : Type 0} (s : Stop) → refusal {A = A} (stopRefusal (stopAnswer s)) ≡ refused (stopNumber s) []
+pub stop-numbered : {A : Type 0} (s : Stop) → refusal {A = A} (stopRefusal (stopAnswer s)) ≡ refused (stopNumber s) unplaced
 stop-numbered budget = refl
 stop-numbered room = refl
 

@@ -1,11 +1,11 @@
 -- A chain's next entry, and the entries of an accepted chain one by one. Each stands where its number says.
 use mathlib.Core.Path.{_≡_, sym, ap, subst, _∙_}
-use mathlib.Core.List.{List, []}
+use mathlib.Core.List.{List}
 use Prim.Native.Nat.{ℕ, _+_, _<_}
 use native.Mathlib.Omega.{arith}
 use lib.ListN.{length, getD}
 use Rattle.model.specs.Equivalence.{Entry}
-use Rattle.model.specs.Outcome.{Outcome, answered, refused, _>>=_}
+use Rattle.model.specs.Outcome.{unplaced, Outcome, answered, refused, _>>=_}
 use Rattle.model.specs.Bits.{Read, field, bitsOf}
 use Rattle.model.specs.Images.{letterField, entryWidth, entryPosition, entryField, readChain}
 use Rattle.bits.proofs.Bytes.{bits-are-bits}
@@ -31,7 +31,7 @@ module _ (image : List ℕ) (at size width : ℕ) where
   unfolding second
   first o = letterField 4 5 size (o .rest) >>= second (o .value)
 
-  pub offset-ends : ((early : ℕ) → field early 15 (from image at) ≡ refused early []) → entryField size (from image at) ≡ refused 4 []
+  pub offset-ends : ((early : ℕ) → field early 15 (from image at) ≡ refused early unplaced) → entryField size (from image at) ≡ refused 4 unplaced
   unfolding first second last
   offset-ends e = ap (λ o. o >>= first) (e 4)
 
@@ -40,7 +40,7 @@ module _ (image : List ℕ) (at size width : ℕ) where
     unfolding first second last
     after-offset = ap (λ o. o >>= first) (h .read 4)
 
-    pub first-refused : (n : ℕ) → letterField 4 5 size (from image (at + 15)) ≡ refused n [] → entryField size (from image at) ≡ refused n []
+    pub first-refused : (n : ℕ) → letterField 4 5 size (from image (at + 15)) ≡ refused n unplaced → entryField size (from image at) ≡ refused n unplaced
     first-refused n e = after-offset ∙ ap (λ o. o >>= second offset) e
 
     module _ (a : ℕ) (x : LetterAt image (at + 15) size width a) where
@@ -48,7 +48,7 @@ module _ (image : List ℕ) (at size width : ℕ) where
       unfolding second last
       after-first = after-offset ∙ ap (λ o. o >>= second offset) (x .read 4 5)
 
-      pub second-refused : (n : ℕ) → letterField 4 5 size (from image (at + 15 + width)) ≡ refused n [] → entryField size (from image at) ≡ refused n []
+      pub second-refused : (n : ℕ) → letterField 4 5 size (from image (at + 15 + width)) ≡ refused n unplaced → entryField size (from image at) ≡ refused n unplaced
       second-refused n e = after-first ∙ ap (λ o. o >>= last offset a) e
 
       pub entry-read : (b : ℕ) → LetterAt image (at + 15 + width) size width b → EntryAt image at size width (record { offset = offset; a = a; b = b })

@@ -7,7 +7,7 @@ use native.Mathlib.Omega.{arith}
 use lib.ListN.{length, length-map}
 use Rattle.model.specs.declared.answers.Refusal.{Refusal}
 use Rattle.model.specs.Word.{forward, back, Word, Positive, positive, forwards}
-use Rattle.model.specs.Outcome.{Outcome, answered, refused, _>>=_, unless}
+use Rattle.model.specs.Outcome.{unplaced, Outcome, answered, refused, _>>=_, unless}
 use Rattle.model.specs.Images.{readProgram}
 use Rattle.model.specs.Services.{isForward, readForward}
 use Rattle.model.specs.Stated.{refusal}
@@ -41,5 +41,5 @@ module _ (image : List ℕ) (size : ℕ) where
           count-is = sym (ap length (positive-forwards (p .word) f) ∙ length-map (forwards (p .word)) forward) ∙ p .count-is;
         }
 
-    pub back-read : isForward (p .word) ≡ false → readForward size image ≡ refused 7 []
+    pub back-read : isForward (p .word) ≡ false → readForward size image ≡ refused 7 unplaced
     back-read f = read-is ∙ ap (λ t. unless (not t) 7 (forwards (p .word))) f

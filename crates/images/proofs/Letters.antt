@@ -1,6 +1,6 @@
 -- The letters of an accepted program, one by one. What the forward test and the unpacking of a program make of them.
 use mathlib.Core.Path.{_≡_, sym, ap, subst, _∙_}
-use mathlib.Core.List.{List, [], _∷_, _++_, append-assoc}
+use mathlib.Core.List.{List, _∷_, _++_, append-assoc}
 use mathlib.Core.Bool.{true, false, cond}
 use Prim.Native.Nat.{ℕ, suc, _+_, _*_, _≤_, _<_}
 use native.Mathlib.Omega.{arith}
@@ -10,7 +10,7 @@ use borrow.Author.Tests.{eq-eqb, ne-eqb}
 use lib.ListN.{length, take, drop, set, getD, length-map, List·getD-map}
 use lib.Seq.{drop-cons, drop-length, paste, paste-suc, take-all}
 use Rattle.model.specs.Word.{forward, back, Word, byte}
-use Rattle.model.specs.Outcome.{answered, refused}
+use Rattle.model.specs.Outcome.{unplaced, answered, refused}
 use Rattle.model.specs.Bits.{letterWidth}
 use Rattle.model.specs.Images.{signed, signedField, readProgram}
 use Rattle.model.specs.Plain.{plainProgram}
@@ -69,7 +69,7 @@ module _ (image : List ℕ) (size width i : ℕ) (p : HasLetter image size width
   letter-sign sign s w e =
       sign-of image (12 + i * (1 + width)) size width sign s (getD w i (forward 0)) (from image (12 + i * (1 + width) + (1 + width))) (stands w e)
 
-  pub letter-stands : (n : ℕ) → signedField size (from image (12 + i * (1 + width))) ≡ refused n [] → ⊥
+  pub letter-stands : (n : ℕ) → signedField size (from image (12 + i * (1 + width))) ≡ refused n unplaced → ⊥
   letter-stands n e =
       let a = stands (p .word) (p .read) in
       let z : _≡_ {A = ℕ} 0 1 = cc in omega arith

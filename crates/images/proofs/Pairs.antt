@@ -1,7 +1,7 @@
 -- Reading a pair of a table into its two cells, from a table image and from a plain form.
 use mathlib.Core.Path.{_≡_, ap, _∙_}
 use mathlib.Core.Bool.{cond}
-use mathlib.Core.List.{List, []}
+use mathlib.Core.List.{List}
 use Prim.Native.Nat.{ℕ, _+_, _≤_, _<_}
 use native.Mathlib.Omega.{arith}
 use borrow.Author.Tests.{eq-eqb, ne-eqb}
@@ -9,7 +9,7 @@ use lib.Dec.{eqb}
 use lib.ListN.{length, set, getD}
 use Rattle.model.specs.Word.{Positive}
 use Rattle.model.specs.Presentation.{Complement, undefined, complement}
-use Rattle.model.specs.Outcome.{Outcome, answered, refused, _>>=_}
+use Rattle.model.specs.Outcome.{unplaced, Outcome, answered, refused, _>>=_}
 use Rattle.model.specs.Bits.{Read, field}
 use Rattle.model.specs.Images.{wordField, definedField, pairField}
 use Rattle.model.specs.Plain.{nextByte, plainLetters, plainDefined, plainPairAt}
@@ -29,7 +29,7 @@ pairOf size bit = cond (eqb (bit .value) 0) (answered (record { value = undefine
 unfoldable secondWord : ℕ → Read Positive → Outcome (Read Complement)
 secondWord size x = wordField size (x .rest) >>= λ y. answered (record { value = complement (x .value) (y .value); rest = y .rest })
 
-pub bit-ends : (image : List ℕ) (at size : ℕ) → ((early : ℕ) → field early 1 (from image at) ≡ refused early []) → pairField size (from image at) ≡ refused 1 []
+pub bit-ends : (image : List ℕ) (at size : ℕ) → ((early : ℕ) → field early 1 (from image at) ≡ refused early unplaced) → pairField size (from image at) ≡ refused 1 unplaced
 unfolding pairOf
 bit-ends image at size e = ap (λ o. o >>= pairOf size) (e 1)
 
@@ -57,7 +57,7 @@ module _ (image : List ℕ) (at size : ℕ) (before : List ℕ) (a b : ℕ) (let
         ap (λ o. o >>= pairOf size) (head .read 1)
         ∙ ap (λ t. cond t (answered (record { value = undefined; rest = from image (at + 1) })) (definedField size (from image (at + 1)))) (ne-eqb bit 0 one)
 
-    pub first-refused : (n : ℕ) → wordField size (from image (at + 1)) ≡ refused n [] → pairField size (from image at) ≡ refused n []
+    pub first-refused : (n : ℕ) → wordField size (from image (at + 1)) ≡ refused n unplaced → pairField size (from image at) ≡ refused n unplaced
     first-refused n e = defined-is ∙ ap (λ o. o >>= secondWord size) e
 
     module _ (mid : List ℕ) (next : ℕ) (x : WordAt image (at + 1) size before (cellAt a b) mid next) where
@@ -90,7 +90,7 @@ unfoldable plainFirst : ℕ → Read Positive → Outcome (Read Complement)
 unfolding plainSecond
 plainFirst size x = nextByte (x .rest) >>= plainSecond size (x .value)
 
-pub pair-ends : (plain : List ℕ) (at size : ℕ) → length plain ≤ at → plainPairAt size (bytesFrom plain at) ≡ refused 1 []
+pub pair-ends : (plain : List ℕ) (at size : ℕ) → length plain ≤ at → plainPairAt size (bytesFrom plain at) ≡ refused 1 unplaced
 unfolding plainPairOf
 pair-ends plain at size h = ap (λ o. o >>= plainPairOf size) (byte-ends plain at h)
 
@@ -118,7 +118,7 @@ module _ (plain : List ℕ) (at size : ℕ) (before : List ℕ) (a b : ℕ) (let
         ap (λ o. o >>= plainPairOf size) (byte-at plain at inside)
         ∙ ap (λ t. cond t (answered (record { value = undefined; rest = bytesFrom plain (at + 1) })) (plainDefined size (getD plain at 0) (bytesFrom plain (at + 1)))) (ne-eqb (getD plain at 0) 255 defined)
 
-    pub plain-first-refused : (n : ℕ) → plainLetters size (getD plain at 0) (bytesFrom plain (at + 1)) ≡ refused n [] → plainPairAt size (bytesFrom plain at) ≡ refused n []
+    pub plain-first-refused : (n : ℕ) → plainLetters size (getD plain at 0) (bytesFrom plain (at + 1)) ≡ refused n unplaced → plainPairAt size (bytesFrom plain at) ≡ refused n unplaced
     plain-first-refused n e = plain-defined-is ∙ ap (λ o. o >>= plainFirst size) e
 
     module _ (mid : List ℕ) (next : ℕ) (x : WordFrom (plainLetters size (getD plain at 0)) (bytesFrom plain) (length plain) 60 (at + 1) size before (cellAt a b) mid next) where
@@ -126,7 +126,7 @@ module _ (plain : List ℕ) (at size : ℕ) (before : List ℕ) (a b : ℕ) (let
       unfolding plainFirst
       plain-first-is = plain-defined-is ∙ ap (λ o. o >>= plainFirst size) (x .read)
 
-      pub plain-second-ends : length plain ≤ next → plainPairAt size (bytesFrom plain at) ≡ refused 1 []
+      pub plain-second-ends : length plain ≤ next → plainPairAt size (bytesFrom plain at) ≡ refused 1 unplaced
       plain-second-ends h = plain-first-is ∙ ap (λ o. o >>= plainSecond size (x .word)) (byte-ends plain next h)
 
       module _ (more : next < length plain) where

@@ -1,7 +1,7 @@
 -- Where the letters of a program and the entries of a chain stand in an image that was accepted. Each has the same width, so its number gives
 -- its place.
 use mathlib.Core.Path.{_≡_, sym, ap, _∙_}
-use mathlib.Core.List.{List, []}
+use mathlib.Core.List.{List}
 use mathlib.Core.Bool.{Bool, true, false, cond}
 use Prim.Native.Nat.{ℕ, suc, _+_, _-_, _*_, _≤_, _<_}
 use native.Mathlib.Omega.{arith}
@@ -9,7 +9,7 @@ use lib.ListN.{length, drop, getD, length-append}
 use lib.Seq.{drop-at, drop-drop}
 use Rattle.model.specs.Word.{Letter, forward, back, Word}
 use Rattle.model.specs.Equivalence.{Entry}
-use Rattle.model.specs.Outcome.{Outcome, answered, refused, _>>=_}
+use Rattle.model.specs.Outcome.{unplaced, Outcome, answered, refused, _>>=_}
 use Rattle.model.specs.Bits.{Read, field, finish, filling, bitsOf, letterWidth}
 use Rattle.model.specs.Images.{several, signedField, signedBits, readProgram, entryWidth, entryPosition, entryField, entryBits, readChain}
 use Rattle.bits.proofs.Digits.{AreBits, length-digits}
@@ -42,7 +42,7 @@ module _ {A : Type 0} (width tail early size : ℕ) (reader : List ℕ → Outco
   body : Read ℕ → Outcome (List A)
   body k = several reader (k .value) (k .rest) >>= finish tail
 
-  finished : (t : Bool) (v : List A) → cond t (answered v) (refused tail []) ≡ answered xs → v ≡ xs
+  finished : (t : Bool) (v : List A) → cond t (answered v) (refused tail unplaced) ≡ answered xs → v ≡ xs
   finished true v e = same-answer v xs e
   finished false v e = absurd (let z : _≡_ {A = ℕ} 0 1 = cc in omega arith)
 

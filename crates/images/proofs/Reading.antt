@@ -9,7 +9,7 @@ use lib.Dec.{leb, eqb}
 use lib.ListN.{length, take, drop, length-drop}
 use lib.Seq.{drop-drop, take-all}
 use lib.Pow.{pow-pos}
-use Rattle.model.specs.Outcome.{Outcome, answered, refused, unless, _>>=_}
+use Rattle.model.specs.Outcome.{unplaced, Outcome, answered, refused, _>>=_, unless}
 use Rattle.model.specs.Bits.{Read, bitsOf, number, field, filling, allZero, letterWidth}
 use Rattle.model.specs.Images.{letterField}
 use Rattle.bits.specs.Fields.{Inside}
@@ -38,7 +38,7 @@ module _ (image : List ℕ) (at width : ℕ) where
             ∙ ap (λ r. answered (record { value = v; rest = r })) (from-from image at width));
       }
 
-  pub field-ends : at ≤ 8 * length image → 8 * length image < at + width → (early : ℕ) → field early width (from image at) ≡ refused early []
+  pub field-ends : at ≤ 8 * length image → 8 * length image < at + width → (early : ℕ) → field early width (from image at) ≡ refused early unplaced
   unfolding field
   field-ends inside short early =
       ap (λ t. unless t early (record { value = number 0 (take width (from image at)); rest = drop width (from image at) }))
@@ -62,15 +62,15 @@ module _ (image : List ℕ) (at size : ℕ) where
       }
 
   pub letter-wrong : (width v : ℕ) → width ≡ letterWidth size → FieldAt image at width v → size ≤ v
-      → (early wrong : ℕ) → letterField early wrong size (from image at) ≡ refused wrong []
+      → (early wrong : ℕ) → letterField early wrong size (from image at) ≡ refused wrong unplaced
   unfolding letter-of
   letter-wrong width v e f h early wrong =
       ap (λ w. letter-of early wrong (field early w (from image at))) (sym e)
       ∙ (ap (letter-of early wrong) (f .read early)
       ∙ ap (λ t. unless t wrong (record { value = v + 1; rest = from image (at + width) })) (le-leb size v h))
 
-  pub letter-ends : (width : ℕ) → width ≡ letterWidth size → ((early : ℕ) → field early width (from image at) ≡ refused early [])
-      → (early wrong : ℕ) → letterField early wrong size (from image at) ≡ refused early []
+  pub letter-ends : (width : ℕ) → width ≡ letterWidth size → ((early : ℕ) → field early width (from image at) ≡ refused early unplaced)
+      → (early wrong : ℕ) → letterField early wrong size (from image at) ≡ refused early unplaced
   unfolding letter-of
   letter-ends width e f early wrong =
       ap (λ w. letter-of early wrong (field early w (from image at))) (sym e) ∙ ap (letter-of early wrong) (f early)

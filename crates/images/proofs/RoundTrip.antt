@@ -10,7 +10,7 @@ use Rattle.model.specs.Word.{Letter, forward, back, Word, Positive}
 use Rattle.model.specs.Presentation.{Presentation, Complement, undefined, complement}
 use Rattle.model.specs.Equivalence.{Entry}
 use Rattle.model.specs.Enumeration.{concatMap}
-use Rattle.model.specs.Outcome.{Outcome, answered, refused, _>>=_}
+use Rattle.model.specs.Outcome.{unplaced, Outcome, answered, refused, _>>=_}
 use Rattle.model.specs.Bits.{Read, field, finish, filling, digits, bitsOf, bytesFor, pack, letterWidth}
 use Rattle.model.specs.Images.{weightWidth, several, rowsOf, letterBits, wordBits, pairField, pairBits, signedField, signedBits, entryField, entryBits, readTable, tableImage, readProgram, programImage, readChain, chainImage}
 use Rattle.bits.proofs.Digits.{AreBits, digits-are-bits, bits-append}
@@ -30,9 +30,9 @@ module _ {A : Type 0} (tail : ℕ) (reader : List ℕ → Outcome (Read A)) (wri
       ∙ then (reader (write x ++ replicate (8 * bytesFor (length (write x)) - length (write x)) 0)) (finish tail)
       (record { value = x; rest = replicate (8 * bytesFor (length (write x)) - length (write x)) 0 }) (answered x)
       (one .reads-back x h (replicate (8 * bytesFor (length (write x)) - length (write x)) 0))
-      (ap (λ t. cond t (answered x) (refused tail [])) (pack-filling (write x)))
+      (ap (λ t. cond t (answered x) (refused tail unplaced)) (pack-filling (write x)))
 
-  finished : (t : Bool) (v x : A) → cond t (answered v) (refused tail []) ≡ answered x → (t ≡ true) × (v ≡ x)
+  finished : (t : Bool) (v x : A) → cond t (answered v) (refused tail unplaced) ≡ answered x → (t ≡ true) × (v ≡ x)
   finished true v x e = (refl, same-answer v x e)
   finished false v x e = absurd (let z : _≡_ {A = ℕ} 0 1 = cc in omega arith)
 

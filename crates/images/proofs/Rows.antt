@@ -12,7 +12,7 @@ use lib.Dec.{ltb, leb}
 use lib.ListN.{length, getD, length-append, length-drop, List·getD-append}
 use lib.Seq.{getD-at}
 use Rattle.model.specs.Presentation.{Presentation, Complement, undefined, complement, swapped, listed, complete}
-use Rattle.model.specs.Outcome.{Outcome, answered, refused, _>>=_, unless}
+use Rattle.model.specs.Outcome.{unplaced, Outcome, answered, refused, _>>=_, unless}
 use Rattle.model.specs.Bits.{Read, field, finish, filling}
 use Rattle.model.specs.Images.{weightWidth, pairField, several, rowsOf, readTable}
 use Rattle.model.specs.Plain.{plainWeight, plainPairAt, readPlainTable}
@@ -116,11 +116,11 @@ module _ (reader : List ℕ → Outcome (Read Complement)) (source : ℕ → Lis
               (p .kept u u (l, l) (λ e. let x = e .0 in let y = e .1 in omega (arith, f .above)) (λ e. let x = e .0 in let y = e .1 in omega (arith, f .above)));
         }
 
-    pub pair-refused : (n : ℕ) → b ≤ size → reader (source next) ≡ refused n [] → several reader (size - a) (source at) ≡ refused n []
+    pub pair-refused : (n : ℕ) → b ≤ size → reader (source next) ≡ refused n unplaced → several reader (size - a) (source at) ≡ refused n unplaced
     pair-refused n h e =
         f .resumed
         ∙ (ap (λ k. after (f .done) (several reader k (source next))) (left h)
-        ∙ several-refused reader (f .done) (size + 1 - (b + 1)) (source next) n [] e)
+        ∙ several-refused reader (f .done) (size + 1 - (b + 1)) (source next) n unplaced e)
 
     pub row-answered : size < b → RowFrom reader source limit at size before a cells next
     row-answered h =
@@ -254,11 +254,11 @@ module _ (reader : List ℕ → Outcome (Read Complement)) (source : ℕ → Lis
               (subst (λ a. HoldsRow size cells' a (r .row)) (sym n) (r .holds));
         }
 
-    pub rows-row-refused : (n : ℕ) → a ≤ size → several reader (size - a) (source at) ≡ refused n [] → rowsOf reader size (source begin) ≡ refused n []
+    pub rows-row-refused : (n : ℕ) → a ≤ size → several reader (size - a) (source at) ≡ refused n unplaced → rowsOf reader size (source begin) ≡ refused n unplaced
     rows-row-refused n h e =
         f .resumed
         ∙ (ap (λ k. after (f .done) (rowsOf reader k (source at))) (rows-left h)
-        ∙ rows-refused reader (f .done) (size - a) (source at) n [] e)
+        ∙ rows-refused reader (f .done) (size - a) (source at) n unplaced e)
 
     pub rows-ended : size < a → rowsOf reader size (source begin) ≡ answered (record { value = f .done; rest = source at })
     rows-ended h =
@@ -305,7 +305,7 @@ module _ (image : List ℕ) (begin size : ℕ) (some : 1 ≤ size) (few : size �
     image-rows-more h cells' next same r = rows-more (pairField size) (from image) (8 * length image) begin size some few start cells at a f h cells' next same r
 
     module _ (excess : List ℕ) where
-      pub row-refused : (n : ℕ) → a ≤ size → several (pairField size) (size - a) (from image at) ≡ refused n [] → rowsThen size excess (from image begin) ≡ refused n []
+      pub row-refused : (n : ℕ) → a ≤ size → several (pairField size) (size - a) (from image at) ≡ refused n unplaced → rowsThen size excess (from image begin) ≡ refused n unplaced
       unfolding rowsThen
       row-refused n h e = ap (λ o. o >>= (λ rs. finish 3 (record { value = record { size = size; excess = excess; rows = rs .value }; rest = rs .rest }))) (rows-row-refused (pairField size) (from image) (8 * length image) begin size some few start cells at a f n h e)
 
@@ -319,22 +319,22 @@ module _ (image : List ℕ) (begin size : ℕ) (some : 1 ≤ size) (few : size �
         refl,
         record {
           table = record { size = size; excess = excess; rows = f .done };
-          read = ended h ∙ ap (λ t. cond t (answered (record { size = size; excess = excess; rows = f .done })) (refused 3 [])) t;
+          read = ended h ∙ ap (λ t. cond t (answered (record { size = size; excess = excess; rows = f .done })) (refused 3 unplaced)) t;
           listed = rows-listed (pairField size) (from image) (8 * length image) begin size some few start cells at a f h;
           of = record { stands = rows-stand (pairField size) (from image) (8 * length image) begin size some few start cells at a f h excess w; sized = refl };
         },
       )
 
-      pub rows-tail : size < a → filling (from image at) ≡ false → rowsThen size excess (from image begin) ≡ refused 3 []
+      pub rows-tail : size < a → filling (from image at) ≡ false → rowsThen size excess (from image begin) ≡ refused 3 unplaced
       unfolding finish
-      rows-tail h t = ended h ∙ ap (λ t. cond t (answered (record { size = size; excess = excess; rows = f .done })) (refused 3 [])) t
+      rows-tail h t = ended h ∙ ap (λ t. cond t (answered (record { size = size; excess = excess; rows = f .done })) (refused 3 unplaced)) t
 
 -- the whole table: its number of letters, its weights, then its rows
 unfoldable afterHead : Read ℕ → Outcome Presentation
 unfolding rowsThen
 afterHead head = several (field 1 weightWidth) (head .value + 1) (head .rest) >>= λ ws. rowsThen (head .value + 1) (ws .value) (ws .rest)
 
-pub head-ends : (image : List ℕ) → ((early : ℕ) → field early 4 (from image 0) ≡ refused early []) → readTable image ≡ refused 1 []
+pub head-ends : (image : List ℕ) → ((early : ℕ) → field early 4 (from image 0) ≡ refused early unplaced) → readTable image ≡ refused 1 unplaced
 unfolding readTable afterHead
 head-ends image e = ap (λ o. o >>= afterHead) (e 1)
 
@@ -345,7 +345,7 @@ module _ (image : List ℕ) (m size : ℕ) (head : FieldAt image 0 4 m) (size-is
       ap (λ o. o >>= afterHead) (head .read 1)
       ∙ ap (λ k. several (field 1 weightWidth) k (from image 4) >>= λ ws. rowsThen k (ws .value) (ws .rest)) size-is
 
-  pub weights-refused : (n : ℕ) → several (field 1 weightWidth) size (from image 4) ≡ refused n [] → readTable image ≡ refused n []
+  pub weights-refused : (n : ℕ) → several (field 1 weightWidth) size (from image 4) ≡ refused n unplaced → readTable image ≡ refused n unplaced
   weights-refused n e = weights-next ∙ ap (λ o. o >>= λ ws. rowsThen size (ws .value) (ws .rest)) e
 
   -- the rows are left
@@ -381,7 +381,7 @@ size-done image cells (Refused r) e = e
 
 module _ (plain : List ℕ) (begin size : ℕ) (some : 1 ≤ size) (few : size ≤ 16) (start cells : List ℕ) (at a : ℕ)
     (f : RowsFilled (plainPairAt size) (bytesFrom plain) (length plain) begin size start cells at a) (excess : List ℕ) where
-  pub plain-row-refused : (n : ℕ) → a ≤ size → several (plainPairAt size) (size - a) (bytesFrom plain at) ≡ refused n [] → plainRowsThen size excess (bytesFrom plain begin) ≡ refused n []
+  pub plain-row-refused : (n : ℕ) → a ≤ size → several (plainPairAt size) (size - a) (bytesFrom plain at) ≡ refused n unplaced → plainRowsThen size excess (bytesFrom plain begin) ≡ refused n unplaced
   unfolding plainRowsThen
   plain-row-refused n h e = ap (λ o. o >>= (λ rs. unless (ltb 0 (length (rs .rest))) 3 (record { size = size; excess = excess; rows = rs .value }))) (rows-row-refused (plainPairAt size) (bytesFrom plain) (length plain) begin size some few start cells at a f n h e)
 
@@ -400,7 +400,7 @@ module _ (plain : List ℕ) (begin size : ℕ) (some : 1 ≤ size) (few : size �
     },
   )
 
-  pub plain-tail : size < a → at < length plain → plainRowsThen size excess (bytesFrom plain begin) ≡ refused 3 []
+  pub plain-tail : size < a → at < length plain → plainRowsThen size excess (bytesFrom plain begin) ≡ refused 3 unplaced
   plain-tail h l = plain-ended h ∙ ap (λ t. unless t 3 (record { size = size; excess = excess; rows = f .done })) (lt-ltb 0 (length (bytesFrom plain at)) (omega (arith, length-drop at plain)))
 
 unfoldable plainSized : Read ℕ → Outcome Presentation
@@ -411,7 +411,7 @@ unfoldable plainSize : Read ℕ → Outcome Presentation
 unfolding plainSized plainRowsThen
 plainSize n = unless (ltb (n .value) 1 || ltb 16 (n .value)) 2 n >>= plainSized
 
-pub plain-ends : (plain : List ℕ) → length plain ≤ 0 → readPlainTable plain ≡ refused 1 []
+pub plain-ends : (plain : List ℕ) → length plain ≤ 0 → readPlainTable plain ≡ refused 1 unplaced
 unfolding readPlainTable plainSize plainSized plainRowsThen
 plain-ends plain h = ap (λ o. o >>= plainSize) (byte-ends plain 0 h)
 
@@ -420,11 +420,11 @@ module _ (plain : List ℕ) (inside : 0 < length plain) where
   unfolding readPlainTable plainSize plainSized plainRowsThen
   plain-size-is = ap (λ o. o >>= plainSize) (byte-at plain 0 inside)
 
-  pub plain-no-letters : getD plain 0 0 < 1 → readPlainTable plain ≡ refused 2 []
+  pub plain-no-letters : getD plain 0 0 < 1 → readPlainTable plain ≡ refused 2 unplaced
   unfolding plainSize
   plain-no-letters h = plain-size-is ∙ ap (λ t. unless (t || ltb 16 (getD plain 0 0)) 2 (record { value = getD plain 0 0; rest = bytesFrom plain 1 }) >>= plainSized) (lt-ltb (getD plain 0 0) 1 h)
 
-  pub plain-many-letters : 1 ≤ getD plain 0 0 → 16 < getD plain 0 0 → readPlainTable plain ≡ refused 2 []
+  pub plain-many-letters : 1 ≤ getD plain 0 0 → 16 < getD plain 0 0 → readPlainTable plain ≡ refused 2 unplaced
   unfolding plainSize
   plain-many-letters l h =
       plain-size-is
@@ -439,7 +439,7 @@ module _ (plain : List ℕ) (inside : 0 < length plain) where
         ∙ (ap (λ t. unless (t || ltb 16 (getD plain 0 0)) 2 (record { value = getD plain 0 0; rest = bytesFrom plain 1 }) >>= plainSized) (le-ltb (getD plain 0 0) 1 some)
         ∙ ap (λ t. unless t 2 (record { value = getD plain 0 0; rest = bytesFrom plain 1 }) >>= plainSized) (le-ltb 16 (getD plain 0 0) few))
 
-    pub plain-weights-refused : (n : ℕ) → several plainWeight (getD plain 0 0) (bytesFrom plain 1) ≡ refused n [] → readPlainTable plain ≡ refused n []
+    pub plain-weights-refused : (n : ℕ) → several plainWeight (getD plain 0 0) (bytesFrom plain 1) ≡ refused n unplaced → readPlainTable plain ≡ refused n unplaced
     plain-weights-refused n e = plain-weights-next ∙ ap (λ o. o >>= λ ws. plainRowsThen (getD plain 0 0) (ws .value) (ws .rest)) e
 
     pub plain-rows-next : (excess : List ℕ) (at : ℕ) → several plainWeight (getD plain 0 0) (bytesFrom plain 1) ≡ answered (record { value = excess; rest = bytesFrom plain at })

@@ -5,7 +5,7 @@ use Prim.Native.Nat.{ℕ, zero, suc, _+_, _*_, _<_}
 use native.Mathlib.Omega.{arith}
 use native.Mathlib.Nat.{suc-mul, zero-mul}
 use lib.ListN.{length, drop, getD}
-use Rattle.model.specs.Outcome.{Outcome, answered, refused, _>>=_}
+use Rattle.model.specs.Outcome.{Place, Outcome, answered, refused, _>>=_}
 use Rattle.model.specs.Bits.{Read}
 use Rattle.model.specs.Images.{several, rowsOf}
 
@@ -45,7 +45,7 @@ module _ {A : Type 0} (reader : List ℕ → Outcome (Read A)) where
   unfolding one-of
   several-step done k input r e = ap (λ o. after done (one-of k o)) e ∙ after-one done (r .value) (several reader k (r .rest))
 
-  pub several-refused : (done : List A) (k : ℕ) (input : List ℕ) (n : ℕ) (ps : List ℕ) → reader input ≡ refused n ps
+  pub several-refused : (done : List A) (k : ℕ) (input : List ℕ) (n : ℕ) (ps : Place) → reader input ≡ refused n ps
       → after done (several reader (suc k) input) ≡ refused n ps
   unfolding after one-of
   several-refused done k input n ps e = ap (λ o. after done (one-of k o)) e
@@ -63,7 +63,7 @@ module _ {A : Type 0} (reader : List ℕ → Outcome (Read A)) where
   unfolding row-of
   rows-step done k input r e = ap (λ o. after done (row-of k o)) e ∙ after-one done (r .value) (rowsOf reader k (r .rest))
 
-  pub rows-refused : (done : List (List A)) (k : ℕ) (input : List ℕ) (n : ℕ) (ps : List ℕ) → several reader k input ≡ refused n ps
+  pub rows-refused : (done : List (List A)) (k : ℕ) (input : List ℕ) (n : ℕ) (ps : Place) → several reader k input ≡ refused n ps
       → after done (rowsOf reader (suc k) input) ≡ refused n ps
   unfolding after row-of
   rows-refused done k input n ps e = ap (λ o. after done (row-of k o)) e

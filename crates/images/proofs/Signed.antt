@@ -1,11 +1,11 @@
 -- A program's next letter: its sign, then its number. The byte that the code makes of them is the letter's.
 use mathlib.Core.Path.{_≡_, refl, sym, ap, _∙_}
-use mathlib.Core.List.{List, []}
+use mathlib.Core.List.{List}
 use mathlib.Core.Bool.{cond}
 use Prim.Native.Nat.{ℕ, _+_}
 use borrow.Author.Tests.{eq-eqb, ne-eqb}
 use Rattle.model.specs.Word.{Letter, forward, back}
-use Rattle.model.specs.Outcome.{Outcome, answered, refused, _>>=_}
+use Rattle.model.specs.Outcome.{unplaced, Outcome, answered, refused, _>>=_}
 use Rattle.model.specs.Bits.{Read, field}
 use Rattle.model.specs.Images.{letterField, signedField, signed}
 use Rattle.images.specs.Fields.{FieldAt, LetterAt, from}
@@ -20,7 +20,7 @@ module _ (image : List ℕ) (at size width : ℕ) where
   unfolding after-number
   after-sign o = o >>= λ s. after-number (s .value) (letterField 4 5 size (s .rest))
 
-  pub sign-ends : ((early : ℕ) → field early 1 (from image at) ≡ refused early []) → signedField size (from image at) ≡ refused 4 []
+  pub sign-ends : ((early : ℕ) → field early 1 (from image at) ≡ refused early unplaced) → signedField size (from image at) ≡ refused 4 unplaced
   unfolding after-sign after-number
   sign-ends e = ap after-sign (e 4)
 
@@ -36,7 +36,7 @@ module _ (image : List ℕ) (at size width : ℕ) where
         let o = answer-of (letterField 4 5 size (from image (at + 1))) (λ a. answered (record { value = signed sign (a .value); rest = a .rest })) (record { value = x; rest = rest }) (sym signed-is ∙ e) in
         (o .0 .value, ap (λ r. r .value) (same-answer (record { value = signed sign (o .0 .value); rest = o .0 .rest }) (record { value = x; rest = rest }) (o .2)))
 
-    pub number-refused : (n : ℕ) → letterField 4 5 size (from image (at + 1)) ≡ refused n [] → signedField size (from image at) ≡ refused n []
+    pub number-refused : (n : ℕ) → letterField 4 5 size (from image (at + 1)) ≡ refused n unplaced → signedField size (from image at) ≡ refused n unplaced
     unfolding after-number
     number-refused n e = signed-is ∙ ap (after-number sign) e
 

@@ -5,7 +5,7 @@ use mathlib.Core.Bool.{true, false, cond}
 use Prim.Native.Nat.{ℕ, suc, _+_, _-_, _*_, _≤_, _<_}
 use native.Mathlib.Omega.{arith}
 use lib.ListN.{length, length-append}
-use Rattle.model.specs.Outcome.{Outcome, answered, refused, _>>=_}
+use Rattle.model.specs.Outcome.{unplaced, Outcome, answered, refused, _>>=_}
 use Rattle.model.specs.Bits.{Read, bitsOf, field, finish, filling}
 use Rattle.model.specs.Images.{several, signedField, readProgram, entryField, readChain}
 use Rattle.images.specs.Fields.{FieldAt, from}
@@ -33,7 +33,7 @@ module _ {A : Type 0} (reader : List ℕ → Outcome (Read A)) (head : ℕ) wher
   unfoldable afterValues : Outcome (Read (List A)) → Outcome (List A)
   afterValues o = o >>= λ w. finish 6 w
 
-  pub count-ends : (image : List ℕ) → ((early : ℕ) → field early head (from image 0) ≡ refused early []) → whole image ≡ refused 4 []
+  pub count-ends : (image : List ℕ) → ((early : ℕ) → field early head (from image 0) ≡ refused early unplaced) → whole image ≡ refused 4 unplaced
   unfolding whole afterCount
   count-ends image e = ap afterCount (e 4)
 
@@ -73,14 +73,14 @@ module _ {A : Type 0} (reader : List ℕ → Outcome (Read A)) (head : ℕ) wher
                 ∙ several-step reader (v .done) (count - (i + 1)) (from image at) (record { value = x; rest = from image next }) e);
           }
 
-      pub value-refused : (n : ℕ) → i < count → reader (from image at) ≡ refused n [] → whole image ≡ refused n []
+      pub value-refused : (n : ℕ) → i < count → reader (from image at) ≡ refused n unplaced → whole image ≡ refused n unplaced
       unfolding afterValues
       value-refused n h e =
           whole-is
           ∙ ap afterValues
           (v .resumed
           ∙ (ap (λ k. after (v .done) (several reader k (from image at))) (left h)
-          ∙ several-refused reader (v .done) (count - (i + 1)) (from image at) n [] e))
+          ∙ several-refused reader (v .done) (count - (i + 1)) (from image at) n unplaced e))
 
       ended : count ≤ i → whole image ≡ finish 6 (record { value = v .done; rest = from image at })
       unfolding afterValues
@@ -93,14 +93,14 @@ module _ {A : Type 0} (reader : List ℕ → Outcome (Read A)) (head : ℕ) wher
 
       pub whole-answered : count ≤ i → filling (from image at) ≡ true → whole image ≡ answered (v .done)
       unfolding finish
-      whole-answered h f = ended h ∙ ap (λ t. cond t (answered (v .done)) (refused 6 [])) f
+      whole-answered h f = ended h ∙ ap (λ t. cond t (answered (v .done)) (refused 6 unplaced)) f
 
       pub whole-count : count ≤ i → length (v .done) ≡ count
       whole-count h = v .done-length ∙ omega (arith, v .some-left)
 
-      pub whole-tail : count ≤ i → filling (from image at) ≡ false → whole image ≡ refused 6 []
+      pub whole-tail : count ≤ i → filling (from image at) ≡ false → whole image ≡ refused 6 unplaced
       unfolding finish
-      whole-tail h f = ended h ∙ ap (λ t. cond t (answered (v .done)) (refused 6 [])) f
+      whole-tail h f = ended h ∙ ap (λ t. cond t (answered (v .done)) (refused 6 unplaced)) f
 
 -- programs and chains are such images
 pub program-whole : (size : ℕ) (image : List ℕ) → readProgram size image ≡ whole (signedField size) 12 image

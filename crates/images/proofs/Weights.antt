@@ -9,7 +9,7 @@ use lib.ListN.{length, take, getD, set, length-append, length-set}
 use lib.Seq.{getD-set-same, getD-set-other, take-suc, take-all}
 use Rattle.model.specs.Presentation.{Presentation}
 use Rattle.model.specs.Enumeration.{concatMap}
-use Rattle.model.specs.Outcome.{Outcome, answered, refused, _>>=_}
+use Rattle.model.specs.Outcome.{unplaced, Outcome, answered, refused, _>>=_}
 use Rattle.model.specs.Bits.{Read}
 use Rattle.model.specs.Images.{weightWidth, several}
 use Rattle.model.specs.Plain.{plainWeight}
@@ -87,11 +87,11 @@ module _ (reader : List ℕ → Outcome (Read ℕ)) (source : ℕ → List ℕ) 
           kept = λ p l. getD-set-other cells (weightAt a) (cellAt p p) v 0 (λ e. omega (arith, l .low, f .positive)) ∙ f .kept p l;
         }
 
-    pub weight-refused : (n : ℕ) → a ≤ size → reader (source at) ≡ refused n [] → several reader size (source begin) ≡ refused n []
+    pub weight-refused : (n : ℕ) → a ≤ size → reader (source at) ≡ refused n unplaced → several reader size (source begin) ≡ refused n unplaced
     weight-refused n h e =
         f .resumed
         ∙ (ap (λ k. after (f .done) (several reader k (source at))) (left h)
-        ∙ several-refused reader (f .done) (size + 1 - (a + 1)) (source at) n [] e)
+        ∙ several-refused reader (f .done) (size + 1 - (a + 1)) (source at) n unplaced e)
 
     pub weights-answered : (most : ℕ) → each * 16 ≤ most → size < a → WeightsFrom reader source limit most begin size before cells at
     weights-answered most wide h =
@@ -113,16 +113,16 @@ less-one : Read ℕ → Outcome (Read ℕ)
 less-one r = answered (record { value = r .value - 1; rest = r .rest })
 
 module _ (plain : List ℕ) (at : ℕ) where
-  pub plain-weight-ends : length plain ≤ at → plainWeight (bytesFrom plain at) ≡ refused 1 []
+  pub plain-weight-ends : length plain ≤ at → plainWeight (bytesFrom plain at) ≡ refused 1 unplaced
   unfolding less-one
   plain-weight-ends h = ap (λ o. o >>= less-one) (letter-ends plain at 8 h)
 
   module _ (h : at < length plain) where
-    pub plain-weight-none : getD plain at 0 < 1 → plainWeight (bytesFrom plain at) ≡ refused 2 []
+    pub plain-weight-none : getD plain at 0 < 1 → plainWeight (bytesFrom plain at) ≡ refused 2 unplaced
     unfolding less-one
     plain-weight-none l = ap (λ o. o >>= less-one) (letter-none plain at 8 h l)
 
-    pub plain-weight-above : 1 ≤ getD plain at 0 → 8 < getD plain at 0 → plainWeight (bytesFrom plain at) ≡ refused 2 []
+    pub plain-weight-above : 1 ≤ getD plain at 0 → 8 < getD plain at 0 → plainWeight (bytesFrom plain at) ≡ refused 2 unplaced
     unfolding less-one
     plain-weight-above l g = ap (λ o. o >>= less-one) (letter-large plain at 8 h l g)
 

@@ -12,7 +12,7 @@ use lib.Dec.{ltb}
 use lib.ListN.{length, set, getD, drop, length-append, length-set, List·getD-append, drop-of-length-le}
 use lib.Seq.{getD-set-same, getD-set-other, getD-at, drop-cons}
 use Rattle.model.specs.Word.{Positive}
-use Rattle.model.specs.Outcome.{Outcome, answered, refused, _>>=_, unless}
+use Rattle.model.specs.Outcome.{unplaced, Outcome, answered, refused, _>>=_, unless}
 use Rattle.model.specs.Bits.{Read, field}
 use Rattle.model.specs.Images.{letterField, wordField, several}
 use Rattle.model.specs.Plain.{nextByte, plainLetter, plainLetters}
@@ -99,11 +99,11 @@ module _ (reader : List ℕ → Outcome (Read ℕ)) (source : ℕ → List ℕ) 
           kept = kept-store (set before cell count) cell cells (cell + 1 + k) a (f .kept) (omega arith) (omega arith);
         }
 
-    pub letters-refused : (n : ℕ) → k < count → reader (source next) ≡ refused n [] → several reader count (source begin) ≡ refused n []
+    pub letters-refused : (n : ℕ) → k < count → reader (source next) ≡ refused n unplaced → several reader count (source begin) ≡ refused n unplaced
     letters-refused n h e =
         f .resumed
         ∙ (ap (λ m. after (f .done) (several reader m (source next))) (left h)
-        ∙ several-refused reader (f .done) (count - (k + 1)) (source next) n [] e)
+        ∙ several-refused reader (f .done) (count - (k + 1)) (source next) n unplaced e)
 
     -- the word that a reader of its letters reads
     pub word-from : (word : List ℕ → Outcome (Read Positive)) (most at : ℕ) → word (source at) ≡ several reader count (source begin) → begin + 60 ≤ at + most → count ≤ k
@@ -131,7 +131,7 @@ module _ (reader : List ℕ → Outcome (Read ℕ)) (source : ℕ → List ℕ) 
 unfoldable afterLength : ℕ → Outcome (Read ℕ) → Outcome (Read Positive)
 afterLength size o = o >>= λ k. several (letterField 1 2 size) (k .value) (k .rest)
 
-pub length-ends : (image : List ℕ) (at size : ℕ) → ((early : ℕ) → field early 4 (from image at) ≡ refused early []) → wordField size (from image at) ≡ refused 1 []
+pub length-ends : (image : List ℕ) (at size : ℕ) → ((early : ℕ) → field early 4 (from image at) ≡ refused early unplaced) → wordField size (from image at) ≡ refused 1 unplaced
 unfolding afterLength
 length-ends image at size e = ap (afterLength size) (e 1)
 
@@ -144,7 +144,7 @@ word-is image at size count head = ap (afterLength size) (head .read 1)
 letters-of : ℕ → List ℕ → ℕ → Outcome (Read Positive)
 letters-of size input k = several (plainLetter size) k input
 
-pub length-wrong : (size count : ℕ) (input : List ℕ) → 15 < count → plainLetters size count input ≡ refused 2 []
+pub length-wrong : (size count : ℕ) (input : List ℕ) → 15 < count → plainLetters size count input ≡ refused 2 unplaced
 unfolding letters-of
 length-wrong size count input h = ap (λ t. unless t 2 count >>= letters-of size input) (lt-ltb 15 count h)
 
@@ -152,7 +152,7 @@ pub plain-word-is : (size count : ℕ) (input : List ℕ) → count ≤ 15 → p
 unfolding letters-of
 plain-word-is size count input h = ap (λ t. unless t 2 count >>= letters-of size input) (le-ltb 15 count h)
 
-pub byte-ends : (plain : List ℕ) (at : ℕ) → length plain ≤ at → nextByte (bytesFrom plain at) ≡ refused 1 []
+pub byte-ends : (plain : List ℕ) (at : ℕ) → length plain ≤ at → nextByte (bytesFrom plain at) ≡ refused 1 unplaced
 byte-ends plain at h = ap nextByte (drop-of-length-le plain h)
 
 pub byte-at : (plain : List ℕ) (at : ℕ) → at < length plain → nextByte (bytesFrom plain at) ≡ answered (record { value = getD plain at 0; rest = bytesFrom plain (at + 1) })
@@ -162,7 +162,7 @@ named : ℕ → Read ℕ → Outcome (Read ℕ)
 named size r = unless (ltb (r .value) 1 || ltb size (r .value)) 2 r
 
 module _ (plain : List ℕ) (at size : ℕ) where
-  pub letter-ends : length plain ≤ at → plainLetter size (bytesFrom plain at) ≡ refused 1 []
+  pub letter-ends : length plain ≤ at → plainLetter size (bytesFrom plain at) ≡ refused 1 unplaced
   unfolding named
   letter-ends h = ap (λ o. o >>= named size) (byte-ends plain at h)
 
@@ -171,11 +171,11 @@ module _ (plain : List ℕ) (at size : ℕ) where
     unfolding named
     letter-is = ap (λ o. o >>= named size) (byte-at plain at h)
 
-    pub letter-none : getD plain at 0 < 1 → plainLetter size (bytesFrom plain at) ≡ refused 2 []
+    pub letter-none : getD plain at 0 < 1 → plainLetter size (bytesFrom plain at) ≡ refused 2 unplaced
     unfolding named
     letter-none l = letter-is ∙ ap (λ t. unless (t || ltb size (getD plain at 0)) 2 (record { value = getD plain at 0; rest = bytesFrom plain (at + 1) })) (lt-ltb (getD plain at 0) 1 l)
 
-    pub letter-large : 1 ≤ getD plain at 0 → size < getD plain at 0 → plainLetter size (bytesFrom plain at) ≡ refused 2 []
+    pub letter-large : 1 ≤ getD plain at 0 → size < getD plain at 0 → plainLetter size (bytesFrom plain at) ≡ refused 2 unplaced
     unfolding named
     letter-large l m =
         letter-is

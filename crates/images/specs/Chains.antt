@@ -1,10 +1,10 @@
 -- What reading a chain image gives.
-use mathlib.Core.List.{List, []}
+use mathlib.Core.List.{List}
 use mathlib.Core.Path.{_≡_}
 use Prim.Native.Nat.{ℕ, _+_, _*_, _≤_, _<_}
 use lib.ListN.{length}
 use Rattle.model.specs.Equivalence.{Entry}
-use Rattle.model.specs.Outcome.{answered, refused}
+use Rattle.model.specs.Outcome.{unplaced, answered, refused}
 use Rattle.model.specs.Images.{offsetWidth, entryField, readChain}
 use Rattle.model.specs.Stated.{refusal}
 use Rattle.images.specs.Fields.{from}
@@ -24,8 +24,8 @@ pub record EntryAt (image : List ℕ) (at size width : ℕ) (e : ChainEntry) : T
 
 abbrev pub EntryDone : List ℕ → ℕ → ℕ → ℕ → EntryField → Type 0
 EntryDone image at size width (Found e) = EntryAt image at size width e
-EntryDone image at size width Ends = entryField size (from image at) ≡ refused 4 []
-EntryDone image at size width Wrong = entryField size (from image at) ≡ refused 5 []
+EntryDone image at size width Ends = entryField size (from image at) ≡ refused 4 unplaced
+EntryDone image at size width Wrong = entryField size (from image at) ≡ refused 5 unplaced
 
 -- the image of a chain of so many entries
 pub record ChainOf (image : List ℕ) (size count : ℕ) : Type 0 where

@@ -1,9 +1,9 @@
 -- What the next field of an image is, as the model's readers have it.
-use mathlib.Core.List.{List, []}
+use mathlib.Core.List.{List}
 use mathlib.Core.Path.{_≡_}
 use Prim.Native.Nat.{ℕ, _+_, _*_, _^_, _≤_, _<_}
 use lib.ListN.{length, drop}
-use Rattle.model.specs.Outcome.{answered, refused}
+use Rattle.model.specs.Outcome.{unplaced, answered, refused}
 use Rattle.model.specs.Bits.{bitsOf, field, letterWidth}
 use Rattle.model.specs.Images.{letterField}
 use Rattle.images.specs.declared.fields.Field.{Field}
@@ -38,7 +38,7 @@ pub record FieldAt (image : List ℕ) (at width value : ℕ) : Type 0 where
 
 abbrev pub FieldDone : List ℕ → ℕ → ℕ → Field → Type 0
 FieldDone image at width (Value v) = FieldAt image at width v
-FieldDone image at width Ends = (early : ℕ) → field early width (from image at) ≡ refused early []
+FieldDone image at width Ends = (early : ℕ) → field early width (from image at) ≡ refused early unplaced
 
 pub record LetterAt (image : List ℕ) (at size width a : ℕ) : Type 0 where
   pub inside : at + width ≤ 8 * length image
@@ -48,5 +48,5 @@ pub record LetterAt (image : List ℕ) (at size width a : ℕ) : Type 0 where
 
 abbrev pub LetterDone : List ℕ → ℕ → ℕ → ℕ → LetterField → Type 0
 LetterDone image at size width (Letter a) = LetterAt image at size width a
-LetterDone image at size width LetterEnds = (early wrong : ℕ) → letterField early wrong size (from image at) ≡ refused early []
-LetterDone image at size width Wrong = (early wrong : ℕ) → letterField early wrong size (from image at) ≡ refused wrong []
+LetterDone image at size width LetterEnds = (early wrong : ℕ) → letterField early wrong size (from image at) ≡ refused early unplaced
+LetterDone image at size width Wrong = (early wrong : ℕ) → letterField early wrong size (from image at) ≡ refused wrong unplaced

@@ -1,10 +1,10 @@
 -- What reading a program image gives.
-use mathlib.Core.List.{List, []}
+use mathlib.Core.List.{List}
 use mathlib.Core.Path.{_≡_}
 use Prim.Native.Nat.{ℕ, _+_, _*_, _≤_, _<_}
 use lib.ListN.{length}
 use Rattle.model.specs.Word.{Letter, Word, byte, Positive, positive}
-use Rattle.model.specs.Outcome.{answered, refused}
+use Rattle.model.specs.Outcome.{unplaced, answered, refused}
 use Rattle.model.specs.Bits.{letterWidth}
 use Rattle.model.specs.Images.{signedField, readProgram}
 use Rattle.model.specs.Services.{readForward}
@@ -24,8 +24,8 @@ pub record SignedAt (image : List ℕ) (at size width x : ℕ) : Type 0 where
 
 abbrev pub SignedDone : List ℕ → ℕ → ℕ → ℕ → SignedField → Type 0
 SignedDone image at size width (Byte x) = SignedAt image at size width x
-SignedDone image at size width Ends = signedField size (from image at) ≡ refused 4 []
-SignedDone image at size width Wrong = signedField size (from image at) ≡ refused 5 []
+SignedDone image at size width Ends = signedField size (from image at) ≡ refused 4 unplaced
+SignedDone image at size width Wrong = signedField size (from image at) ≡ refused 5 unplaced
 
 -- the image of a program of so many letters
 pub record ProgramOf (image : List ℕ) (size count : ℕ) : Type 0 where

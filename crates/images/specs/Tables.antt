@@ -7,7 +7,7 @@ use lib.Dec.{ltb}
 use lib.ListN.{length, getD, drop}
 use Rattle.model.specs.Word.{Positive}
 use Rattle.model.specs.Presentation.{Presentation, Complement, undefined}
-use Rattle.model.specs.Outcome.{Outcome, answered, refused, _>>=_, unless}
+use Rattle.model.specs.Outcome.{unplaced, Outcome, answered, refused, _>>=_, unless}
 use Rattle.model.specs.Bits.{Read, field, finish}
 use Rattle.model.specs.Images.{weightWidth, wordField, pairField, several, rowsOf, readTable}
 use Rattle.model.specs.Plain.{plainWeight, plainLetters, plainPairAt, readPlainTable}
@@ -38,8 +38,8 @@ pub record WordFrom (reader : List ℕ → Outcome (Read Positive)) (source : �
 
 abbrev pub WordDoneFrom : (List ℕ → Outcome (Read Positive)) → (ℕ → List ℕ) → ℕ → ℕ → ℕ → ℕ → List ℕ → ℕ → List ℕ → TablePart → Type 0
 WordDoneFrom reader source limit most at size before cell after (Next next) = WordFrom reader source limit most at size before cell after next
-WordDoneFrom reader source limit most at size before cell after Ends = reader (source at) ≡ refused 1 []
-WordDoneFrom reader source limit most at size before cell after Wrong = reader (source at) ≡ refused 2 []
+WordDoneFrom reader source limit most at size before cell after Ends = reader (source at) ≡ refused 1 unplaced
+WordDoneFrom reader source limit most at size before cell after Wrong = reader (source at) ≡ refused 2 unplaced
 
 pub record PairFrom (reader : List ℕ → Outcome (Read Complement)) (source : ℕ → List ℕ) (limit at size : ℕ) (before : List ℕ) (a b : ℕ) (after : List ℕ) (next : ℕ) : Type 0 where
   pub pair : Complement
@@ -50,8 +50,8 @@ pub record PairFrom (reader : List ℕ → Outcome (Read Complement)) (source : 
 
 abbrev pub PairDoneFrom : (List ℕ → Outcome (Read Complement)) → (ℕ → List ℕ) → ℕ → ℕ → ℕ → List ℕ → ℕ → ℕ → List ℕ → TablePart → Type 0
 PairDoneFrom reader source limit at size before a b after (Next next) = PairFrom reader source limit at size before a b after next
-PairDoneFrom reader source limit at size before a b after Ends = reader (source at) ≡ refused 1 []
-PairDoneFrom reader source limit at size before a b after Wrong = reader (source at) ≡ refused 2 []
+PairDoneFrom reader source limit at size before a b after Ends = reader (source at) ≡ refused 1 unplaced
+PairDoneFrom reader source limit at size before a b after Wrong = reader (source at) ≡ refused 2 unplaced
 
 -- the pairs of a with a + 1, a + 2, .. stand in their cells
 abbrev pub HoldsRow : ℕ → List ℕ → ℕ → List Complement → Type 0
@@ -67,8 +67,8 @@ pub record RowFrom (reader : List ℕ → Outcome (Read Complement)) (source : �
 
 abbrev pub RowDoneFrom : (List ℕ → Outcome (Read Complement)) → (ℕ → List ℕ) → ℕ → ℕ → ℕ → List ℕ → ℕ → List ℕ → TablePart → Type 0
 RowDoneFrom reader source limit at size before a after (Next next) = RowFrom reader source limit at size before a after next
-RowDoneFrom reader source limit at size before a after Ends = several reader (size - a) (source at) ≡ refused 1 []
-RowDoneFrom reader source limit at size before a after Wrong = several reader (size - a) (source at) ≡ refused 2 []
+RowDoneFrom reader source limit at size before a after Ends = several reader (size - a) (source at) ≡ refused 1 unplaced
+RowDoneFrom reader source limit at size before a after Wrong = several reader (size - a) (source at) ≡ refused 2 unplaced
 
 -- .. from a table image, whose positions are those of its bits
 abbrev pub WordAt : List ℕ → ℕ → ℕ → List ℕ → ℕ → List ℕ → ℕ → Type 0
@@ -124,8 +124,8 @@ pub record WeightsFrom (reader : List ℕ → Outcome (Read ℕ)) (source : ℕ 
 
 abbrev pub WeightsDoneFrom : (List ℕ → Outcome (Read ℕ)) → (ℕ → List ℕ) → ℕ → ℕ → ℕ → ℕ → List ℕ → List ℕ → TablePart → Type 0
 WeightsDoneFrom reader source limit most at size before after (Next next) = WeightsFrom reader source limit most at size before after next
-WeightsDoneFrom reader source limit most at size before after Ends = several reader size (source at) ≡ refused 1 []
-WeightsDoneFrom reader source limit most at size before after Wrong = several reader size (source at) ≡ refused 2 []
+WeightsDoneFrom reader source limit most at size before after Ends = several reader size (source at) ≡ refused 1 unplaced
+WeightsDoneFrom reader source limit most at size before after Wrong = several reader size (source at) ≡ refused 2 unplaced
 
 abbrev pub WeightsDone : List ℕ → ℕ → ℕ → List ℕ → List ℕ → TablePart → Type 0
 WeightsDone image at size before after r = WeightsDoneFrom (field 1 weightWidth) (from image) (8 * length image) 48 at size before after r

@@ -1,15 +1,15 @@
 -- Reading refuses with small numbers only: 1 to 3 of a table, 4 to 6 of a program or chain, 7 of one that must be forward. So what is refused
 -- before the work begins leaves the workspace as found.
 use mathlib.Core.Path.{_≡_, ap, subst}
-use mathlib.Core.List.{List, []}
-use mathlib.Core.Bool.{Bool, true, false, not, cond}
+use mathlib.Core.List.{List}
+use mathlib.Core.Bool.{Bool, true, false, not, _||_, cond}
 use Prim.Native.Nat.{ℕ, zero, suc, _+_, _≤_}
 use native.Mathlib.Omega.{arith}
 use borrow.Author.Tests.{le-leb}
 use lib.Dec.{ltb, leb, eqb}
 use lib.ListN.{length, take, drop, replicate}
 use Rattle.model.specs.Word.{forwards}
-use Rattle.model.specs.Outcome.{Outcome, answered, refused, _>>=_, unless}
+use Rattle.model.specs.Outcome.{unplaced, Outcome, answered, refused, _>>=_, unless}
 use Rattle.model.specs.Bits.{Read, bitsOf, field, finish, filling, letterWidth, number}
 use Rattle.model.specs.Images.{weightWidth, offsetWidth, letterField, several, rowsOf, wordField, definedField, pairField, signedField, entryField, readTable, readProgram, readChain}
 use Rattle.model.specs.Services.{isForward, readForward}
@@ -42,7 +42,7 @@ module _ (k : ℕ) where
 
   finish-early : {A : Type 0} (n : ℕ) (r : Read A) → n ≤ k → Early k (finish n r)
   unfolding finish
-  finish-early n r h = choice k (filling (r .rest)) (answered (r .value)) (refused n []) tt h
+  finish-early n r h = choice k (filling (r .rest)) (answered (r .value)) (refused n unplaced) tt h
 
   letter-early : (early wrong n : ℕ) (bits : List ℕ) → early ≤ k → wrong ≤ k → Early k (letterField early wrong n bits)
   letter-early early wrong n bits h i =
@@ -128,4 +128,4 @@ pub refusal-workspace : {A : Type 0} (B : Type 0) (r : Refusal) (o : Outcome A) 
     → workspaceAfter {A = B} (refusal r) area ≡ area
 refusal-workspace B r o k e h few area =
     let small : numbered r .0 ≤ k = subst (Early k) e h in
-    ap (λ b. cond b area (replicate (length area) 0)) (le-leb (numbered r .0) 8 (omega arith))
+    ap (λ b. cond (b || eqb (numbered r .0) 16) area (replicate (length area) 0)) (le-leb (numbered r .0) 8 (omega arith))

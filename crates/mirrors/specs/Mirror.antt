@@ -8,7 +8,7 @@ use lib.ListN.{length, getD}
 use Rattle.model.specs.Presentation.{Presentation}
 use Rattle.model.specs.Range.{InRange}
 use Rattle.model.specs.Enumeration.{Two, row, pairs}
-use Rattle.model.specs.Outcome.{Outcome, answered, refused}
+use Rattle.model.specs.Outcome.{pair-of, Outcome, answered, refused}
 use Rattle.model.specs.Mirror.{found, backward, mirror, mirrored, mirrorCheck}
 use Rattle.cells.specs.Layout.{Letters, cellAt, weightAt}
 use Rattle.cells.specs.Stands.{HoldsFirst, HoldsWeights, Stands, Of}
@@ -18,7 +18,7 @@ use Rattle.mirrors.specs.declared.mirror.Mirrored.the-variants.{Made, Of
 
 -- refusal 16, with the pair whose relation offends
 abbrev pub offended : ℕ → ℕ → Outcome (Unit {0})
-offended a b = refused 16 (a ∷ b ∷ [])
+offended a b = refused 16 (pair-of a b)
 
 -- the relations of the pairs `earlier` are entered, and none of them offends; those of the pairs `rest` are left
 pub record Building (T : Presentation) (cells : List ℕ) (rest : List Two) : Type 0 where

@@ -9,7 +9,7 @@ use Rattle.model.specs.Word.{back, positive, negative}
 use Rattle.model.specs.Presentation.{Presentation, complement, complete}
 use Rattle.model.specs.Bits.{field, finish}
 use Rattle.model.specs.Images.{readTable, readProgram, tableImage, programImage}
-use Rattle.model.specs.Outcome.{answered, refused}
+use Rattle.model.specs.Outcome.{unplaced, answered, refused}
 use Rattle.model.specs.Areas.{outputAfter}
 use Rattle.model.specs.Bed.{isBraid, bedAfter, totalBytes, readBraid, bed}
 use Rattle.model.proofs.Case.{Case, _gives_, All}
@@ -72,17 +72,17 @@ bedCalls =
     (bed (image braid1) (log 1 (back 1 ∷ [])) 1 4 gives answered (2 ∷ 1 ∷ 255 ∷ 255 ∷ [])) ∷
     -- 13 where the area has less than 16 bytes
     (bed braidBytes firstBytes 5 16 gives answered lastBytes) ∷
-    (bed braidBytes firstBytes 5 15 gives refused 13 []) ∷
-    (bed braidBytes firstBytes 0 15 gives refused 13 []) ∷
+    (bed braidBytes firstBytes 5 15 gives refused 13 unplaced) ∷
+    (bed braidBytes firstBytes 0 15 gives refused 13 unplaced) ∷
     -- the table's 1 to 3, then 15, then the program's 4 to 6, then 13
-    (bed [] [] 5 0 gives refused 1 []) ∷
-    (bed (0x20 ∷ 0x04 ∷ 0xb0 ∷ []) [] 5 0 gives refused 2 []) ∷
-    (bed (0x01 ∷ []) [] 5 0 gives refused 3 []) ∷
-    (bed (image open2) [] 5 0 gives refused 15 []) ∷
-    (bed (image endless3) firstBytes 5 32768 gives refused 15 []) ∷
-    (bed braidBytes [] 5 0 gives refused 4 []) ∷
-    (bed braidBytes (0x00 ∷ 0x36 ∷ []) 0 0 gives refused 5 []) ∷
-    (bed braidBytes (0x00 ∷ 0x5c ∷ 0x28 ∷ 0x21 ∷ []) 0 0 gives refused 6 []) ∷
+    (bed [] [] 5 0 gives refused 1 unplaced) ∷
+    (bed (0x20 ∷ 0x04 ∷ 0xb0 ∷ []) [] 5 0 gives refused 2 unplaced) ∷
+    (bed (0x01 ∷ []) [] 5 0 gives refused 3 unplaced) ∷
+    (bed (image open2) [] 5 0 gives refused 15 unplaced) ∷
+    (bed (image endless3) firstBytes 5 32768 gives refused 15 unplaced) ∷
+    (bed braidBytes [] 5 0 gives refused 4 unplaced) ∷
+    (bed braidBytes (0x00 ∷ 0x36 ∷ []) 0 0 gives refused 5 unplaced) ∷
+    (bed braidBytes (0x00 ∷ 0x5c ∷ 0x28 ∷ 0x21 ∷ []) 0 0 gives refused 6 unplaced) ∷
     -- the area after an answer, and after a refusal
     (outputAfter (λ b. b) (bed (image braid1) (log 1 []) 0 5) (replicate 5 9) gives 1 ∷ 2 ∷ 0 ∷ 0 ∷ 9 ∷ []) ∷
     (outputAfter (λ b. b) (bed (image braid1) (log 1 []) 0 3) (replicate 3 9) gives replicate 3 9) ∷ []

@@ -6,6 +6,7 @@ pub mod Complete
 pub mod Mirrors
 pub mod Count
 pub mod Words
+pub mod Exchanging
 pub mod Leftmost
 pub mod Reversal
 pub mod Endings

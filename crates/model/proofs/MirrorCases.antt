@@ -1,13 +1,19 @@
--- Cases of specification 3.8, computed of the definitions of Mirror.antt: mirrors, tables that have none, and left reversing with each of its endings.
+-- Cases of specification 3.8, 6.12 and 6.13, computed of the definitions: mirrors, tables that have none, left reversing with each of its endings, and the
+-- outcomes of left_reverse and mirror_clear.
 use mathlib.Core.Path.{refl}
 use mathlib.Core.List.{List, [], _∷_}
 use Rattle.model.specs.Word.{forward, back}
 use Rattle.model.specs.Presentation.{Presentation, Complement, undefined, complement, complete}
-use Rattle.model.specs.Reversing.{finished, open-pair, stopped, budget, room}
-use Rattle.model.specs.Outcome.{answered, refused}
+use Rattle.model.specs.Reversing.{finished, open-pair, stopped, budget, room, next, run, reversing}
+use Rattle.model.specs.Outcome.{unplaced, pair-of, triple-of, mirror-triple-of, answered, refused}
+use Rattle.model.specs.Checks.{under, side, against, cubeAt, cleared}
+use Rattle.model.specs.Bits.{field, finish}
+use Rattle.model.specs.Images.{readTable, readProgram, tableImage, programImage}
+use Rattle.model.specs.Services.{leftFraction, leftReverse, clear, mirrorCleared, mirrorClear}
+use Rattle.model.specs.Areas.{workspaceAfter}
 use Rattle.model.specs.Mirror.{mirror, mirrorCheck, leftComplete, leftNext, leftRun, leftReversing}
 use Rattle.model.proofs.Case.{Case, _gives_, All}
-use Rattle.model.proofs.Samples.{braid3, braid1, open2, three, broken3, heavy2, endless3}
+use Rattle.model.proofs.Samples.{braid3, braid1, open2, three, broken3, unequal2, heavy2, endless3, image, log, braidBytes}
 
 -- two letters and their pair
 abbrev pairOf : Complement → Presentation
@@ -37,14 +43,14 @@ mirrors =
     (mirrorCheck endless3 gives answered tt) ∷
     (mirrorCheck single3 gives answered tt) ∷
     -- 16: both sides end in the same letter
-    (mirrorCheck broken3 gives refused 16 (2 ∷ 3 ∷ [])) ∷
-    (mirrorCheck (pairOf (complement [] (1 ∷ []))) gives refused 16 (1 ∷ 2 ∷ [])) ∷
+    (mirrorCheck broken3 gives refused 16 (pair-of 2 3)) ∷
+    (mirrorCheck (pairOf (complement [] (1 ∷ []))) gives refused 16 (pair-of 1 2)) ∷
     -- 16: two relations share their last letters, in the same order and in the other one; the later is named
-    (mirrorCheck (three (complement (3 ∷ []) []) (complement (3 ∷ []) (2 ∷ [])) undefined) gives refused 16 (1 ∷ 3 ∷ [])) ∷
-    (mirrorCheck (three (complement (3 ∷ []) []) undefined (complement [] [])) gives refused 16 (2 ∷ 3 ∷ [])) ∷
+    (mirrorCheck (three (complement (3 ∷ []) []) (complement (3 ∷ []) (2 ∷ [])) undefined) gives refused 16 (pair-of 1 3)) ∷
+    (mirrorCheck (three (complement (3 ∷ []) []) undefined (complement [] [])) gives refused 16 (pair-of 2 3)) ∷
     -- 16: both faults, the first in pair order
-    (mirrorCheck (three (complement (3 ∷ []) []) (complement (3 ∷ []) []) (complement [] [])) gives refused 16 (1 ∷ 3 ∷ [])) ∷
-    (mirrorCheck (three (complement (3 ∷ []) []) (complement [] []) (complement [] [])) gives refused 16 (2 ∷ 3 ∷ [])) ∷ []
+    (mirrorCheck (three (complement (3 ∷ []) []) (complement (3 ∷ []) []) (complement [] [])) gives refused 16 (pair-of 1 3)) ∷
+    (mirrorCheck (three (complement (3 ∷ []) []) (complement [] []) (complement [] [])) gives refused 16 (pair-of 2 3)) ∷ []
 
 abbrev pub leftReversings : List {1} Case
 leftReversings =
@@ -63,15 +69,60 @@ leftReversings =
     (leftReversing braid3 0 1 (forward 1 ∷ back 2 ∷ []) gives stopped room) ∷
     (leftReversing open2 0 2 (forward 1 ∷ back 2 ∷ []) gives open-pair 2 1 0) ∷ []
 
+abbrev pub leftReverses : List {1} Case
+leftReverses =
+    -- N, then D, both forward; 13 where they don't fit
+    (leftReverse braidBytes (log 3 (forward 1 ∷ back 2 ∷ [])) 1 4 4 gives answered (record { numerator = 2 ∷ 1 ∷ []; denominator = 1 ∷ 2 ∷ []; steps = 1 })) ∷
+    (leftReverse braidBytes (log 3 (forward 1 ∷ back 2 ∷ [])) 1 4 3 gives refused 13 unplaced) ∷
+    (leftReverse braidBytes (log 3 (forward 1 ∷ back 2 ∷ [])) 0 4 4 gives refused 11 unplaced) ∷
+    (leftReverse braidBytes (log 3 (forward 1 ∷ back 2 ∷ [])) 1 3 4 gives refused 12 unplaced) ∷
+    -- the program of case 1 read backward comes to the words of case 1 read backward
+    (leftReverse braidBytes (log 3 (forward 2 ∷ forward 1 ∷ back 2 ∷ forward 1 ∷ back 3 ∷ [])) 65535 32768 32768
+        gives answered (record { numerator = 3 ∷ 2 ∷ 1 ∷ 1 ∷ []; denominator = 2 ∷ 3 ∷ 1 ∷ []; steps = 5 })) ∷
+    (leftReverse (image open2) (log 2 (forward 1 ∷ back 2 ∷ [])) 0 2 0 gives refused 10 (pair-of 2 1)) ∷
+    -- 16 comes after the program's tests, and also where no relation is needed
+    (leftReverse (image broken3) (log 3 []) 0 0 0 gives refused 16 (pair-of 2 3)) ∷
+    (leftReverse (image broken3) [] 0 0 0 gives refused 4 unplaced) ∷
+    (leftReverse [] [] 0 0 0 gives refused 1 unplaced) ∷
+    (workspaceAfter (leftReverse (image broken3) (log 3 []) 0 2 0) (7 ∷ 8 ∷ []) gives 7 ∷ 8 ∷ []) ∷
+    (workspaceAfter (leftReverse braidBytes (log 3 (forward 1 ∷ back 2 ∷ [])) 0 2 0) (7 ∷ 8 ∷ []) gives 0 ∷ 0 ∷ []) ∷ []
+
+-- three letters with 1 3 = 2 1 and 1 2 = 3 3, and the pair 2, 3 open: this table clears, and its mirror does not
+abbrev mirrorFails3 : Presentation
+mirrorFails3 = three (complement (3 ∷ []) (1 ∷ [])) (complement (2 ∷ []) (3 ∷ [])) undefined
+
+abbrev pub mirrorClears : List {1} Case
+mirrorClears =
+    (mirrorClear braidBytes 65535 32768 gives answered tt) ∷
+    (mirrorClear (image heavy2) 0 0 gives answered tt) ∷
+    -- 17 and the stops name a triple of the mirror
+    (clear (image mirrorFails3) 65535 32768 gives answered tt) ∷
+    (mirrorClear (image mirrorFails3) 65535 32768 gives refused 17 (mirror-triple-of 1 3 2)) ∷
+    (clear (image (mirror mirrorFails3)) 65535 32768 gives refused 9 (triple-of 1 3 2)) ∷
+    (mirrorClear (image (mirror mirrorFails3)) 65535 32768 gives answered tt) ∷
+    (mirrorClear braidBytes 4 32768 gives refused 11 (mirror-triple-of 1 2 3)) ∷
+    (mirrorClear braidBytes 65535 10 gives refused 12 (mirror-triple-of 1 2 3)) ∷
+    -- 16 comes before 8, and both before the cube check
+    (mirrorClear (image broken3) 0 0 gives refused 16 (pair-of 2 3)) ∷
+    (mirrorClear (image unequal2) 0 0 gives refused 8 (pair-of 1 2)) ∷
+    (mirrorClear (image (pairOf (complement [] (1 ∷ [])))) 0 0 gives refused 16 (pair-of 1 2)) ∷
+    (mirrorClear [] 0 0 gives refused 1 unplaced) ∷
+    (workspaceAfter (mirrorClear (image broken3) 0 2) (7 ∷ 8 ∷ []) gives 7 ∷ 8 ∷ []) ∷
+    (workspaceAfter (mirrorClear (image mirrorFails3) 65535 2) (7 ∷ 8 ∷ []) gives 0 ∷ 0 ∷ []) ∷ []
+
 -- every case holds
 pub record MirrorCases : Type 0 where
   pub mirrors-hold : All mirrors
   pub left-reversings-hold : All leftReversings
+  pub left-reverses-hold : All leftReverses
+  pub mirror-clears-hold : All mirrorClears
 
 pub mirror-cases-hold : MirrorCases
-unfolding complete mirrorCheck leftComplete leftNext leftRun leftReversing
+unfolding complete mirrorCheck leftComplete leftNext leftRun leftReversing leftFraction leftReverse mirrorCleared mirrorClear clear cleared reversing run next under side against cubeAt readTable readProgram tableImage programImage field finish
 mirror-cases-hold =
     record {
       mirrors-hold = (refl, (refl, (refl, (refl, (refl, (refl, (refl, (refl, (refl, (refl, (refl, (refl, (refl, (refl, (refl, (refl, (refl, (refl, tt))))))))))))))))));
       left-reversings-hold = (refl, (refl, (refl, (refl, (refl, (refl, (refl, (refl, (refl, tt)))))))));
+      left-reverses-hold = (refl, (refl, (refl, (refl, (refl, (refl, (refl, (refl, (refl, (refl, (refl, tt)))))))))));
+      mirror-clears-hold = (refl, (refl, (refl, (refl, (refl, (refl, (refl, (refl, (refl, (refl, (refl, (refl, (refl, (refl, tt))))))))))))));
     }

@@ -6,7 +6,7 @@ use Rattle.model.specs.Presentation.{complete}
 use Rattle.model.specs.Equivalence.{applied}
 use Rattle.model.specs.Reversing.{next, run, reversing}
 use Rattle.model.specs.Checks.{residue, under, side, against, cubeAt, cleared}
-use Rattle.model.specs.Outcome.{answered, refused}
+use Rattle.model.specs.Outcome.{unplaced, pair-of, triple-of, answered, refused}
 use Rattle.model.specs.Bits.{field, finish}
 use Rattle.model.specs.Images.{readTable, readProgram, readChain, tableImage, programImage, chainImage}
 use Rattle.model.specs.Services.{reverse, clear, readForward, compare, comparison, check, followed, same-after, different-after, joins}
@@ -24,7 +24,7 @@ sheet =
     (reverse braidBytes firstBytes 65535 32768 32768 gives
     answered (record { numerator = 1 ∷ 1 ∷ 2 ∷ 3 ∷ []; denominator = 1 ∷ 3 ∷ 2 ∷ []; steps = 5 })) ∷
     -- case 3, allowance 4
-    (reverse braidBytes firstBytes 4 32768 32768 gives refused 11 []) ∷
+    (reverse braidBytes firstBytes 4 32768 32768 gives refused 11 unplaced) ∷
     -- case 5
     (reverse braidBytes (log 3 second) 65535 32768 32768 gives
     answered (record { numerator = 1 ∷ 2 ∷ 3 ∷ []; denominator = 2 ∷ 1 ∷ []; steps = 7 })) ∷
@@ -37,14 +37,14 @@ sheet =
     -- case 17
     (compare (image braid1) (pattern 1 []) (pattern 1 []) 65535 0 gives answered (same-after 0)) ∷
     -- case 9, -1 2; and case 18
-    (reverse (image open2) (log 2 (back 1 ∷ forward 2 ∷ [])) 65535 32768 32768 gives refused 10 (1 ∷ 2 ∷ [])) ∷
+    (reverse (image open2) (log 2 (back 1 ∷ forward 2 ∷ [])) 65535 32768 32768 gives refused 10 (pair-of 1 2)) ∷
     (compare (image open2) (pattern 2 (1 ∷ [])) (pattern 2 (2 ∷ [])) 65535 32768 gives answered (different-after 0)) ∷
     -- case 13, table K; L and R of its triple 1 2 3 (specification 4.7)
-    (clear (image broken3) 65535 32768 gives refused 9 (1 ∷ 2 ∷ 3 ∷ [])) ∷
+    (clear (image broken3) 65535 32768 gives refused 9 (triple-of 1 2 3)) ∷
     (side broken3 65535 32768 1 2 3 gives residue (1 ∷ [])) ∷
     (side broken3 65535 32768 2 1 3 gives residue []) ∷
     -- case 19
-    (compare (image unequal2) (pattern 2 []) (pattern 2 []) 65535 32768 gives refused 8 (1 ∷ 2 ∷ [])) ∷ []
+    (compare (image unequal2) (pattern 2 []) (pattern 2 []) 65535 32768 gives refused 8 (pair-of 1 2)) ∷ []
 
 pub sheet-holds : All sheet
 unfolding tableImage programImage chainImage field finish readTable readProgram readChain readForward reverse compare comparison check followed applied clear cleared under side against cubeAt reversing run next complete

@@ -1,9 +1,9 @@
 -- Specification 6.1, the lent areas after a call; what the answer area holds is 6.2, 6.6, 6.9 and 6.10.
 use mathlib.Core.List.{List, [], _++_}
-use mathlib.Core.Bool.{cond}
+use mathlib.Core.Bool.{Bool, _||_, cond}
 use mathlib.Core.Path.{_≡_}
 use Prim.Native.Nat.{ℕ, _+_, _≤_}
-use lib.Dec.{leb}
+use lib.Dec.{leb, eqb}
 use lib.ListN.{length, take, drop, replicate}
 use Rattle.model.specs.Word.{Positive}
 use Rattle.model.specs.Presentation.{Presentation}
@@ -23,12 +23,12 @@ begins bytes area = bytes ++ drop (length bytes) area
 -- 6.1: the answer area: it begins with the answer's bytes; after a refusal it is as it was
 abbrev pub outputAfter : {A : Type 0} → (A → List ℕ) → Outcome A → List ℕ → List ℕ
 outputAfter bytes (answered x) area = begins (bytes x) area
-outputAfter bytes (refused n ps) area = area
+outputAfter bytes (refused n place) area = area
 
 -- 6.9: what is written reads back: the first k bytes of the area, where k bytes were written, are read as what the input was read as
 abbrev pub ReadsBack : {A : Type 0} → Outcome A → (List ℕ → Outcome A) → Outcome ℕ → List ℕ → Type 0
 ReadsBack subject read (answered k) area = read (take k area) ≡ subject
-ReadsBack subject read (refused n ps) area = Unit {0}
+ReadsBack subject read (refused n place) area = Unit {0}
 
 -- 6.2: N, then D, a byte a letter
 abbrev pub fractionBytes : Fraction → List ℕ
@@ -39,10 +39,14 @@ abbrev pub remainderBytes : Remainder Positive → List ℕ
 remainderBytes (moves-after m k) = m
 remainderBytes (none-after k) = []
 
--- 6.1: the workspace: as found after refusals 1 to 8, all zero after answers and the other refusals
+-- 6.1: the refusals that come before the work begins: 1 to 8, and 16
+abbrev pub beforeWork : ℕ → Bool
+beforeWork n = leb n 8 || eqb n 16
+
+-- 6.1: the workspace: as found after these, all zero after answers and the other refusals
 abbrev pub workspaceAfter : {A : Type 0} → Outcome A → List ℕ → List ℕ
 workspaceAfter (answered x) area = replicate (length area) 0
-workspaceAfter (refused n ps) area = cond (leb n 8) area (replicate (length area) 0)
+workspaceAfter (refused n place) area = cond (beforeWork n) area (replicate (length area) 0)
 
 -- 6.6, which LEAVES OPEN which chain is listed: one that leads from u to v, with no more entries than there were steps. The area begins with
 -- its image, which reads back as these entries.
@@ -64,4 +68,4 @@ abbrev pub ChainArea : List ℕ → List ℕ → List ℕ → List ℕ → List 
 ChainArea table first second before after (answered (same-after k)) =
     (T : Presentation) × (u v : Positive) × Compares table first second T u v × Listed T u v k before after
 ChainArea table first second before after (answered (different-after k)) = after ≡ before
-ChainArea table first second before after (refused n ps) = after ≡ before
+ChainArea table first second before after (refused n place) = after ≡ before

@@ -4,7 +4,7 @@ use mathlib.Core.Bool.{Bool, true, _&&_, cond}
 use Prim.Native.Nat.{ℕ, zero, suc, _+_, _-_, _*_, _/_, _%_, _^_}
 use lib.Dec.{ltb, eqb}
 use lib.ListN.{length, take, drop, replicate}
-use Rattle.model.specs.Outcome.{Outcome, answered, refused, unless}
+use Rattle.model.specs.Outcome.{unplaced, Outcome, answered, refused, unless}
 
 -- 5.1: the last `width` binary digits of a number, the highest first
 abbrev pub digits : ℕ → ℕ → List ℕ
@@ -59,4 +59,4 @@ filling bits = ltb (length bits) 8 && allZero bits
 
 -- 5.3: the end of an image; `tail` is the refusal where something else follows
 unfoldable pub finish : {A : Type 0} → ℕ → Read A → Outcome A
-finish tail r = cond (filling (r .rest)) (answered (r .value)) (refused tail [])
+finish tail r = cond (filling (r .rest)) (answered (r .value)) (refused tail unplaced)

@@ -8,7 +8,7 @@ use Rattle.model.specs.Word.{Positive, positive, negative}
 use Rattle.model.specs.Presentation.{Presentation, Complement, undefined, complement, complete, weigh}
 use Rattle.model.specs.Reversing.{Stop, budget, room, Ending, finished, open-pair, stopped, reversing, Residual, EndsEmpty}
 use Rattle.model.specs.Enumeration.{Two, Three, pairs, triples}
-use Rattle.model.specs.Outcome.{Outcome, answered, refused, _>>=_}
+use Rattle.model.specs.Outcome.{pair-of, triple-of, Outcome, answered, refused, _>>=_}
 
 -- 4.2: the two sides of a pair's relation weigh the same, unless it is open: a followed by C(a,b), and b followed by C(b,a)
 abbrev pub balanced : Presentation → ℕ → ℕ → Complement → Bool
@@ -18,7 +18,7 @@ balanced T a b (complement x y) = eqb (weigh T (a ∷ x)) (weigh T (b ∷ y))
 -- 4.2: refusal 8 names the first pair that fails
 abbrev pub weightCheck : Presentation → List Two → Outcome (Unit {0})
 weightCheck T [] = answered tt
-weightCheck T (p ∷ ps) = cond (balanced T (p .a) (p .b) (complete T (p .a) (p .b))) (weightCheck T ps) (refused 8 (p .a ∷ p .b ∷ []))
+weightCheck T (p ∷ ps) = cond (balanced T (p .a) (p .b) (complete T (p .a) (p .b))) (weightCheck T ps) (refused 8 (pair-of (p .a) (p .b)))
 
 -- 4.3: (a\b)\(a\c) is l, with no limit on steps and lengths
 pub record Side (T : Presentation) (a b c : ℕ) (l : Positive) : Type 0 where
@@ -92,8 +92,8 @@ stopNumber room = 12
 -- 4.6: refusal 9 names the triple that breaks the rule; a stop names the triple under way
 abbrev pub reported : Three → CubeVerdict → Outcome (Unit {0}) → Outcome (Unit {0})
 reported t holds rest = rest
-reported t fails rest = refused 9 (t .a ∷ t .b ∷ t .c ∷ [])
-reported t (halts s) rest = refused (stopNumber s) (t .a ∷ t .b ∷ t .c ∷ [])
+reported t fails rest = refused 9 (triple-of (t .a) (t .b) (t .c))
+reported t (halts s) rest = refused (stopNumber s) (triple-of (t .a) (t .b) (t .c))
 
 module _ (T : Presentation) (steps : ℕ) where
   -- 4.5: u\v by one reversing, which has the whole budget

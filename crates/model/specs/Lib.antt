@@ -9,9 +9,9 @@ pub mod Bits
 pub mod Images
 pub mod Range
 pub mod Plain
+pub mod Mirror
 pub mod Services
 pub mod Bed
-pub mod Mirror
 pub mod Areas
 pub mod Stated
 pub mod Refusals

@@ -8,7 +8,7 @@ use Rattle.model.specs.Word.{Letter, forward, back, Word, Positive, posi
 use Rattle.model.specs.Presentation.{Presentation, Complement, undefined, complement, complete}
 use Rattle.model.specs.Reversing.{Site, nowhere, at, Next, no-site, blocked, step, Ending, stopped, room, spent, onward}
 use Rattle.model.specs.Enumeration.{range, Two, pairs}
-use Rattle.model.specs.Outcome.{Outcome, answered, refused}
+use Rattle.model.specs.Outcome.{pair-of, Outcome, answered, refused}
 
 -- RELATIONS FROM THEIR ENDS
 
@@ -74,7 +74,7 @@ offending T earlier a b (complement x y) = offends T earlier (fromEnd a x) (from
 abbrev pub mirrored : Presentation → List Two → List Two → Outcome (Unit {0})
 mirrored T earlier [] = answered tt
 mirrored T earlier (r ∷ rs) =
-    cond (offending T earlier (r .a) (r .b) (complete T (r .a) (r .b))) (refused 16 (r .a ∷ r .b ∷ [])) (mirrored T (earlier ++ (r ∷ [])) rs)
+    cond (offending T earlier (r .a) (r .b) (complete T (r .a) (r .b))) (refused 16 (pair-of (r .a) (r .b))) (mirrored T (earlier ++ (r ∷ [])) rs)
 
 unfoldable pub mirrorCheck : Presentation → Outcome (Unit {0})
 mirrorCheck T = mirrored T [] (pairs (T .size))

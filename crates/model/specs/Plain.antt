@@ -7,7 +7,7 @@ use lib.ListN.{length}
 use Rattle.model.specs.Word.{Word, Positive, backByte, byte, letter}
 use Rattle.model.specs.Presentation.{Presentation, Complement, undefined, complement}
 use Rattle.model.specs.Enumeration.{concatMap}
-use Rattle.model.specs.Outcome.{Outcome, answered, refused, _>>=_, unless}
+use Rattle.model.specs.Outcome.{unplaced, Outcome, answered, refused, _>>=_, unless}
 use Rattle.model.specs.Bits.{Read}
 use Rattle.model.specs.Images.{several, rowsOf}
 
@@ -41,7 +41,7 @@ plainProgram w = map byte w
 
 -- 5.7: a byte of a plain table; refusal 1 where none is left
 abbrev pub nextByte : List ℕ → Outcome (Read ℕ)
-nextByte [] = refused 1 []
+nextByte [] = refused 1 unplaced
 nextByte (x ∷ xs) = answered (record { value = x; rest = xs })
 
 -- 5.7: a letter of a word; refusal 2 where its byte is not 1 to n

@@ -9,8 +9,10 @@ use Rattle.model.specs.Word.{forward, back, Word, Positive, positive, ne
 use Rattle.model.specs.Presentation.{Presentation, weigh}
 use Rattle.model.specs.Reversing.{Ending, finished, open-pair, stopped, reversing}
 use Rattle.model.specs.Equivalence.{Entry, applied, equal}
-use Rattle.model.specs.Checks.{stopNumber, cleared}
-use Rattle.model.specs.Outcome.{Outcome, answered, refused, _>>=_, unless}
+use Rattle.model.specs.Enumeration.{pairs, triples}
+use Rattle.model.specs.Checks.{weightCheck, stopNumber, cubeCheck, cleared}
+use Rattle.model.specs.Mirror.{mirror, mirrorCheck, leftReversing}
+use Rattle.model.specs.Outcome.{Place, unplaced, pair-of, triple-of, mirror-triple-of, Outcome, answered, refused, _>>=_, unless}
 use Rattle.model.specs.Bits.{bytesFor}
 use Rattle.model.specs.Images.{entryPosition, readTable, readProgram, readChain, tableImage, programImage}
 use Rattle.model.specs.Plain.{plainTable, plainProgram, readPlainTable, readPlainProgram}
@@ -23,11 +25,11 @@ pub record Fraction : Type 0 where
   pub steps : ℕ
 
 -- 6.2: what reverse makes of an ending: 13 where the answer area is shorter than N and D together; 10 with the back letter's number before
--- the forward letter's; 11 and 12 with no place numbers
+-- the forward letter's; 11 and 12 without a place
 abbrev pub fractionOf : ℕ → Ending → Outcome Fraction
 fractionOf area (finished n d k r) = unless (ltb area (length n + length d)) 13 (record { numerator = n; denominator = d; steps = k })
-fractionOf area (open-pair a b k) = refused 10 (a ∷ b ∷ [])
-fractionOf area (stopped s) = refused (stopNumber s) []
+fractionOf area (open-pair a b k) = refused 10 (pair-of a b)
+fractionOf area (stopped s) = refused (stopNumber s) unplaced
 
 unfoldable pub reverse : List ℕ → List ℕ → ℕ → ℕ → ℕ → Outcome Fraction
 reverse table program steps width area =
@@ -35,10 +37,46 @@ reverse table program steps width area =
     readProgram (T .size) program >>= λ w.
     fractionOf area (reversing T steps width w)
 
+-- REVERSE FROM THE FINISHED END (6.12)
+
+-- 6.12: a program under a table that was read: 16 comes before the work; then as reverse
+unfoldable pub leftFraction : Presentation → Word → ℕ → ℕ → ℕ → Outcome Fraction
+leftFraction T w steps width area = mirrorCheck T >>= λ ok. fractionOf area (leftReversing T steps width w)
+
+unfoldable pub leftReverse : List ℕ → List ℕ → ℕ → ℕ → ℕ → Outcome Fraction
+leftReverse table program steps width area =
+    readTable table >>= λ T.
+    readProgram (T .size) program >>= λ w.
+    leftFraction T w steps width area
+
 -- CLEAR (6.3)
 
 unfoldable pub clear : List ℕ → ℕ → ℕ → Outcome (Unit {0})
 clear table steps width = readTable table >>= λ T. cleared T steps width
+
+-- CLEAR THE MIRROR (6.13)
+
+-- 6.13: a triple of a table's mirror
+abbrev pub inMirror : Place → Place
+inMirror (triple-of a b c) = mirror-triple-of a b c
+inMirror (mirror-triple-of a b c) = mirror-triple-of a b c
+inMirror (pair-of a b) = pair-of a b
+inMirror unplaced = unplaced
+
+-- 6.13: the cube check of the mirror: 17 in place of 9, and every triple is one of the mirror
+abbrev pub ofMirror : Outcome (Unit {0}) → Outcome (Unit {0})
+ofMirror (answered ok) = answered ok
+ofMirror (refused n place) = refused (cond (eqb n 9) 17 n) (inMirror place)
+
+-- 6.13: 16, then 8 with the table's own pair, then the triples of the mirror, in the order of 4.1
+unfoldable pub mirrorCleared : Presentation → ℕ → ℕ → Outcome (Unit {0})
+mirrorCleared T steps width =
+    mirrorCheck T >>= λ ok.
+    weightCheck T (pairs (T .size)) >>= λ ok.
+    ofMirror (cubeCheck (mirror T) steps width (triples (T .size)))
+
+unfoldable pub mirrorClear : List ℕ → ℕ → ℕ → Outcome (Unit {0})
+mirrorClear table steps width = readTable table >>= λ T. mirrorCleared T steps width
 
 -- COMPARE (6.4)
 
@@ -66,7 +104,7 @@ judged (x ∷ n) d k = different-after k
 abbrev pub verdictOf : Ending → Outcome Verdict
 verdictOf (finished n d k r) = answered (judged n d k)
 verdictOf (open-pair a b k) = answered (different-after k)
-verdictOf (stopped s) = refused (stopNumber s) []
+verdictOf (stopped s) = refused (stopNumber s) unplaced
 
 -- 6.4: two positive words under a table that was read and must clear; if their weights differ, different after 0 steps; else they are reversed
 unfoldable pub comparison : Presentation → Positive → Positive → ℕ → ℕ → Outcome Verdict
@@ -113,7 +151,7 @@ abbrev pub remainderOf : ℕ → Ending → Outcome (Remainder Positive)
 remainderOf area (finished n [] k r) = unless (ltb area (length n)) 13 (moves-after n k)
 remainderOf area (finished n (x ∷ d) k r) = answered (none-after k)
 remainderOf area (open-pair a b k) = answered (none-after k)
-remainderOf area (stopped s) = refused (stopNumber s) []
+remainderOf area (stopped s) = refused (stopNumber s) unplaced
 
 -- 6.10: u done and v the pattern, under a table that was read and must clear; where v is the lighter, none after 0 steps; else they are reversed
 unfoldable pub quotient : Presentation → Positive → Positive → ℕ → ℕ → ℕ → Outcome (Remainder Positive)
@@ -140,7 +178,7 @@ pub data Passage : Type 0 where
 -- 6.7: what the entry numbered k comes to: it breaks the chain; refusal 12 where the new word is longer than the workspace; else it goes on
 abbrev pub followedBy : ℕ → ℕ → (Positive → Outcome Passage) → Option Positive → Outcome Passage
 followedBy width k go none = answered (breaks k)
-followedBy width k go (some w) = cond (ltb width (length w)) (refused 12 []) (go w)
+followedBy width k go (some w) = cond (ltb width (length w)) (refused 12 unplaced) (go w)
 
 -- 6.7: from the word u, with the entries from number k on still to come
 unfoldable pub followed : Presentation → ℕ → ℕ → Positive → List Entry → Positive → Outcome Passage
@@ -149,7 +187,7 @@ followed T width k u (e ∷ es) v = followedBy width k (λ w. followed T width (
 
 -- 6.7: a chain from u to v; refusal 12 where u is longer than the workspace
 abbrev pub passage : Presentation → ℕ → Positive → List Entry → Positive → Outcome Passage
-passage T width u es v = cond (ltb width (length u)) (refused 12 []) (followed T width 0 u es v)
+passage T width u es v = cond (ltb width (length u)) (refused 12 unplaced) (followed T width 0 u es v)
 
 -- 6.7: the programs are read before the chain image, and the table need not clear
 unfoldable pub check : List ℕ → List ℕ → List ℕ → List ℕ → ℕ → Outcome Passage

@@ -1,16 +1,15 @@
 -- Specification 7.1, 7.3 and the answers of 6: numbers and values for each case of src/answers.rt. A promise says that what is stated of the
 -- answer is the service's outcome.
-use mathlib.Core.List.{List, [], _∷_}
 use Prim.Native.Nat.{ℕ}
 use lib.ListN.{length}
-use Rattle.model.specs.declared.answers.Place.{Place}
-use Rattle.model.specs.declared.answers.Place.the-variants.{Triple, Programs}
+use Rattle.model.specs.declared.answers.Place.{Place as PlaceAnswer}
+use Rattle.model.specs.declared.answers.Place.the-variants.{Triple, MirrorTriple, Programs}
 use Rattle.model.specs.declared.answers.Stop.{Stop as StopAnswer}
 use Rattle.model.specs.declared.answers.Stop.the-variants.{Budget, Room}
 use Rattle.model.specs.declared.answers.Ending.{Ending as EndingAnswer}
 use Rattle.model.specs.declared.answers.Ending.the-variants.{Finished, Undefined, Stopped}
 use Rattle.model.specs.declared.answers.Refusal.{Refusal}
-use Rattle.model.specs.declared.answers.Refusal.the-variants.{TableEnds, TableField, TableTail, ImageEnds, ImageField, ImageTail, BackMove, UnequalWeights, CubeFails, OpenPair, AllowanceUsed, WorkspaceShort, AnswerShort, NotBraidTable}
+use Rattle.model.specs.declared.answers.Refusal.the-variants.{TableEnds, TableField, TableTail, ImageEnds, ImageField, ImageTail, BackMove, UnequalWeights, CubeFails, OpenPair, AllowanceUsed, WorkspaceShort, AnswerShort, NotBraidTable, NoMirror, MirrorFails}
 use Rattle.model.specs.declared.answers.Reversed.{Reversed}
 use Rattle.model.specs.declared.answers.Reversed.the-variants.{Answer, Refused as ReverseRefused}
 use Rattle.model.specs.declared.answers.Cleared.{Cleared}
@@ -25,30 +24,33 @@ use Rattle.model.specs.declared.answers.Packed.{Packed}
 use Rattle.model.specs.declared.answers.Packed.the-variants.{Written, Refused as PackRefused}
 use Rattle.model.specs.Word.{Positive}
 use Rattle.model.specs.Reversing.{Stop, budget, room, Ending, finished, open-pair, stopped}
-use Rattle.model.specs.Outcome.{Outcome, answered, refused}
+use Rattle.model.specs.Outcome.{Place, unplaced, pair-of, triple-of, mirror-triple-of, Outcome, answered, refused}
 use Rattle.model.specs.Services.{Fraction, Verdict, same-after, different-after, Remainder, moves-after, none-after, Passage, joins, breaks, ends-elsewhere}
 
--- 7.3: the place numbers of 11 and 12: those of the triple that was under way, or none if the programs were
-abbrev pub placeNumbers : Place → List ℕ
-placeNumbers (Triple t) = t .a ∷ t .b ∷ t .c ∷ []
-placeNumbers Programs = []
+-- 7.3: the place of 11 and 12: the triple that was under way, of the table or of its mirror, or none if the programs were
+abbrev pub placed : PlaceAnswer → Place
+placed (Triple t) = triple-of (t .a) (t .b) (t .c)
+placed (MirrorTriple t) = mirror-triple-of (t .a) (t .b) (t .c)
+placed Programs = unplaced
 
--- 7.1, 7.3: a refusal's number and place numbers; of 10, `a` is the back letter's. 14 is no refusal's number
-abbrev pub numbered : Refusal → ℕ × List ℕ
-numbered TableEnds = (1, [])
-numbered TableField = (2, [])
-numbered TableTail = (3, [])
-numbered ImageEnds = (4, [])
-numbered ImageField = (5, [])
-numbered ImageTail = (6, [])
-numbered BackMove = (7, [])
-numbered (UnequalWeights p) = (8, p .a ∷ p .b ∷ [])
-numbered (CubeFails t) = (9, t .a ∷ t .b ∷ t .c ∷ [])
-numbered (OpenPair p) = (10, p .a ∷ p .b ∷ [])
-numbered (AllowanceUsed p) = (11, placeNumbers p)
-numbered (WorkspaceShort p) = (12, placeNumbers p)
-numbered AnswerShort = (13, [])
-numbered NotBraidTable = (15, [])
+-- 7.1, 7.3: a refusal's number and place; of 10, `a` is the back letter's. 14 is no refusal's number
+abbrev pub numbered : Refusal → ℕ × Place
+numbered TableEnds = (1, unplaced)
+numbered TableField = (2, unplaced)
+numbered TableTail = (3, unplaced)
+numbered ImageEnds = (4, unplaced)
+numbered ImageField = (5, unplaced)
+numbered ImageTail = (6, unplaced)
+numbered BackMove = (7, unplaced)
+numbered (UnequalWeights p) = (8, pair-of (p .a) (p .b))
+numbered (CubeFails t) = (9, triple-of (t .a) (t .b) (t .c))
+numbered (OpenPair p) = (10, pair-of (p .a) (p .b))
+numbered (AllowanceUsed p) = (11, placed p)
+numbered (WorkspaceShort p) = (12, placed p)
+numbered AnswerShort = (13, unplaced)
+numbered NotBraidTable = (15, unplaced)
+numbered (NoMirror p) = (16, pair-of (p .a) (p .b))
+numbered (MirrorFails t) = (17, mirror-triple-of (t .a) (t .b) (t .c))
 
 -- 7.1: the outcome, whatever the answer would have been
 abbrev pub refusal : {A : Type 0} → Refusal → Outcome A

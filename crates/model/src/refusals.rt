@@ -1,13 +1,13 @@
 // A refusal in numbers, as the bench reader and C are told it.
-ghost use mathlib.Core.List.{[], _∷_};
-ghost use Rattle.model.specs.Stated.{numbered, placeNumbers};
+ghost use Rattle.model.specs.Outcome.{unplaced, pair-of, triple-of, mirror-triple-of};
+ghost use Rattle.model.specs.Stated.{numbered, placed};
 ghost use Rattle.model.specs.Refusals.{RefusalTold};
 use crate::answers::Pair;
 use crate::answers::Place;
 use crate::answers::Refusal;
 use crate::answers::Triple;
 
-// `place` is what the place is: 0 none or the programs, 1 a pair, 2 a triple. `count` of `number`, `a`, `b` and `c` are the numbers to tell; the
+// `place` is what the place is: 0 none or the programs, 1 a pair, 2 a triple of the table, 3 a triple of the mirror. `count` of `number`, `a`, `b` and `c` are the numbers to tell; the
 // others are 0.
 pub struct RefusalNumbers {
     pub number: u8,
@@ -19,7 +19,7 @@ pub struct RefusalNumbers {
 }
 
 pub(crate) fn alone(number: u8) -> RefusalNumbers
-    ensures { λ r. ⌜ RefusalTold r number [] ⌝ }
+    ensures { λ r. ⌜ RefusalTold r number unplaced ⌝ }
 {
     RefusalNumbers {
         number,
@@ -32,7 +32,7 @@ pub(crate) fn alone(number: u8) -> RefusalNumbers
 }
 
 pub(crate) fn with_pair(number: u8, pair: Pair) -> RefusalNumbers
-    ensures { λ r. ⌜ RefusalTold r number (pair .a ∷ pair .b ∷ []) ⌝ }
+    ensures { λ r. ⌜ RefusalTold r number (pair-of (pair .a) (pair .b)) ⌝ }
 {
     RefusalNumbers {
         number,
@@ -45,7 +45,7 @@ pub(crate) fn with_pair(number: u8, pair: Pair) -> RefusalNumbers
 }
 
 pub(crate) fn with_triple(number: u8, triple: Triple) -> RefusalNumbers
-    ensures { λ r. ⌜ RefusalTold r number (triple .a ∷ triple .b ∷ triple .c ∷ []) ⌝ }
+    ensures { λ r. ⌜ RefusalTold r number (triple-of (triple .a) (triple .b) (triple .c)) ⌝ }
 {
     RefusalNumbers {
         number,
@@ -57,12 +57,26 @@ pub(crate) fn with_triple(number: u8, triple: Triple) -> RefusalNumbers
     }
 }
 
+pub(crate) fn with_mirror_triple(number: u8, triple: Triple) -> RefusalNumbers
+    ensures { λ r. ⌜ RefusalTold r number (mirror-triple-of (triple .a) (triple .b) (triple .c)) ⌝ }
+{
+    RefusalNumbers {
+        number,
+        place: 3,
+        a: triple.a,
+        b: triple.b,
+        c: triple.c,
+        count: 4,
+    }
+}
+
 pub(crate) fn with_place(number: u8, place: Place) -> RefusalNumbers
-    ensures { λ r. ⌜ RefusalTold r number (placeNumbers place) ⌝ }
+    ensures { λ r. ⌜ RefusalTold r number (placed place) ⌝ }
 {
     match place {
         Place::Programs => alone(number),
         Place::Triple(triple) => with_triple(number, triple),
+        Place::MirrorTriple(triple) => with_mirror_triple(number, triple),
     }
 }
 
@@ -84,5 +98,7 @@ pub fn refusal_numbers(refusal: Refusal) -> RefusalNumbers
         Refusal::WorkspaceShort(place) => with_place(12, place),
         Refusal::AnswerShort => alone(13),
         Refusal::NotBraidTable => alone(15),
+        Refusal::NoMirror(pair) => with_pair(16, pair),
+        Refusal::MirrorFails(triple) => with_mirror_triple(17, triple),
     }
 }

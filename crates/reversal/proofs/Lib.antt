@@ -1,3 +1,4 @@
 pub mod Fractions
+pub mod Told
 pub mod Answers
 pub mod ReverseService

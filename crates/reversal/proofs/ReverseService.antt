@@ -7,7 +7,7 @@ use lib.Seq.{take-append-seam, drop-append-seam}
 use Rattle.model.specs.Word.{Word}
 use Rattle.model.specs.Presentation.{Presentation}
 use Rattle.model.specs.Reversing.{reversing}
-use Rattle.model.specs.Outcome.{Outcome, answered, refused, mapped, _>>=_}
+use Rattle.model.specs.Outcome.{Outcome, answered, refused, _>>=_, mapped}
 use Rattle.model.specs.Images.{readTable, readProgram}
 use Rattle.model.specs.Services.{Fraction, fractionOf, reverse}
 use Rattle.model.specs.Areas.{begins, fractionBytes, outputAfter}

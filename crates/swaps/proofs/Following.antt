@@ -12,7 +12,7 @@ use lib.Seq.{drop-cons}
 use Rattle.model.specs.Word.{Positive}
 use Rattle.model.specs.Presentation.{Presentation}
 use Rattle.model.specs.Equivalence.{Entry, equal, applied}
-use Rattle.model.specs.Outcome.{Outcome, answered, refused}
+use Rattle.model.specs.Outcome.{unplaced, Outcome, answered, refused}
 use Rattle.model.specs.Services.{Passage, joins, breaks, ends-elsewhere, followedBy, followed}
 use Rattle.model.specs.Images.{readChain}
 use Rattle.images.specs.Chains.{ChainOf}
@@ -53,11 +53,11 @@ module _ (T : Presentation) (width : ℕ) (u : Positive) (es : List Entry) (v : 
     follow-breaks e = one ∙ ap (followedBy width i go) e
 
     module _ (w : Positive) (e : applied T u (getD es i blank) ≡ some w) where
-      pub follow-short : width < length w → followed T width i u (drop i es) v ≡ refused 12 []
-      follow-short l = one ∙ (ap (followedBy width i go) e ∙ ap (λ t. cond t (refused 12 []) (go w)) (lt-ltb width (length w) l))
+      pub follow-short : width < length w → followed T width i u (drop i es) v ≡ refused 12 unplaced
+      follow-short l = one ∙ (ap (followedBy width i go) e ∙ ap (λ t. cond t (refused 12 unplaced) (go w)) (lt-ltb width (length w) l))
 
       pub follow-on : length w ≤ width → followed T width i u (drop i es) v ≡ followed T width (i + 1) w (drop (i + 1) es) v
       follow-on l =
           one
           ∙ (ap (followedBy width i go) e
-          ∙ (ap (λ t. cond t (refused 12 []) (go w)) (le-ltb width (length w) l) ∙ ap (λ j. followed T width j w (drop j es) v) (sym (add-one i))))
+          ∙ (ap (λ t. cond t (refused 12 unplaced) (go w)) (le-ltb width (length w) l) ∙ ap (λ j. followed T width j w (drop j es) v) (sym (add-one i))))

@@ -1,5 +1,5 @@
 -- What following a chain comes to, for every table that the cells stand for and every second word.
-use mathlib.Core.List.{List, []}
+use mathlib.Core.List.{List}
 use mathlib.Core.Bool.{cond}
 use mathlib.Core.Path.{_≡_}
 use Prim.Native.Nat.{ℕ, _≤_}
@@ -7,7 +7,7 @@ use lib.ListN.{length}
 use Rattle.model.specs.Word.{Positive}
 use Rattle.model.specs.Presentation.{Presentation}
 use Rattle.model.specs.Equivalence.{Entry, equal}
-use Rattle.model.specs.Outcome.{Outcome, answered, refused}
+use Rattle.model.specs.Outcome.{unplaced, Outcome, answered, refused}
 use Rattle.model.specs.Images.{readChain}
 use Rattle.model.specs.Services.{Passage, joins, breaks, ends-elsewhere, followed}
 use Rattle.images.specs.Chains.{ChainOf}
@@ -26,7 +26,7 @@ pub record Follows (cells : List ℕ) (size : ℕ) (chain : List ℕ) (count : �
 abbrev pub FollowedAs : List ℕ → (Positive → Outcome Passage) → Followed → Type 0
 FollowedAs after outcome (Ended g) = Placed after (g .left) (g .right) × ((v : Positive) → outcome v ≡ answered (cond (equal (heldAt after (g .left) (g .right)) v) joins ends-elsewhere))
 FollowedAs after outcome (Breaks k) = (v : Positive) → outcome v ≡ answered (breaks k)
-FollowedAs after outcome Short = (v : Positive) → outcome v ≡ refused 12 []
+FollowedAs after outcome Short = (v : Positive) → outcome v ≡ refused 12 unplaced
 
 abbrev pub FollowMeans : List ℕ → ℕ → List ℕ → List ℕ → ℕ → ℕ → List ℕ → Followed → Type 0
 FollowMeans cells size chain before left right after r =

@@ -19,7 +19,8 @@ use Rattle.images.proofs.RoundTrip.{program-in-range}
 use Rattle.text.specs.Text.{wordText, bytesText, answerText, outcomeText, report}
 use Rattle.text.specs.Put.{Put}
 use Rattle.text.specs.Render.{Readable, Reported}
-use Rattle.text.proofs.Reports.{Sized, mapped-answered, outcome, no-program, no-answer, answer, bytes-word, numerator-part, denominator-part}
+use Rattle.reversal.proofs.Told.{Sized, mapped-answered}
+use Rattle.text.proofs.Reports.{outcome, no-program, no-answer, answer, bytes-word, numerator-part, denominator-part}
 
 pub reported : {most : ℕ} {table program before text after : List ℕ} {r : ℕ} → Put most before 0 text after r → most ≤ length before → text ≡ report table program
     → Reported table program after r

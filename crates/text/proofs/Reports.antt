@@ -7,42 +7,17 @@ use lib.ListN.{length, take, drop, length-drop}
 use lib.Seq.{take-at, drop-at, length-take-le}
 use Rattle.model.specs.Word.{forward, back, Word, byte}
 use Rattle.model.specs.Presentation.{Presentation}
-use Rattle.model.specs.Outcome.{Outcome, answered, refused, _>>=_, mapped}
+use Rattle.model.specs.Outcome.{Outcome, answered, _>>=_, mapped}
 use Rattle.model.specs.Images.{readTable, readProgram}
 use Rattle.model.specs.Services.{Fraction, reverse}
 use Rattle.model.specs.Areas.{begins}
 use Rattle.model.specs.Stated.{refusal, sizes}
 use Rattle.model.specs.declared.answers.Refusal.{Refusal}
-use Rattle.model.proofs.Impossible.{impossible}
 use Rattle.model.specs.Range.{All, LetterInRange}
 use Rattle.engine.proofs.Letters.{letter-forward, letter-back}
 use Rattle.loading.proofs.Outcomes.{still-refused, goes-on}
+use Rattle.reversal.proofs.Told.{mapped-refused}
 use Rattle.text.specs.Text.{letterText, wordText, bytesText, answerText, outcomeText, reading, report}
-
--- the outcome whose sizes a refusal states
-mapped-refused : (o : Outcome Fraction) (r : Refusal) → refusal r ≡ mapped sizes o → o ≡ refusal r
-mapped-refused (answered f) r e = impossible (cc)
-mapped-refused (refused k ps) r e = cc
-
--- the fraction whose sizes an answer states
-pub record Sized (o : Outcome Fraction) (n d k : ℕ) : Type 0 where
-  pub fraction : Fraction
-  pub is : o ≡ answered fraction
-  pub numerator-length : length (fraction .numerator) ≡ n
-  pub denominator-length : length (fraction .denominator) ≡ d
-  pub steps-are : fraction .steps ≡ k
-
-pub mapped-answered : (o : Outcome Fraction) (n d k : ℕ) → answered (record { numerator = n; denominator = d; steps = k }) ≡ mapped sizes o → Sized o n d k
-mapped-answered (answered f) n d k e =
-    let u : record { numerator = n; denominator = d; steps = k } ≡ sizes f = cc in
-    record {
-      fraction = f;
-      is = refl;
-      numerator-length = ap (λ s. s .numerator) (sym u);
-      denominator-length = ap (λ s. s .denominator) (sym u);
-      steps-are = ap (λ s. s .steps) (sym u);
-    }
-mapped-answered (refused i ps) n d k e = impossible (cc)
 
 module _ (table program : List ℕ) where
   -- the reader's reversing

@@ -5,7 +5,7 @@ use Prim.Native.Nat.{ℕ, _+_, _/_, _%_}
 use lib.Dec.{ltb}
 use Rattle.model.specs.Word.{Letter, forward, back, Word, Positive, letter}
 use Rattle.model.specs.Enumeration.{concatMap}
-use Rattle.model.specs.Outcome.{Outcome, answered, refused, _>>=_}
+use Rattle.model.specs.Outcome.{placeNumbers, Outcome, answered, refused, _>>=_}
 use Rattle.model.specs.Images.{readTable, readProgram}
 use Rattle.model.specs.Services.{reverse}
 
@@ -84,10 +84,10 @@ answerText n program numerator denominator steps =
     ++ (line denominatorLabel (numbersText denominator)
     ++ line stepsLabel (spacedNumber steps))))
 
--- 9.3, 9.4: the lines of an answer, or the line of a refusal: its number and its place numbers
+-- 9.3, 9.4: the lines of an answer, or the line of a refusal: its number and the numbers of its place
 abbrev pub outcomeText : Outcome (List ℕ) → List ℕ
 outcomeText (answered text) = text
-outcomeText (refused n places) = line refusedLabel (numbersText (n ∷ places))
+outcomeText (refused n place) = line refusedLabel (numbersText (n ∷ placeNumbers place))
 
 -- 9.2: the program reversed with the reader's allowance and areas
 abbrev pub reading : List ℕ → List ℕ → Outcome (List ℕ)

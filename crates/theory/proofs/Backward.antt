@@ -14,7 +14,7 @@ use Rattle.model.specs.Presentation.{Presentation, Complement, undefined, compl
 use Rattle.model.specs.Enumeration.{Two, pairs}
 use Rattle.model.specs.Equivalence.{Joined}
 use Rattle.model.specs.Range.{PairInRange, TableInRange}
-use Rattle.model.specs.Outcome.{answered, refused}
+use Rattle.model.specs.Outcome.{pair-of, answered, refused}
 use Rattle.model.specs.Mirror.{FromEnd, fromEnd, endingIn, relationEnding, orElse, found, backward, mirror, isDefined, offending, mirrored, mirrorCheck, leftComplete}
 use Rattle.model.proofs.Impossible.{impossible}
 use Rattle.model.proofs.Booleans.{both-true, neither-true}
@@ -132,7 +132,7 @@ module _ (T : Presentation) where
   passed earlier r rs h = go (offending T earlier (r .a) (r .b) (complete T (r .a) (r .b))) refl h
     where
       go : (t : Bool) → offending T earlier (r .a) (r .b) (complete T (r .a) (r .b)) ≡ t
-          → cond t (refused 16 (r .a ∷ r .b ∷ [])) (mirrored T (earlier ++ (r ∷ [])) rs) ≡ answered tt
+          → cond t (refused 16 (pair-of (r .a) (r .b))) (mirrored T (earlier ++ (r ∷ [])) rs) ≡ answered tt
           → (offending T earlier (r .a) (r .b) (complete T (r .a) (r .b)) ≡ false) × (mirrored T (earlier ++ (r ∷ [])) rs ≡ answered tt)
       go true e k = impossible (cc)
       go false e k = (e, k)

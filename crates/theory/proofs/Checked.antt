@@ -12,7 +12,7 @@ use Rattle.model.specs.Presentation.{Presentation, Complement, undefined, compl
 use Rattle.model.specs.Reversing.{budget, room, Ending, finished, open-pair, stopped, reversing, Finishes, Residual, EndsEmpty}
 use Rattle.model.specs.Enumeration.{Two, Three, pairs, triples}
 use Rattle.model.specs.Range.{All}
-use Rattle.model.specs.Outcome.{Outcome, answered, refused, _>>=_}
+use Rattle.model.specs.Outcome.{Place, pair-of, Outcome, answered, refused, _>>=_}
 use Rattle.model.specs.Checks.{balanced, weightCheck, Side, CubeRule, both-undefined, both-defined, Residue, residue, missing, halted, andThen, CubeVerdict, holds, fails, halts, empties, bothMissing, bothThere, whereDefined, reported, under, side, against, cubeAt, cubeCheck, cleared}
 use Rattle.theory.specs.Cube.{Obeys, Says, FirstBroken, CubeMeaning}
 use Rattle.model.proofs.Impossible.{impossible}
@@ -145,12 +145,12 @@ module _ (T : Presentation) (steps width : ℕ) where
       go fails s rest e = impossible (cc)
       go (halts x) s rest e = impossible (cc)
 
-  cube-broken : (ts : List Three) (numbers : List ℕ) → cubeCheck T steps width ts ≡ refused 9 numbers → FirstBroken T ts numbers
-  cube-broken [] numbers h = impossible (cc)
-  cube-broken (t ∷ ts) numbers h = go (cubeAt T steps width t) (triple-says T steps width t) (cube-broken ts numbers) h
+  cube-broken : (ts : List Three) (place : Place) → cubeCheck T steps width ts ≡ refused 9 place → FirstBroken T ts place
+  cube-broken [] place h = impossible (cc)
+  cube-broken (t ∷ ts) place h = go (cubeAt T steps width t) (triple-says T steps width t) (cube-broken ts place) h
     where
-      go : (v : CubeVerdict) → Says T t v → (cubeCheck T steps width ts ≡ refused 9 numbers → FirstBroken T ts numbers)
-          → reported t v (cubeCheck T steps width ts) ≡ refused 9 numbers → FirstBroken T (t ∷ ts) numbers
+      go : (v : CubeVerdict) → Says T t v → (cubeCheck T steps width ts ≡ refused 9 place → FirstBroken T ts place)
+          → reported t v (cubeCheck T steps width ts) ≡ refused 9 place → FirstBroken T (t ∷ ts) place
       go holds s rest e =
           let f = rest e in
           record {
@@ -166,12 +166,12 @@ module _ (T : Presentation) (steps width : ℕ) where
       go (halts budget) s rest e = let z : _≡_ {A = ℕ} 11 9 = cc in absurd (omega arith)
       go (halts room) s rest e = let z : _≡_ {A = ℕ} 12 9 = cc in absurd (omega arith)
 
-passes : (p : Two) (t : Bool) (rest : Outcome (Unit {0})) → cond t rest (refused 8 (p .a ∷ p .b ∷ [])) ≡ answered tt
+passes : (p : Two) (t : Bool) (rest : Outcome (Unit {0})) → cond t rest (refused 8 (pair-of (p .a) (p .b))) ≡ answered tt
     → (t ≡ true) × (rest ≡ answered tt)
 passes p true rest h = (refl, h)
 passes p false rest h = impossible (cc)
 
-both-pass : (o p : Outcome (Unit {0})) → (o >>= λ ok. p) ≡ answered tt → (o ≡ answered tt) × (p ≡ answered tt)
+pub both-pass : (o p : Outcome (Unit {0})) → (o >>= λ ok. p) ≡ answered tt → (o ≡ answered tt) × (p ≡ answered tt)
 both-pass (answered x) p h = (refl, h)
 both-pass (refused n ps) p h = impossible (cc)
 
@@ -180,11 +180,11 @@ weight-each T {p} h (List·Memᴰ·head {x} {xs} e) = rw e (passes x (balanced T
 weight-each T {p} h (List·Memᴰ·tail {x} {xs} m) = weight-each T (passes x (balanced T (x .a) (x .b) (complete T (x .a) (x .b))) (weightCheck T xs) h .1) m
 
 -- the weight check has no other refusal than 8
-weight-only : (T : Presentation) (ps : List Two) (n : ℕ) (numbers : List ℕ) → weightCheck T ps ≡ refused n numbers → n ≡ 8
-weight-only T [] n numbers h = impossible (cc)
-weight-only T (p ∷ ps) n numbers h = go (balanced T (p .a) (p .b) (complete T (p .a) (p .b))) (weight-only T ps n numbers) h
+pub weight-only : (T : Presentation) (ps : List Two) (n : ℕ) (place : Place) → weightCheck T ps ≡ refused n place → n ≡ 8
+weight-only T [] n place h = impossible (cc)
+weight-only T (p ∷ ps) n place h = go (balanced T (p .a) (p .b) (complete T (p .a) (p .b))) (weight-only T ps n place) h
   where
-    go : (t : Bool) → (weightCheck T ps ≡ refused n numbers → n ≡ 8) → cond t (weightCheck T ps) (refused 8 (p .a ∷ p .b ∷ [])) ≡ refused n numbers → n ≡ 8
+    go : (t : Bool) → (weightCheck T ps ≡ refused n place → n ≡ 8) → cond t (weightCheck T ps) (refused 8 (pair-of (p .a) (p .b))) ≡ refused n place → n ≡ 8
     go true rest e = rest e
     go false rest e = cc
 
@@ -214,23 +214,23 @@ module _ (T : Presentation) (steps width : ℕ) (clear : cleared T steps width �
 
 module _ (T : Presentation) (steps width : ℕ) where
   -- where clearing does not refuse with 8, the weight check was passed
-  pub unless-8 : ((numbers : List ℕ) → cleared T steps width ≡ refused 8 numbers → ⊥) → weightCheck T (pairs (T .size)) ≡ answered tt
+  pub unless-8 : ((place : Place) → cleared T steps width ≡ refused 8 place → ⊥) → weightCheck T (pairs (T .size)) ≡ answered tt
   unfolding cleared
   unless-8 other = go (weightCheck T (pairs (T .size))) refl other
     where
       go : (o : Outcome (Unit {0})) → weightCheck T (pairs (T .size)) ≡ o
-          → ((numbers : List ℕ) → (o >>= λ ok. cubeCheck T steps width (triples (T .size))) ≡ refused 8 numbers → ⊥)
+          → ((place : Place) → (o >>= λ ok. cubeCheck T steps width (triples (T .size))) ≡ refused 8 place → ⊥)
           → weightCheck T (pairs (T .size)) ≡ answered tt
       go (answered x) p h = p
       go (refused n ps) p h = absurd (h ps (ap (λ i. refused i ps) (weight-only T (pairs (T .size)) n ps p)))
 
-  checked-broken : (numbers : List ℕ) → cleared T steps width ≡ refused 9 numbers → FirstBroken T (triples (T .size)) numbers
+  checked-broken : (place : Place) → cleared T steps width ≡ refused 9 place → FirstBroken T (triples (T .size)) place
   unfolding cleared
-  checked-broken numbers h = go (weightCheck T (pairs (T .size))) refl h
+  checked-broken place h = go (weightCheck T (pairs (T .size))) refl h
     where
       go : (o : Outcome (Unit {0})) → weightCheck T (pairs (T .size)) ≡ o
-          → (o >>= λ ok. cubeCheck T steps width (triples (T .size))) ≡ refused 9 numbers → FirstBroken T (triples (T .size)) numbers
-      go (answered x) p e = cube-broken T steps width (triples (T .size)) numbers e
+          → (o >>= λ ok. cubeCheck T steps width (triples (T .size))) ≡ refused 9 place → FirstBroken T (triples (T .size)) place
+      go (answered x) p e = cube-broken T steps width (triples (T .size)) place e
       go (refused n ps) p e =
           let eight = weight-only T (pairs (T .size)) n ps p in
           let nine : n ≡ 9 = cc in

@@ -12,7 +12,7 @@ use Rattle.model.specs.Word.{Positive, positive, negative}
 use Rattle.model.specs.Presentation.{Presentation, weightOf, weigh}
 use Rattle.model.specs.Reversing.{Stop, budget, room, Ending, finished, open-pair, stopped, reversing, Finishes, EndsEmpty, CoversSteps, CoversRoom}
 use Rattle.model.specs.Equivalence.{Joined}
-use Rattle.model.specs.Outcome.{Outcome, answered, refused, _>>=_}
+use Rattle.model.specs.Outcome.{unplaced, Outcome, answered, refused, _>>=_}
 use Rattle.model.specs.Checks.{stopNumber, cleared}
 use Rattle.model.specs.Services.{Verdict, same-after, different-after, judged, verdictOf, comparison}
 use Rattle.model.proofs.Impossible.{impossible}
@@ -27,8 +27,8 @@ use Rattle.theory.proofs.Clearing.{clear-homogeneous, clear-complete}
 pub data Meaning (T : Presentation) (u v : Positive) : Outcome Verdict → Type 0 where
   same : (k : ℕ) → Joined T u v → Meaning T u v (answered (same-after k))
   different : (k : ℕ) → (Joined T u v → ⊥) → Meaning T u v (answered (different-after k))
-  out-of-budget : Meaning T u v (refused 11 [])
-  out-of-room : Meaning T u v (refused 12 [])
+  out-of-budget : Meaning T u v (refused 11 unplaced)
+  out-of-room : Meaning T u v (refused 12 unplaced)
 
 -- THE CASES OF A COMPARISON
 
@@ -94,7 +94,7 @@ module _ (T : Presentation) (u v : Positive) (steps width : ℕ) where
     judged-means (x ∷ n) d {k} f =
         different k (λ j. let e = not-empty (x ∷ n) d f j .0 in impossible (cc))
 
-    stop-means : (s : Stop) → Meaning T u v (refused (stopNumber s) [])
+    stop-means : (s : Stop) → Meaning T u v (refused (stopNumber s) unplaced)
     stop-means budget = out-of-budget
     stop-means room = out-of-room
 

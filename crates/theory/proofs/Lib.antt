@@ -21,3 +21,4 @@ pub mod Passages
 pub mod Comparison
 pub mod Verdicts
 pub mod Remainders
+pub mod MirrorClearing

@@ -1,14 +1,14 @@
 -- In whatever order the steps are taken, the answer is that of the leftmost ones (specification 3.7): `any-order`.
 use mathlib.Core.Path.{_≡_, refl, sym, ap, _∙_}
 use mathlib.Core.Logic.{_↔_}
-use mathlib.Core.List.{List, [], _∷_, _++_}
+use mathlib.Core.List.{[], _∷_, _++_}
 use mathlib.Core.Bool.{Bool, true, false}
 use Prim.Native.Nat.{ℕ, _+_}
 use native.Mathlib.Omega.{arith}
 use Rattle.model.specs.Word.{Letter, forward, back, Word, Positive, positive, negative}
 use Rattle.model.specs.Presentation.{Presentation}
 use Rattle.model.specs.Reversing.{Site, nowhere, at, beyond, site, Ending, finished, open-pair, stopped, budget, room, reversing, Leftmost, Reduces, Finishes}
-use Rattle.model.specs.Outcome.{answered, refused, unless}
+use Rattle.model.specs.Outcome.{Place, answered, refused, unless}
 use Rattle.model.specs.Services.{Fraction, fractionOf}
 use lib.Dec.{ltb}
 use lib.ListN.{length}
@@ -126,9 +126,9 @@ module _ (T : Presentation) where
   as-fraction true f g e = impossible (cc)
   as-fraction false f g e = cc
 
-  only-13 : (short : Bool) (f : Fraction) (i : ℕ) (numbers : List ℕ) → unless short 13 f ≡ refused i numbers → i ≡ 13
-  only-13 true f i numbers e = cc
-  only-13 false f i numbers e = impossible (cc)
+  only-13 : (short : Bool) (f : Fraction) (i : ℕ) (place : Place) → unless short 13 f ≡ refused i place → i ≡ 13
+  only-13 true f i place e = cc
+  only-13 false f i place e = impossible (cc)
 
   by-ending : (steps width area : ℕ) (w : Word) (end : Ending) → Ends T steps width w end → OrderMeaning T w (fractionOf area end)
   by-ending steps width area w (finished n d i r) m =
@@ -139,14 +139,14 @@ module _ (T : Presentation) where
             let t = same-end (counted (leftmost-too o h)) (none-stuck v h) (counted (m .run)) (fraction-stuck T n d) in
             let same : f ≡ g = as-fraction short f g e in
             (t .0 ∙ ap (λ x. positive (x .numerator) ++ negative (x .denominator)) same, t .1 ∙ ap (λ x. x .steps) same);
-        unfinished = λ numbers e. absurd (omega (arith, only-13 short f _ numbers e));
+        unfinished = λ place e. absurd (omega (arith, only-13 short f _ place e));
       }
   by-ending steps width area w (open-pair a b i) m =
-      record { finished = λ g e. impossible (cc); unfinished = λ numbers e v k o h. met-open m v k o h }
+      record { finished = λ g e. impossible (cc); unfinished = λ place e v k o h. met-open m v k o h }
   by-ending steps width area w (stopped budget) m =
-      record { finished = λ g e. impossible (cc); unfinished = λ numbers e. impossible (cc) }
+      record { finished = λ g e. impossible (cc); unfinished = λ place e. impossible (cc) }
   by-ending steps width area w (stopped room) m =
-      record { finished = λ g e. impossible (cc); unfinished = λ numbers e. impossible (cc) }
+      record { finished = λ g e. impossible (cc); unfinished = λ place e. impossible (cc) }
 
   pub order-meaning : (steps width area : ℕ) (w : Word) → OrderMeaning T w (fractionOf area (reversing T steps width w))
   order-meaning steps width area w = by-ending steps width area w (reversing T steps width w) (reversing-ends T steps width w)

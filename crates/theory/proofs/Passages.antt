@@ -13,7 +13,7 @@ use borrow.Author.Tests.{lt-ltb, le-ltb}
 use Rattle.model.specs.Word.{Positive}
 use Rattle.model.specs.Presentation.{Presentation, complete, weightOf, weigh}
 use Rattle.model.specs.Equivalence.{Entry, equal, applied, Leads, Fits, LeadsWithin}
-use Rattle.model.specs.Outcome.{Outcome, answered, refused}
+use Rattle.model.specs.Outcome.{unplaced, Outcome, answered, refused}
 use Rattle.model.specs.Services.{Passage, joins, ends-elsewhere, followedBy, followed, passage}
 use Rattle.theory.specs.Passages.{Passes, arrives, broken, elsewhere, starts-long, grows-long}
 use Rattle.model.proofs.Impossible.{impossible}
@@ -76,12 +76,12 @@ module _ (T : Presentation) (width : ℕ) where
       let next = l .0 .0 in
       let go : Positive → Outcome Passage = λ x. followed T width (suc k) x (before ++ rest) v in
       ap (followedBy width k go) (l .0 .1)
-      ∙ (ap (λ t. cond t (refused 12 []) (go next)) (le-ltb width (length next) (first-fits next before w (l .0 .2, l .1 .1)))
+      ∙ (ap (λ t. cond t (refused 12 unplaced) (go next)) (le-ltb width (length next) (first-fits next before w (l .0 .2, l .1 .1)))
       ∙ (past before (suc k) next w (l .0 .2, l .1 .1) rest v ∙ ap (λ i. followed T width i w rest v) (omega arith)))
 
   module _ (u : Positive) (es : List Entry) (v : Positive) where
     starts : length u ≤ width → passage T width u es v ≡ followed T width 0 u es v
-    starts h = ap (λ t. cond t (refused 12 []) (followed T width 0 u es v)) (le-ltb width (length u) h)
+    starts h = ap (λ t. cond t (refused 12 unplaced) (followed T width 0 u es v)) (le-ltb width (length u) h)
 
     goes : (before rest : List Entry) (w : Positive) → es ≡ before ++ rest → LeadsWithin T width u before w
         → passage T width u es v ≡ followed T width (length before) w rest v
@@ -102,11 +102,11 @@ module _ (T : Presentation) (width : ℕ) where
     outcome-of (arrives l) = to-end v true l (equal-same v)
     outcome-of (broken before e after w p l a) = goes before (e ∷ after) w p l ∙ ap (followedBy width (length before) _) a
     outcome-of (elsewhere w l d) = to-end w false l (differs w d (equal w v) refl)
-    outcome-of (starts-long h) = ap (λ t. cond t (refused 12 []) (followed T width 0 u es v)) (lt-ltb width (length u) h)
+    outcome-of (starts-long h) = ap (λ t. cond t (refused 12 unplaced) (followed T width 0 u es v)) (lt-ltb width (length u) h)
     outcome-of (grows-long before e after w w′ p l a h) =
         goes before (e ∷ after) w p l
         ∙ (ap (followedBy width (length before) (λ x. followed T width (suc (length before)) x after v)) a
-        ∙ ap (λ t. cond t (refused 12 []) (followed T width (suc (length before)) w′ after v)) (lt-ltb width (length w′) h))
+        ∙ ap (λ t. cond t (refused 12 unplaced) (followed T width (suc (length before)) w′ after v)) (lt-ltb width (length w′) h))
 
     -- each outcome comes exactly where it is said to
     pub passage-exactly : (o : Outcome Passage) → (passage T width u es v ≡ o) ↔ Passes T width u es v o

@@ -13,7 +13,7 @@ use Rattle.model.specs.Word.{Positive, positive, negative}
 use Rattle.model.specs.Presentation.{Presentation, complete, weightOf, weigh}
 use Rattle.model.specs.Reversing.{Stop, budget, room, Ending, finished, open-pair, stopped, reversing, Finishes, Residual, CoversSteps, CoversRoom}
 use Rattle.model.specs.Equivalence.{Joined}
-use Rattle.model.specs.Outcome.{Outcome, answered, refused, _>>=_, unless}
+use Rattle.model.specs.Outcome.{unplaced, Outcome, answered, refused, _>>=_, unless}
 use Rattle.model.specs.Checks.{stopNumber, cleared}
 use Rattle.model.specs.Services.{Remainder, moves-after, none-after, remainderOf, quotient}
 use Rattle.model.proofs.Impossible.{impossible}
@@ -32,9 +32,9 @@ use Rattle.theory.proofs.Cancelling.{Divides, multiple, divides, quotie
 pub data Meaning (T : Presentation) (u v : Positive) (area : ℕ) : Outcome (Remainder Positive) → Type 0 where
   moves : (m : Positive) (k : ℕ) → Finishes T (negative u ++ positive v) m [] k → Completes T u v m → Meaning T u v area (answered (moves-after m k))
   none : (k : ℕ) → ((m : Positive) → Completes T u v m → ⊥) → Meaning T u v area (answered (none-after k))
-  out-of-budget : Meaning T u v area (refused 11 [])
-  out-of-room : Meaning T u v area (refused 12 [])
-  out-of-area : (m : Positive) → Completes T u v m → area < length m → Meaning T u v area (refused 13 [])
+  out-of-budget : Meaning T u v area (refused 11 unplaced)
+  out-of-room : Meaning T u v area (refused 12 unplaced)
+  out-of-area : (m : Positive) → Completes T u v m → area < length m → Meaning T u v area (refused 13 unplaced)
 
 module _ (T : Presentation) (u v : Positive) (steps width area : ℕ) where
   abbrev after : Outcome (Remainder Positive)
@@ -95,7 +95,7 @@ module _ (T : Presentation) (u v : Positive) (steps width area : ℕ) where
     area-means n k f true e = out-of-area n (finishes-completes n f) (ltb-true area (length n) e)
     area-means n k f false e = moves n k f (finishes-completes n f)
 
-    stop-means : (s : Stop) → Meaning T u v area (refused (stopNumber s) [])
+    stop-means : (s : Stop) → Meaning T u v area (refused (stopNumber s) unplaced)
     stop-means budget = out-of-budget
     stop-means room = out-of-room
 
@@ -144,7 +144,7 @@ module _ (T : Presentation) (u v : Positive) (steps width area : ℕ) where
   means-none k out-of-room e = impossible (cc)
   means-none k (out-of-area m′ c h) e = impossible (cc)
 
-  means-short : {o : Outcome (Remainder Positive)} → Meaning T u v area o → o ≡ refused 13 [] → (m : Positive) × Completes T u v m × (area < length m)
+  means-short : {o : Outcome (Remainder Positive)} → Meaning T u v area o → o ≡ refused 13 unplaced → (m : Positive) × Completes T u v m × (area < length m)
   means-short (moves m k f c) e = impossible (cc)
   means-short (none k a) e = impossible (cc)
   means-short out-of-budget e = impossible (cc)

@@ -1,11 +1,11 @@
 -- Specification 4.2: what the weight check says of every word of a reversing.
-use mathlib.Core.List.{List, _++_}
+use mathlib.Core.List.{_++_}
 use mathlib.Core.Path.{_≡_}
 use Prim.Native.Nat.{ℕ, _+_}
 use Rattle.model.specs.Word.{Word, Positive, positive, negative, forwards, backs}
 use Rattle.model.specs.Presentation.{Presentation, weigh}
 use Rattle.model.specs.Reversing.{Reduces, Finishes}
-use Rattle.model.specs.Outcome.{Outcome, refused}
+use Rattle.model.specs.Outcome.{Place, Outcome, refused}
 
 -- the weight of the forward letters less that of the back letters is the same number at both words
 abbrev pub SameBalance : Presentation → Word → Word → Type 0
@@ -19,4 +19,4 @@ pub record Balanced (T : Presentation) : Type 0 where
 
 -- clearing a table: wherever it does not refuse with 8, reversing under the table keeps the balance
 abbrev pub WeightMeaning : Presentation → Outcome (Unit {0}) → Type 0
-WeightMeaning T outcome = ((numbers : List ℕ) → outcome ≡ refused 8 numbers → ⊥) → Balanced T
+WeightMeaning T outcome = ((place : Place) → outcome ≡ refused 8 place → ⊥) → Balanced T

@@ -1,4 +1,5 @@
--- Specification 3.8, as statements: left reversing against right reversing under the mirror, and joined words read backward.
+-- Specification 3.8 and 6.13, as statements: left reversing against right reversing under the mirror, joined words read backward, and what clearing the
+-- mirror says of it.
 use mathlib.Core.List.{reverse}
 use mathlib.Core.Logic.{_↔_}
 use mathlib.Core.Path.{_≡_}
@@ -7,9 +8,12 @@ use Rattle.model.specs.Word.{Word, Positive}
 use Rattle.model.specs.Presentation.{Presentation}
 use Rattle.model.specs.Equivalence.{Joined}
 use Rattle.model.specs.Reversing.{Ending, finished, open-pair, stopped, reversing}
-use Rattle.model.specs.Outcome.{answered}
-use Rattle.model.specs.Range.{TableInRange}
+use Rattle.model.specs.Enumeration.{triples}
+use Rattle.model.specs.Outcome.{triple-of, mirror-triple-of, Outcome, answered, refused}
+use Rattle.model.specs.Checks.{cleared}
+use Rattle.model.specs.Range.{All, TableInRange}
 use Rattle.model.specs.Mirror.{mirror, mirrorCheck, leftReversing}
+use Rattle.theory.specs.Cube.{Obeys, FirstBroken}
 
 -- an ending with both words read backward; steps, the open pair and the stop stay
 abbrev pub readBackward : Ending → Ending
@@ -25,3 +29,10 @@ LeftIsRight T = (steps width : ℕ) (w : Word) → leftReversing T steps width w
 abbrev pub JoinedBackward : Presentation → Type 0
 JoinedBackward T =
     TableInRange T → mirrorCheck T ≡ answered tt → (u v : Positive) → Joined T u v ↔ Joined (mirror T) (reverse u) (reverse v)
+
+-- clearing the mirror: an answer only where the mirror passes both checks, so that it obeys the cube rule at every triple; 17 only with the first triple of
+-- the mirror that breaks the rule
+pub record MirrorMeaning (T : Presentation) (steps width : ℕ) (outcome : Outcome (Unit {0})) : Type 0 where
+  pub passed : outcome ≡ answered tt → cleared (mirror T) steps width ≡ answered tt
+  pub obeyed : outcome ≡ answered tt → All (Obeys (mirror T)) (triples (T .size))
+  pub broken : (a b c : ℕ) → outcome ≡ refused 17 (mirror-triple-of a b c) → FirstBroken (mirror T) (triples (T .size)) (triple-of a b c)

@@ -1,12 +1,12 @@
 -- Specification 3.7: in whatever order the steps are taken, the answer is that of the leftmost ones. Allowance and room are left aside.
 use mathlib.Core.Path.{_≡_}
 use mathlib.Core.Logic.{_↔_}
-use mathlib.Core.List.{List, [], _∷_, _++_}
+use mathlib.Core.List.{[], _∷_, _++_}
 use Prim.Native.Nat.{ℕ, suc, _+_}
 use Rattle.model.specs.Word.{Letter, forward, back, Word, Positive, positive, negative}
 use Rattle.model.specs.Presentation.{Presentation, undefined, complement, complete}
 use Rattle.model.specs.Reversing.{Site, nowhere, at, site, replaced, Reduces, Finishes}
-use Rattle.model.specs.Outcome.{Outcome, answered, refused}
+use Rattle.model.specs.Outcome.{Place, Outcome, answered, refused}
 use Rattle.model.specs.Services.{Fraction}
 
 -- k steps, in any order, finish the word with numerator n and denominator d
@@ -80,4 +80,4 @@ pub record OrderMeaning (T : Presentation) (w : Word) (outcome : Outcome Fractio
   pub finished : (f : Fraction) → outcome ≡ answered f → (v : Word) (k : ℕ) → Reduces T w v k → site v ≡ nowhere
       → (v ≡ positive (f .numerator) ++ negative (f .denominator)) × (k ≡ f .steps)
   -- after 10 none comes to a word without a site
-  pub unfinished : (numbers : List ℕ) → outcome ≡ refused 10 numbers → (v : Word) (k : ℕ) → Reduces T w v k → site v ≡ nowhere → ⊥
+  pub unfinished : (place : Place) → outcome ≡ refused 10 place → (v : Word) (k : ℕ) → Reduces T w v k → site v ≡ nowhere → ⊥

@@ -1,5 +1,5 @@
 -- Specification 6.7: what checking a chain answers, each outcome by what the entries do.
-use mathlib.Core.List.{List, [], _∷_, _++_}
+use mathlib.Core.List.{List, _∷_, _++_}
 use mathlib.Core.Logic.{_≢_}
 use mathlib.Core.Option.{none, some}
 use mathlib.Core.Path.{_≡_}
@@ -8,7 +8,7 @@ use lib.ListN.{length}
 use Rattle.model.specs.Word.{Positive}
 use Rattle.model.specs.Presentation.{Presentation}
 use Rattle.model.specs.Equivalence.{Entry, applied, LeadsWithin}
-use Rattle.model.specs.Outcome.{Outcome, answered, refused}
+use Rattle.model.specs.Outcome.{unplaced, Outcome, answered, refused}
 use Rattle.model.specs.Services.{Passage, joins, breaks, ends-elsewhere}
 
 -- what each outcome says of the entries from u towards v in a workspace of `width` letters
@@ -21,7 +21,7 @@ pub data Passes (T : Presentation) (width : ℕ) (u : Positive) (es : List Entry
   -- they lead to another word
   elsewhere : (w : Positive) → LeadsWithin T width u es w → w ≢ v → Passes T width u es v (answered ends-elsewhere)
   -- u is longer than the workspace
-  starts-long : width < length u → Passes T width u es v (refused 12 [])
+  starts-long : width < length u → Passes T width u es v (refused 12 unplaced)
   -- an entry that fits leads to a word longer than the workspace
   grows-long : (before : List Entry) (e : Entry) (after : List Entry) (w w′ : Positive) → es ≡ before ++ (e ∷ after) → LeadsWithin T width u before w
-      → applied T w e ≡ some w′ → width < length w′ → Passes T width u es v (refused 12 [])
+      → applied T w e ≡ some w′ → width < length w′ → Passes T width u es v (refused 12 unplaced)

@@ -8,7 +8,7 @@ use Rattle.model.specs.Word.{Positive, positive, negative}
 use Rattle.model.specs.Presentation.{Presentation}
 use Rattle.model.specs.Reversing.{Finishes, Residual, CoversSteps, CoversRoom}
 use Rattle.model.specs.Equivalence.{Joined}
-use Rattle.model.specs.Outcome.{Outcome, answered, refused, unless}
+use Rattle.model.specs.Outcome.{unplaced, Outcome, answered, refused, unless}
 use Rattle.model.specs.Checks.{cleared}
 use Rattle.model.specs.Services.{Remainder, moves-after, none-after}
 
@@ -19,9 +19,9 @@ Completes T u v m = Joined T (u ++ m) v
 -- moves or none, or a stop by allowance or memory
 pub data Concluded : Outcome (Remainder Positive) → Type 0 where
   concluded : (r : Remainder Positive) → Concluded (answered r)
-  by-allowance : Concluded (refused 11 [])
-  by-workspace : Concluded (refused 12 [])
-  by-area : Concluded (refused 13 [])
+  by-allowance : Concluded (refused 11 unplaced)
+  by-workspace : Concluded (refused 12 unplaced)
+  by-area : Concluded (refused 13 unplaced)
 
 -- with so many steps allowed, a workspace of `width` bytes and an answer area of `area` bytes
 pub record QuotientMeaning (T : Presentation) (u v : Positive) (steps width area : ℕ) (outcome : Outcome (Remainder Positive)) : Type 0 where
@@ -34,7 +34,7 @@ pub record QuotientMeaning (T : Presentation) (u v : Positive) (steps width area
   -- under a table that clears it is moves, none or a stop,
   pub moves-none-or-stop : cleared T steps width ≡ answered tt → Concluded outcome
   -- and 13 comes only where moves that finish the pattern are known, and are more than the area holds
-  pub short-area : cleared T steps width ≡ answered tt → outcome ≡ refused 13 [] → (m : Positive) × Completes T u v m × (area < length m)
+  pub short-area : cleared T steps width ≡ answered tt → outcome ≡ refused 13 unplaced → (m : Positive) × Completes T u v m × (area < length m)
   -- where some moves finish the pattern, the reversing finishes with an empty denominator,
   pub complement-defined : cleared T steps width ≡ answered tt → (m : Positive) → Completes T u v m → (n : Positive) × Residual T u v n []
   -- and where allowance and workspace cover it, the answer is its numerator with its steps, or 13

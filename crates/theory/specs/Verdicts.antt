@@ -6,15 +6,15 @@ use Rattle.model.specs.Word.{Positive, positive, negative}
 use Rattle.model.specs.Presentation.{Presentation}
 use Rattle.model.specs.Reversing.{Finishes, EndsEmpty, CoversSteps, CoversRoom}
 use Rattle.model.specs.Equivalence.{Joined}
-use Rattle.model.specs.Outcome.{Outcome, answered, refused}
+use Rattle.model.specs.Outcome.{unplaced, Outcome, answered, refused}
 use Rattle.model.specs.Checks.{cleared}
 use Rattle.model.specs.Services.{Verdict, same-after, different-after}
 
 -- a verdict, as the service tells it, or a stop by allowance or memory
 pub data Settled (tell : Verdict → Outcome Verdict) : Outcome Verdict → Type 0 where
   settled : (v : Verdict) → Settled tell (tell v)
-  by-allowance : Settled tell (refused 11 [])
-  by-memory : Settled tell (refused 12 [])
+  by-allowance : Settled tell (refused 11 unplaced)
+  by-memory : Settled tell (refused 12 unplaced)
 
 -- `tell` is how the service tells a verdict: chain may refuse one with 13
 pub record DemandThree (T : Presentation) (u v : Positive) (steps width : ℕ) (tell : Verdict → Outcome Verdict) (outcome : Outcome Verdict) : Type 0 where

@@ -1,18 +1,19 @@
 -- `engine::words::invert` meets its contract.
 use native.Mathlib.Omega.{arith}
 use lib.ListN.{length-set}
-use Rattle.engine.proofs.Inverting.{Inverting, inverting-start, inverting-turn, inverting-done}
+use Rattle.model.proofs.Exchanging.{Exchanging, exchanging-start, exchanging-turn}
+use Rattle.engine.proofs.Inverting.{Turns, inverting-done}
 use Rattle.engine.proofs.words.invert.Statement.{statement}
 use Rattle.engine.proofs.words.invert.Tie as tie
 
 abbrev Inv-loop : tie.InvT-loop
-Inv-loop bytes₀ count low₀ high₀ bytes low high = Inverting bytes₀ count bytes low high
+Inv-loop bytes₀ count low₀ high₀ bytes low high = Exchanging Turns bytes₀ count bytes low high
 
 abbrev μ-loop : tie.MeasureT-loop
 μ-loop bytes₀ count low₀ high₀ bytes low high = high
 
 loop-holds : tie.Need-loop-holds Inv-loop μ-loop
-loop-holds c = inverting-start (c .before .args .bytes .now) (c .before .args .count)
+loop-holds c = exchanging-start Turns (c .before .args .bytes .now) (c .before .args .count)
 
 sub-high : tie.Need-sub-high Inv-loop μ-loop
 sub-high c = omega arith
@@ -45,7 +46,7 @@ loop-again : tie.Need-loop-again Inv-loop μ-loop
 loop-again c =
     let s = c .before .before .before .before .before .before .before in
     let l = c .before .before .before .before .before .loop in
-    inverting-turn (s .args .bytes .now) (s .args .count) (s .pre) (l .bytes) (l .low) (l .high) (l .inv) (omega arith) (c .before .before .turned .result)
+    exchanging-turn Turns (s .args .bytes .now) (s .args .count) (s .pre) (l .bytes) (l .low) (l .high) (l .inv) (omega arith) (c .before .before .turned .result)
     (c .turned2 .result) (c .before .before .turned .ensures) (c .turned2 .ensures)
 
 same-length : tie.Need-same-length Inv-loop μ-loop

@@ -1,0 +1,102 @@
+-- The outcome of left_reverse, after each check.
+use mathlib.Core.Path.{_≡_, sym, ap, _∙_}
+use mathlib.Core.List.{List, reverse}
+use Prim.Native.Nat.{ℕ}
+use lib.ListN.{length, replicate}
+use Rattle.model.specs.Word.{Word}
+use Rattle.model.specs.Presentation.{Presentation}
+use Rattle.model.specs.Reversing.{reversing}
+use Rattle.model.specs.Outcome.{Outcome, answered, _>>=_, mapped}
+use Rattle.model.specs.Images.{readTable, readProgram}
+use Rattle.model.specs.Mirror.{mirror, mirrorCheck, leftReversing}
+use Rattle.model.specs.Services.{Fraction, fractionOf, leftFraction, leftReverse}
+use Rattle.model.specs.Areas.{fractionBytes, outputAfter, workspaceAfter}
+use Rattle.model.specs.Stated.{Sizes, sizes, refusal}
+use Rattle.model.specs.declared.answers.Pair.{Pair}
+use Rattle.model.specs.declared.answers.Refusal.{Refusal}
+use Rattle.model.specs.declared.answers.Refusal.the-variants.{NoMirror}
+use Rattle.model.specs.declared.answers.Reversed.{Reversed}
+use Rattle.model.specs.declared.answers.Reversed.the-variants.{Refused}
+use Rattle.theory.specs.Mirrors.{readBackward}
+use Rattle.theory.proofs.Mirroring.{left-is-right}
+use Rattle.loading.proofs.Outcomes.{still-refused, goes-on}
+use Rattle.reversal.proofs.Answers.{zero-after}
+use Rattle.left_reversal.specs.Backward.{AnswersBackward}
+use Rattle.left_reversal.specs.LeftReverse.{States, underMirror, LeftMeaning}
+
+-- A PROGRAM UNDER A TABLE THAT WAS LOADED
+
+module _ (T : Presentation) (w : Word) (steps width area : ℕ) where
+  no-mirror-outcome : (p : Pair) → mirrorCheck T ≡ refusal (NoMirror p) → leftFraction T w steps width area ≡ refusal (NoMirror p)
+  unfolding leftFraction
+  no-mirror-outcome p e = still-refused (mirrorCheck T) (NoMirror p) e (λ ok. fractionOf area (leftReversing T steps width w))
+
+  under-mirror : mirrorCheck T ≡ answered tt → leftFraction T w steps width area ≡ underMirror T w steps width area
+  unfolding leftFraction
+  under-mirror e = goes-on (mirrorCheck T) tt e (λ ok. fractionOf area (leftReversing T steps width w)) ∙ ap (fractionOf area) (left-is-right T steps width w)
+
+module _ (T : Presentation) (w : Word) (steps : ℕ) (workspace before : List ℕ) where
+  -- 16 comes before the work
+  pub no-mirror : (p : Pair) → mirrorCheck T ≡ refusal (NoMirror p)
+      → States (leftFraction T w steps (length workspace) (length before)) workspace workspace before before (Refused (NoMirror p))
+  no-mirror p e =
+      let o = no-mirror-outcome T w steps (length workspace) (length before) p e in
+      record {
+        result = sym (ap (mapped sizes) o);
+        area = sym (ap (λ q. outputAfter fractionBytes q before) o);
+        work = sym (ap (λ q. workspaceAfter q workspace) o);
+      }
+
+  pub has-mirror : mirrorCheck T ≡ answered tt → (workspace′ after : List ℕ) (r : Reversed) → workspace′ ≡ replicate (length workspace) 0
+      → AnswersBackward (mirror T) (reverse w) steps (length workspace) before after r
+      → States (leftFraction T w steps (length workspace) (length before)) workspace workspace′ before after r
+  has-mirror e workspace′ after r z a =
+      let o = under-mirror T w steps (length workspace) (length before) e in
+      record {
+        result = a .result ∙ sym (ap (mapped sizes) o);
+        area = a .area ∙ sym (ap (λ q. outputAfter fractionBytes q before) o);
+        work =
+            z
+            ∙ sym (ap (λ q. workspaceAfter q workspace) o
+            ∙ zero-after (length before) (readBackward (reversing (mirror T) steps (length workspace) (reverse w))) workspace);
+      }
+
+-- THE SERVICE
+
+module _ (table program : List ℕ) (steps width area : ℕ) where
+  pub left-no-table : (r : Refusal) → readTable table ≡ refusal r → leftReverse table program steps width area ≡ refusal r
+  unfolding leftReverse
+  left-no-table r e = still-refused (readTable table) r e _
+
+  module _ (T : Presentation) (e : readTable table ≡ answered T) where
+    pub left-no-program : (r : Refusal) → readProgram (T .size) program ≡ refusal r → leftReverse table program steps width area ≡ refusal r
+    unfolding leftReverse
+    left-no-program r f =
+        goes-on (readTable table) T e (λ T. readProgram (T .size) program >>= λ w. leftFraction T w steps width area)
+        ∙ still-refused (readProgram (T .size) program) r f (λ w. leftFraction T w steps width area)
+
+    pub left-runs : (w : Word) → readProgram (T .size) program ≡ answered w → leftReverse table program steps width area ≡ leftFraction T w steps width area
+    unfolding leftReverse
+    left-runs w f =
+        goes-on (readTable table) T e (λ T. readProgram (T .size) program >>= λ w. leftFraction T w steps width area)
+        ∙ goes-on (readProgram (T .size) program) w f (λ w. leftFraction T w steps width area)
+
+module _ (table program : List ℕ) (steps : ℕ) (workspace before : List ℕ) where
+  abbrev outcome : Outcome Fraction
+  outcome = leftReverse table program steps (length workspace) (length before)
+
+  -- the service's promise
+  abbrev pub Promised : List ℕ → List ℕ → Outcome Sizes → Type 0
+  Promised workspace′ after told =
+      (told ≡ mapped sizes outcome)
+      × ((after ≡ outputAfter fractionBytes outcome before)
+      × ((workspace′ ≡ workspaceAfter outcome workspace) × LeftMeaning table program steps (length workspace) before after told))
+
+  pub promised : (workspace′ after : List ℕ) (told : Outcome Sizes) → told ≡ mapped sizes outcome → after ≡ outputAfter fractionBytes outcome before
+      → workspace′ ≡ workspaceAfter outcome workspace → Promised workspace′ after told
+  promised workspace′ after told t a k = (t, (a, (k, says)))
+    where
+      says : LeftMeaning table program steps (length workspace) before after told
+      says T e w f m =
+          let o = left-runs table program steps (length workspace) (length before) T e w f ∙ under-mirror T w steps (length workspace) (length before) m in
+          record { told-is = t ∙ ap (mapped sizes) o; written-is = a ∙ ap (λ q. outputAfter fractionBytes q before) o }

@@ -1,0 +1,2 @@
+pub mod ReadBackward
+pub mod LeftService

@@ -1,0 +1,50 @@
+-- What left_reverse answers, and what that says of right reversing under the mirror.
+use mathlib.Core.List.{List, reverse}
+use mathlib.Core.Path.{_≡_}
+use Prim.Native.Nat.{ℕ}
+use lib.ListN.{length, replicate}
+use Rattle.model.specs.Word.{Word}
+use Rattle.model.specs.Presentation.{Presentation}
+use Rattle.model.specs.Reversing.{reversing}
+use Rattle.model.specs.Outcome.{Outcome, answered, mapped}
+use Rattle.model.specs.Images.{readTable, readProgram}
+use Rattle.model.specs.Mirror.{mirror, mirrorCheck}
+use Rattle.model.specs.Services.{Fraction, fractionOf, leftFraction}
+use Rattle.model.specs.Areas.{fractionBytes, outputAfter, workspaceAfter}
+use Rattle.model.specs.Stated.{Sizes, sizes, reversed}
+use Rattle.model.specs.declared.answers.Reversed.{Reversed}
+use Rattle.theory.specs.Mirrors.{readBackward}
+use Rattle.cells.specs.Stands.{Of}
+use Rattle.left_reversal.specs.Backward.{AnswersBackward}
+
+-- an accepted program read backward, under every table that the cells stand for: its answer, and a workspace all zero
+pub record BackwardAnswered (cells : List ℕ) (size : ℕ) (program : List ℕ) (budget : ℕ) (workspace workspace′ before after : List ℕ) (r : Reversed) : Type 0 where
+  pub wiped : workspace′ ≡ replicate (length workspace) 0
+  pub answers : (T : Presentation) → Of cells size T → (w : Word) → readProgram size program ≡ answered w
+      → AnswersBackward T (reverse w) budget (length workspace) before after r
+
+-- the result and both areas that an outcome states
+pub record States (outcome : Outcome Fraction) (workspace workspace′ before after : List ℕ) (r : Reversed) : Type 0 where
+  pub result : reversed r ≡ mapped sizes outcome
+  pub area : after ≡ outputAfter fractionBytes outcome before
+  pub work : workspace′ ≡ workspaceAfter outcome workspace
+
+-- an accepted program, under every table that the cells stand for
+abbrev pub LeftAnswered : List ℕ → ℕ → List ℕ → ℕ → List ℕ → List ℕ → List ℕ → List ℕ → Reversed → Type 0
+LeftAnswered cells size program budget workspace workspace′ before after r =
+    (T : Presentation) → Of cells size T → (w : Word) → readProgram size program ≡ answered w
+    → States (leftFraction T w budget (length workspace) (length before)) workspace workspace′ before after r
+
+-- right reversing of the word read backward, under the mirror, with both words of its answer read backward again
+abbrev pub underMirror : Presentation → Word → ℕ → ℕ → ℕ → Outcome Fraction
+underMirror T w steps width area = fractionOf area (readBackward (reversing (mirror T) steps width (reverse w)))
+
+-- what was told and written is that, where the table in the image has a mirror
+pub record MirrorSays (T : Presentation) (w : Word) (steps width : ℕ) (before after : List ℕ) (told : Outcome Sizes) : Type 0 where
+  pub told-is : told ≡ mapped sizes (underMirror T w steps width (length before))
+  pub written-is : after ≡ outputAfter fractionBytes (underMirror T w steps width (length before)) before
+
+abbrev pub LeftMeaning : List ℕ → List ℕ → ℕ → ℕ → List ℕ → List ℕ → Outcome Sizes → Type 0
+LeftMeaning table program steps width before after told =
+    (T : Presentation) → readTable table ≡ answered T → (w : Word) → readProgram (T .size) program ≡ answered w → mirrorCheck T ≡ answered tt
+    → MirrorSays T w steps width before after told

@@ -1,0 +1,3 @@
+// The service left_reverse.
+pub mod backward;
+pub mod left_reverse;

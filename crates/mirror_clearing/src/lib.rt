@@ -1,0 +1,2 @@
+// The service mirror_clear.
+pub mod mirror_clear;
