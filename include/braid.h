@@ -100,7 +100,9 @@ enum braid_result {
     BRAID_WORKSPACE_SHORT = 12,
     BRAID_ANSWER_SHORT = 13,
     /* 14 is unused */
-    BRAID_NOT_BRAID_TABLE = 15
+    BRAID_NOT_BRAID_TABLE = 15,
+    BRAID_NO_MIRROR = 16,
+    BRAID_MIRROR_FAILS = 17
 };
 
 /* What values[0] means follows from call and result. An answer of compare or chain: */
@@ -112,8 +114,9 @@ enum braid_remaining { BRAID_MOVES = 0, BRAID_NONE = 1 };
 /* An answer of check: */
 enum braid_passage { BRAID_JOINS = 0, BRAID_BREAKS = 1, BRAID_ENDS_ELSEWHERE = 2 };
 
-/* A refusal: whether it names no place, a pair (its numbers in values[1] and values[2]) or a triple (in values[1] to values[3]); the others are 0 */
-enum braid_place { BRAID_NO_PLACE = 0, BRAID_PAIR = 1, BRAID_TRIPLE = 2 };
+/* A refusal: whether it names no place, a pair (its numbers in values[1] and values[2]), a triple of the table or one of its mirror (in values[1] to
+ * values[3]); the others are 0 */
+enum braid_place { BRAID_NO_PLACE = 0, BRAID_PAIR = 1, BRAID_TRIPLE = 2, BRAID_MIRROR_TRIPLE = 3 };
 
 /* A result for people. */
 static inline const char *braid_text(uint8_t result)
@@ -134,7 +137,9 @@ static inline const char *braid_text(uint8_t result)
         "the workspace is too short",
         "the answer area is too short",
         NULL, /* 14 is unused */
-        "the table isn't the braid table of its number of moves"
+        "the table isn't the braid table of its number of moves",
+        "the table has no mirror",
+        "a triple of the mirror breaks the cube rule"
     };
     return result < sizeof texts / sizeof *texts && texts[result] ? texts[result] : "no result of this library";
 }
@@ -146,8 +151,8 @@ static inline const char *braid_text(uint8_t result)
  *   pattern, chain
  *   plain                                  a plain table or program (5.7, 5.8); only read
  *   allowance                              the most steps of one reversing
- *   workspace                              a byte holds a move; what it holds on entry plays no part. After refusals 1 to 8 it is as found, after
- *                                          every other outcome all its bytes are zero
+ *   workspace                              a byte holds a move; what it holds on entry plays no part. After refusals 1 to 8 and 16 it is as found,
+ *                                          after every other outcome all its bytes are zero
  *   answer                                 begins with the answer's bytes after an answer; every other byte is as found, and so are all after a
  *                                          refusal
  *   values                                 all four are set by every call
@@ -164,11 +169,29 @@ BRAID_CALL uint8_t braid_reverse(const uint8_t *table, size_t table_length, cons
                                  uint8_t *workspace, size_t workspace_length, uint8_t *answer, size_t answer_length, uint64_t *values);
 
 /*
+ * Reverses a program from its finished end (3.8). A step takes the rightmost forward move that stands directly before a back one; with the relation whose sides
+ * end in these two moves, U a and V b, it puts U's undoing, then V, in their place. 16 names the relation for which the table has no mirror, by its own
+ * pair: its sides end in the same move, or in the last moves of a relation before it. The table need not clear.
+ * Answer area and values: as reverse. Refusals: 1 to 6, then 16, then 10 (back move's number first), 11 or 12, then 13.
+ */
+BRAID_CALL uint8_t braid_left_reverse(const uint8_t *table, size_t table_length, const uint8_t *program, size_t program_length, uint16_t allowance,
+                                      uint8_t *workspace, size_t workspace_length, uint8_t *answer, size_t answer_length, uint64_t *values);
+
+/*
  * The weight check of a table, that both sides of each relation weigh the same (4.2), then its cube check.
  * Values: 0, 0, 0, 0. Refusals: 1 to 3, 8, 9, 11, 12.
  */
 BRAID_CALL uint8_t braid_clear(const uint8_t *table, size_t table_length, uint16_t allowance, uint8_t *workspace, size_t workspace_length,
                                uint64_t *values);
+
+/*
+ * Clears the mirror of a table, which has each relation with both sides read backward (3.8, 6.13): 16 if there is none; the table's weight check, with the
+ * table's own pair; then the cube check of the mirror. 17, and 11 and 12 here, name a triple of the mirror, with BRAID_MIRROR_TRIPLE as its place. Whether the
+ * table itself obeys the cube rule plays no part.
+ * Values: 0, 0, 0, 0. Refusals: 1 to 3, 16, 8, 17, 11, 12.
+ */
+BRAID_CALL uint8_t braid_mirror_clear(const uint8_t *table, size_t table_length, uint16_t allowance, uint8_t *workspace, size_t workspace_length,
+                                      uint64_t *values);
 
 /*
  * Clears the table and compares two programs of forward moves under it. A verdict is right (6.5): same if a chain joins them, else different. Programs of
