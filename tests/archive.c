@@ -68,6 +68,11 @@ static void pack_program(void) { result = braid_pack_program(table, table_length
 static void unpack_program(void) { result = braid_unpack_program(table, table_length, program, program_length, answer, AREA, values); }
 static void reverse(void) { result = braid_reverse(table, table_length, program, program_length, 65535, workspace, AREA, answer, AREA, values); }
 static void clear(void) { result = braid_clear(table, table_length, 65535, workspace, AREA, values); }
+static void left_reverse(void)
+{
+    result = braid_left_reverse(table, table_length, program, program_length, 65535, workspace, AREA, answer, AREA, values);
+}
+static void mirror_clear(void) { result = braid_mirror_clear(table, table_length, 65535, workspace, AREA, values); }
 static void compare(void)
 {
     result = braid_compare(table, table_length, program, program_length, answer, program_length, 65535, workspace, AREA, values);
@@ -132,11 +137,17 @@ static void longest_forms(void)
 static void engine(void)
 {
     static const uint8_t braid3[] = {0x20, 0x04, 0x90, 0x86, 0x30, 0x92, 0x92, 0x60}, one[] = {0x00, 0x30, 0x40}, two[] = {0x00, 0x32, 0x08};
+    static const uint8_t turned[] = {0x00, 0x21, 0x40};
     size_t needed = braid_chain_bytes(3, 5);
     memcpy(table, braid3, table_length = sizeof braid3);
     memcpy(program, one, program_length = sizeof one);
     answers("clear", clear);
     answers("reverse", reverse);
+    answers("mirror_clear", mirror_clear);
+    memcpy(program, turned, sizeof turned);
+    answers("left_reverse", left_reverse);
+    hold("1 -2 from the end after 1 step", values[0] == 2 && values[1] == 2 && values[2] == 1);
+    memcpy(program, one, sizeof one);
     memcpy(answer, two, sizeof two);
     answers("compare", compare);
     hold("same after 5 steps", values[0] == BRAID_SAME && values[1] == 5);
@@ -154,6 +165,7 @@ static void engine(void)
     hold("the moves of a table", braid_table_moves(table) == 3);
     hold("a move field's bits", braid_move_bits(1) == 0 && braid_move_bits(2) == 1 && braid_move_bits(9) == 4 && braid_move_bits(16) == 4);
     hold("the largest allowance", (uint16_t)BRAID_MOST_ALLOWANCE == BRAID_MOST_ALLOWANCE && (uint16_t)(BRAID_MOST_ALLOWANCE + 1) == 0);
+    hold("the last text", strcmp(braid_text(BRAID_MIRROR_FAILS), "a triple of the mirror breaks the cube rule") == 0);
     hold("texts", strcmp(braid_text(BRAID_OPEN_PAIR), "the reversing met an open pair") == 0 && strcmp(braid_text(14), braid_text(200)) == 0);
 }
 

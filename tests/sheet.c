@@ -31,6 +31,14 @@ static const uint8_t endless[] = {0x20, 0x04, 0x90, 0x86, 0x50, 0x45, 0x29, 0x26
 static const uint8_t heavy[] = {0x10, 0x65, 0x0C};
 static const uint8_t heavy_unequal[] = {0x10, 0x63, 0x20};
 
+/* 1 3 = 2 1 and 1 2 = 3 3, which clears while its mirror does not. */
+static const uint8_t one_way[] = {0x20, 0x04, 0x61, 0x22, 0x8C};
+
+/* Tables without a mirror: 1 2 = 2 2; 1 3 = 2 and 2 = 3; 1 3 = 2 and 1 3 = 3 2. */
+static const uint8_t one_last_move[] = {0x10, 0x23, 0x18};
+static const uint8_t shared_crossed[] = {0x20, 0x04, 0x60, 0x40, 0x00};
+static const uint8_t shared_in_order[] = {0x20, 0x04, 0x60, 0x8C, 0x28};
+
 /* Programs under n = 3, plain and by their images. */
 static const uint8_t first_plain[] = {131, 1, 130, 1, 2};
 static const uint8_t first_image[] = {0x00, 0x5C, 0x28, 0x20};
@@ -126,6 +134,10 @@ static void packing(void)
     static const uint8_t heaviest_plain[] = {2, 1, BRAID_MOST_WEIGHT, BRAID_OPEN}, heaviest[] = {0x11, 0xC0};
     static const uint8_t too_heavy[] = {2, 1, BRAID_MOST_WEIGHT + 1, BRAID_OPEN}, weightless[] = {2, 0}, no_weight[] = {2, 1};
     static const uint8_t endless_plain[] = {3, 1, 1, 1, 2, 2, 1, 2, 1, 2, 2, 3, 1, 2, 1, 3, 2, 3, 2, 2, 2, 3};
+    static const uint8_t one_way_plain[] = {3, 1, 1, 1, 1, 3, 1, 1, 1, 2, 1, 3, 255};
+    static const uint8_t one_last_move_plain[] = {2, 1, 1, 1, 2, 1, 2};
+    static const uint8_t shared_crossed_plain[] = {3, 1, 1, 1, 1, 3, 0, 255, 0, 0};
+    static const uint8_t shared_in_order_plain[] = {3, 1, 1, 1, 1, 3, 0, 1, 3, 1, 2, 255};
     table_forms("the braid table", ALL_OF(braid3_plain), ALL_OF(braid3));
     table_forms("the table of one move", ALL_OF(one_move_plain), ALL_OF(one_move));
     table_forms("the table with an open pair", ALL_OF(open_pair_plain), ALL_OF(open_pair));
@@ -135,6 +147,10 @@ static void packing(void)
     table_forms("1 2 = 2 1 1", ALL_OF(heavy_unequal_plain), ALL_OF(heavy_unequal));
     table_forms("the heaviest move", ALL_OF(heaviest_plain), ALL_OF(heaviest));
     table_forms("the endless table", ALL_OF(endless_plain), ALL_OF(endless));
+    table_forms("the table that clears alone", ALL_OF(one_way_plain), ALL_OF(one_way));
+    table_forms("1 2 = 2 2", ALL_OF(one_last_move_plain), ALL_OF(one_last_move));
+    table_forms("1 3 = 2, 2 = 3", ALL_OF(shared_crossed_plain), ALL_OF(shared_crossed));
+    table_forms("1 3 = 2, 1 3 = 3 2", ALL_OF(shared_in_order_plain), ALL_OF(shared_in_order));
     program_forms("-3 1 -2 1 2", ALL_OF(first_plain), ALL_OF(first_image));
     program_forms("-2 -3 -1 1 1 2 3", ALL_OF(second_plain), ALL_OF(second_image));
     program_forms("1 2 1", ALL_OF(plain_121), ALL_OF(image_121));
@@ -369,6 +385,69 @@ static void beds(void)
     hold("an empty program image gives 4", shown(ALL_OF(braid3), nothing, 0, 5, 0), BRAID_IMAGE_ENDS, "0 0 0 0", 0, nothing, 0);
 }
 
+/* Left-reverses a program with an allowance of 65,535 and areas of 32,768 bytes. */
+static uint8_t left_reversed(const uint8_t *table, size_t table_length, const uint8_t *program, size_t program_length)
+{
+    return braid_left_reverse(table, table_length, program, program_length, MOST_STEPS, ALL_OF(workspace), ALL_OF(answer), values);
+}
+
+/* Left-reverses 1 -2 under the braid table, with areas of so many bytes. */
+static uint8_t left_reversed_pair(uint16_t allowance, size_t workspace_length, size_t answer_length)
+{
+    static const uint8_t pair[] = {0x00, 0x21, 0x40};
+    return braid_left_reverse(ALL_OF(braid3), ALL_OF(pair), allowance, workspace, workspace_length, answer, answer_length, values);
+}
+
+static void left_reversing(void)
+{
+    /* 2 1 -2 1 -3, 3 -1 and 1 -2 under n = 3; 1 -2 under n = 2. */
+    static const uint8_t back_last[] = {0x00, 0x52, 0x28, 0xC0}, pair_31[] = {0x00, 0x25, 0x00}, pair_12[] = {0x00, 0x21, 0x40};
+    static const uint8_t pair_of_2[] = {0x00, 0x23}, empty[] = {0x00, 0x00};
+    static const uint8_t pair_fraction[] = {2, 1, 1, 2}, back_last_fraction[] = {3, 2, 1, 1, 2, 3, 1};
+    static const uint8_t first_fraction[] = {2, 1, 1, 2, 1, 2, 3}, one_way_fraction[] = {2, 1};
+    hold("1 -2 from the end, 1 step", left_reversed_pair(1, 4, 4), BRAID_ANSWER, "2 2 1 0", 4, ALL_OF(pair_fraction));
+    hold("3 bytes for 4 moves give 13", left_reversed_pair(1, 4, 3), BRAID_ANSWER_SHORT, "0 0 0 0", 4, nothing, 0);
+    hold("allowance 0 gives 11", left_reversed_pair(0, 4, 4), BRAID_ALLOWANCE_USED, "0 0 0 0", 4, nothing, 0);
+    hold("a workspace of 3 gives 12", left_reversed_pair(1, 3, 4), BRAID_WORKSPACE_SHORT, "0 0 0 0", 3, nothing, 0);
+    hold("2 1 -2 1 -3 from the end", left_reversed(ALL_OF(braid3), ALL_OF(back_last)), BRAID_ANSWER, "4 3 5 0", AREA,
+         ALL_OF(back_last_fraction));
+    hold("-3 1 -2 1 2 from the end", left_reversed(ALL_OF(braid3), ALL_OF(first_image)), BRAID_ANSWER, "4 3 1 0", AREA, ALL_OF(first_fraction));
+    hold("1 -2 with an open pair gives 10 with 2, 1", left_reversed(ALL_OF(open_pair), ALL_OF(pair_of_2)), BRAID_OPEN_PAIR, "1 2 1 0", AREA,
+         nothing, 0);
+    hold("a starting word that is too long comes before the pair",
+         braid_left_reverse(ALL_OF(open_pair), ALL_OF(pair_of_2), MOST_STEPS, workspace, 1, ALL_OF(answer), values), BRAID_WORKSPACE_SHORT, "0 0 0 0", 1,
+         nothing, 0);
+    hold("3 -1 with 1 3 = 2 1", left_reversed(ALL_OF(one_way), ALL_OF(pair_31)), BRAID_ANSWER, "1 1 1 0", AREA, ALL_OF(one_way_fraction));
+    hold("no sides end in 1 and 2 there", left_reversed(ALL_OF(one_way), ALL_OF(pair_12)), BRAID_OPEN_PAIR, "1 2 1 0", AREA, nothing, 0);
+    hold("no mirror gives 16 though nothing is to reverse",
+         braid_left_reverse(ALL_OF(one_last_move), ALL_OF(empty), MOST_STEPS, workspace, 2, ALL_OF(answer), values), BRAID_NO_MIRROR, "1 1 2 0", 0,
+         nothing, 0);
+    hold("a cut program comes before it", left_reversed(ALL_OF(one_last_move), nothing, 0), BRAID_IMAGE_ENDS, "0 0 0 0", 0, nothing, 0);
+}
+
+static uint8_t mirror_cleared(const uint8_t *table, size_t table_length)
+{
+    return braid_mirror_clear(table, table_length, MOST_STEPS, ALL_OF(workspace), values);
+}
+
+static void mirror_clearing(void)
+{
+    hold("the braid table's mirror clears", braid_mirror_clear(ALL_OF(braid3), 5, workspace, 11, values), BRAID_ANSWER, "0 0 0 0", 11, nothing, 0);
+    hold("allowance 4 gives 11 at its triple", braid_mirror_clear(ALL_OF(braid3), 4, ALL_OF(workspace), values), BRAID_ALLOWANCE_USED, "3 1 2 3",
+         AREA, nothing, 0);
+    hold("a workspace of 10 gives 12 at its triple", braid_mirror_clear(ALL_OF(braid3), MOST_STEPS, workspace, 10, values),
+         BRAID_WORKSPACE_SHORT, "3 1 2 3", 10, nothing, 0);
+    hold("1 3 = 2 1, 1 2 = 3 3 clears", cleared(ALL_OF(one_way), MOST_STEPS), BRAID_ANSWER, "0 0 0 0", AREA, nothing, 0);
+    hold("its mirror gives 17 with 1, 3, 2", mirror_cleared(ALL_OF(one_way)), BRAID_MIRROR_FAILS, "3 1 3 2", AREA, nothing, 0);
+    hold("both sides end in 2", mirror_cleared(ALL_OF(one_last_move)), BRAID_NO_MIRROR, "1 1 2 0", 0, nothing, 0);
+    hold("last moves shared in the opposite order", mirror_cleared(ALL_OF(shared_crossed)), BRAID_NO_MIRROR, "1 2 3 0", 0, nothing, 0);
+    hold("last moves shared in the same order", mirror_cleared(ALL_OF(shared_in_order)), BRAID_NO_MIRROR, "1 1 3 0", 0, nothing, 0);
+    hold("2 1 = 3 1", mirror_cleared(ALL_OF(broken_cube)), BRAID_NO_MIRROR, "1 2 3 0", 0, nothing, 0);
+    hold("unequal weights give 8 with the table's pair", mirror_cleared(ALL_OF(unequal)), BRAID_UNEQUAL_WEIGHTS, "1 1 2 0", 0, nothing, 0);
+    hold("the mirror of 1 2 1 = 2 2 clears with no workspace", braid_mirror_clear(ALL_OF(heavy), 0, workspace, 0, values), BRAID_ANSWER,
+         "0 0 0 0", 0, nothing, 0);
+}
+
 int main(void)
 {
     as_found();
@@ -381,6 +460,8 @@ int main(void)
     clearing();
     stopping();
     beds();
+    left_reversing();
+    mirror_clearing();
     printf("%d passed, %d failed\n", passed, failed);
     return failed != 0;
 }

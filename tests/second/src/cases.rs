@@ -1,6 +1,7 @@
 //! Random cases. A case is made from its seed alone: a table, words, images sound or damaged, and calls with allowances and areas of every
 //! class.
 mod bed;
+mod mirror;
 
 use crate::chain::follow;
 use crate::classes::class;
@@ -14,6 +15,7 @@ use crate::reversing::{Ending, Most};
 use crate::table::Table;
 use crate::tables::{any, clearing, forward_word, growing, signed_word, walk, word_of_weight};
 use crate::word::{bytes, undoing, Word};
+pub use mirror::Mirrored;
 use std::collections::BTreeMap;
 
 /// What comes of weights where lengths alone would say otherwise.
@@ -67,6 +69,9 @@ pub struct Tally {
     pub beds: [usize; 3],
     pub results: BTreeMap<(&'static str, u8, u64), usize>,
     pub weighed: BTreeMap<Weighed, usize>,
+    /// Left reversings held against right reversing under the mirror: answers, open pairs and stops.
+    pub backward: [usize; 3],
+    pub mirrored: BTreeMap<Mirrored, usize>,
 }
 
 impl Tally {
@@ -75,7 +80,7 @@ impl Tally {
         self.searched += other.searched;
         self.orders.0 += other.orders.0;
         self.orders.1 += other.orders.1;
-        for (total, more) in self.beds.iter_mut().zip(other.beds) {
+        for (total, more) in self.beds.iter_mut().chain(&mut self.backward).zip(other.beds.iter().chain(&other.backward)) {
             *total += more;
         }
         for (key, count) in &other.results {
@@ -83,6 +88,9 @@ impl Tally {
         }
         for (key, count) in &other.weighed {
             *self.weighed.entry(*key).or_default() += count;
+        }
+        for (key, count) in &other.mirrored {
+            *self.mirrored.entry(*key).or_default() += count;
         }
     }
 
@@ -96,7 +104,9 @@ impl Tally {
 fn name(call: &Call) -> &'static str {
     match call {
         Call::Reverse { .. } => "reverse",
+        Call::LeftReverse { .. } => "left reverse",
         Call::Clear { .. } => "clear",
+        Call::MirrorClear { .. } => "mirror clear",
         Call::Compare { .. } => "compare",
         Call::Chain { .. } => "chain",
         Call::Remainder { .. } => "remainder",
@@ -129,7 +139,7 @@ type Held<T> = Result<T, String>;
 /// Runs the case of a seed; the error has all that is needed to see it again.
 pub fn run(seed: u64, tally: &mut Tally) -> Held<()> {
     let mut case = Case { random: Random::new(seed), tally };
-    let held = match case.random.below(72) {
+    let held = match case.random.below(88) {
         0..=15 => case.reversing(),
         16..=23 => case.clearing(),
         24..=36 => case.comparing(),
@@ -137,6 +147,7 @@ pub fn run(seed: u64, tally: &mut Tally) -> Held<()> {
         42..=49 => case.checking(),
         50..=62 => case.packing(),
         64..=71 => case.bed(),
+        72..=87 => case.mirror(),
         _ => match case.random.below(16) {
             0..=1 => case.many_steps(),
             2..=3 => case.given_growth(),

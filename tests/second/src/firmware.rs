@@ -13,7 +13,27 @@ extern "C" {
         answer_length: usize,
         values: *mut u64,
     ) -> u8;
+    fn braid_left_reverse(
+        table: *const u8,
+        table_length: usize,
+        program: *const u8,
+        program_length: usize,
+        allowance: u16,
+        workspace: *mut u8,
+        workspace_length: usize,
+        answer: *mut u8,
+        answer_length: usize,
+        values: *mut u64,
+    ) -> u8;
     fn braid_clear(
+        table: *const u8,
+        table_length: usize,
+        allowance: u16,
+        workspace: *mut u8,
+        workspace_length: usize,
+        values: *mut u64,
+    ) -> u8;
+    fn braid_mirror_clear(
         table: *const u8,
         table_length: usize,
         allowance: u16,
@@ -136,8 +156,29 @@ pub fn reverse(table: &[u8], program: &[u8], allowance: u16, workspace: &mut [u8
     })
 }
 
+pub fn left_reverse(table: &[u8], program: &[u8], allowance: u16, workspace: &mut [u8], answer: &mut [u8]) -> Told {
+    told(|values| unsafe {
+        braid_left_reverse(
+            table.as_ptr(),
+            table.len(),
+            program.as_ptr(),
+            program.len(),
+            allowance,
+            workspace.as_mut_ptr(),
+            workspace.len(),
+            answer.as_mut_ptr(),
+            answer.len(),
+            values,
+        )
+    })
+}
+
 pub fn clear(table: &[u8], allowance: u16, workspace: &mut [u8]) -> Told {
     told(|values| unsafe { braid_clear(table.as_ptr(), table.len(), allowance, workspace.as_mut_ptr(), workspace.len(), values) })
+}
+
+pub fn mirror_clear(table: &[u8], allowance: u16, workspace: &mut [u8]) -> Told {
+    told(|values| unsafe { braid_mirror_clear(table.as_ptr(), table.len(), allowance, workspace.as_mut_ptr(), workspace.len(), values) })
 }
 
 pub fn compare(table: &[u8], first: &[u8], second: &[u8], allowance: u16, workspace: &mut [u8]) -> Told {

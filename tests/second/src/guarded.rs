@@ -5,7 +5,9 @@ use crate::firmware;
 #[derive(Clone, Debug)]
 pub enum Call {
     Reverse { table: Vec<u8>, program: Vec<u8>, allowance: u16 },
+    LeftReverse { table: Vec<u8>, program: Vec<u8>, allowance: u16 },
     Clear { table: Vec<u8>, allowance: u16 },
+    MirrorClear { table: Vec<u8>, allowance: u16 },
     Compare { table: Vec<u8>, first: Vec<u8>, second: Vec<u8>, allowance: u16 },
     Chain { table: Vec<u8>, first: Vec<u8>, second: Vec<u8>, allowance: u16 },
     Remainder { table: Vec<u8>, done: Vec<u8>, pattern: Vec<u8>, allowance: u16 },
@@ -67,10 +69,9 @@ impl Guarded {
 impl Call {
     fn images(&self) -> Vec<&[u8]> {
         match self {
-            Call::Reverse { table, program, .. } | Call::UnpackProgram { table, program } | Call::Bed { table, program, .. } => {
-                vec![table, program]
-            }
-            Call::Clear { table, .. } | Call::UnpackTable { table } => vec![table],
+            Call::Reverse { table, program, .. } | Call::LeftReverse { table, program, .. } => vec![table, program],
+            Call::UnpackProgram { table, program } | Call::Bed { table, program, .. } => vec![table, program],
+            Call::Clear { table, .. } | Call::MirrorClear { table, .. } | Call::UnpackTable { table } => vec![table],
             Call::Compare { table, first, second, .. } | Call::Chain { table, first, second, .. } => vec![table, first, second],
             Call::Remainder { table, done, pattern, .. } => vec![table, done, pattern],
             Call::Check { table, first, second, entries } => vec![table, first, second, entries],
@@ -88,7 +89,9 @@ pub fn call(call: &Call, workspace: &[u8], answer: &[u8]) -> Result<Left, String
     let (w, o) = (work.lent(), out.lent());
     let (result, values) = match call {
         Call::Reverse { allowance, .. } => firmware::reverse(image(0), image(1), *allowance, w, o),
+        Call::LeftReverse { allowance, .. } => firmware::left_reverse(image(0), image(1), *allowance, w, o),
         Call::Clear { allowance, .. } => firmware::clear(image(0), *allowance, w),
+        Call::MirrorClear { allowance, .. } => firmware::mirror_clear(image(0), *allowance, w),
         Call::Compare { allowance, .. } => firmware::compare(image(0), image(1), image(2), *allowance, w),
         Call::Chain { allowance, .. } => firmware::chain(image(0), image(1), image(2), *allowance, w, o),
         Call::Remainder { allowance, .. } => firmware::remainder(image(0), image(1), image(2), *allowance, w, o),

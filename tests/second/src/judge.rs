@@ -21,11 +21,17 @@ impl Expected {
         Expected { result: 0, values, written, listed: None }
     }
 
+    fn fraction(fraction: services::Fraction) -> Expected {
+        let lengths = [fraction.numerator.len(), fraction.denominator.len(), fraction.steps, 0];
+        Expected::answer(lengths.map(|x| x as u64), [bytes(&fraction.numerator), bytes(&fraction.denominator)].concat())
+    }
+
     fn refused(refusal: Refusal) -> Expected {
         let values = match refusal.place {
             Place::None => [0; 4],
             Place::Pair(a, b) => [1, a.into(), b.into(), 0],
             Place::Triple(a, b, c) => [2, a.into(), b.into(), c.into()],
+            Place::MirrorTriple(a, b, c) => [3, a.into(), b.into(), c.into()],
         };
         Expected { result: refusal.number, values, written: Vec::new(), listed: None }
     }
@@ -40,11 +46,16 @@ pub fn expected(call: &Call, workspace: usize, answer: usize, most: &mut Most) -
     let limits = |allowance: &u16| Limits { allowance: usize::from(*allowance), workspace };
     let packed = |image: Vec<u8>| Expected::answer([image.len() as u64, 0, 0, 0], image);
     let outcome = match call {
-        Call::Reverse { table, program, allowance } => services::reverse(table, program, limits(allowance), answer, most).map(|fraction| {
-            let lengths = [fraction.numerator.len(), fraction.denominator.len(), fraction.steps, 0];
-            Expected::answer(lengths.map(|x| x as u64), [bytes(&fraction.numerator), bytes(&fraction.denominator)].concat())
-        }),
+        Call::Reverse { table, program, allowance } => {
+            services::reverse(table, program, limits(allowance), answer, most).map(Expected::fraction)
+        }
+        Call::LeftReverse { table, program, allowance } => {
+            services::left_reverse(table, program, limits(allowance), answer, most).map(Expected::fraction)
+        }
         Call::Clear { table, allowance } => services::clear(table, limits(allowance), most).map(|()| Expected::answer([0; 4], Vec::new())),
+        Call::MirrorClear { table, allowance } => {
+            services::mirror_clear(table, limits(allowance), most).map(|()| Expected::answer([0; 4], Vec::new()))
+        }
         Call::Compare { table, first, second, allowance } => services::compare(table, first, second, limits(allowance), most)
             .map(|verdict| Expected::answer(verdict_values(verdict), Vec::new())),
         Call::Chain { table, first, second, allowance } => {
@@ -80,7 +91,7 @@ pub fn expected(call: &Call, workspace: usize, answer: usize, most: &mut Most) -
 
 fn has_workspace(call: &Call) -> bool {
     use Call::*;
-    matches!(call, Reverse { .. } | Clear { .. } | Compare { .. } | Chain { .. } | Remainder { .. } | Check { .. })
+    !matches!(call, PackTable { .. } | UnpackTable { .. } | PackProgram { .. } | UnpackProgram { .. } | Bed { .. })
 }
 
 /// The image of the chain that an answer area begins with, where it is one of at most `steps` entries that joins the programs.
@@ -115,7 +126,7 @@ pub fn judge(call: &Call, expected: &Expected, workspace: &[u8], answer: &[u8], 
     if (left.result, left.values) != (expected.result, expected.values) {
         return Err(format!("result {} {:?}, not {} {:?}", left.result, left.values, expected.result, expected.values));
     }
-    let kept = !has_workspace(call) || (1..=8).contains(&left.result);
+    let kept = !has_workspace(call) || (1..=8).contains(&left.result) || left.result == 16;
     let after = if kept { workspace.to_vec() } else { vec![0; workspace.len()] };
     if left.workspace != after {
         return Err(format!("the workspace is not {}", if kept { "as found" } else { "all zero" }));

@@ -10,6 +10,7 @@ pub mod gap;
 pub mod guarded;
 pub mod image;
 pub mod judge;
+pub mod mirror;
 pub mod orders;
 pub mod outcome;
 pub mod plain;

@@ -7,6 +7,8 @@ pub enum Place {
     None,
     Pair(u8, u8),
     Triple(u8, u8, u8),
+    /// A triple of the mirror.
+    MirrorTriple(u8, u8, u8),
 }
 
 #[derive(Clone, Copy, Debug, PartialEq)]

@@ -2,6 +2,7 @@
 use crate::bed::Bed;
 use crate::chain::{follow, side};
 use crate::image::*;
+use crate::mirror::{left_reverse as run_left, mirror, offending};
 use crate::outcome::{Passage, Place, Refusal, Remainder, Verdict};
 use crate::plain::{plain_table, read_plain_program, read_plain_table};
 use crate::reversing::{reverse as run, Ending, Limits, Most};
@@ -18,7 +19,12 @@ pub struct Fraction {
 pub fn reverse(table: &[u8], program: &[u8], limits: Limits, answer: usize, most: &mut Most) -> Result<Fraction, Refusal> {
     let table = read_table(table)?;
     let word = read_program(program, table.moves)?;
-    match run(&table, word, 0, limits, most) {
+    fraction(run(&table, word, 0, limits, most), answer)
+}
+
+/// What comes of the reversing of reverse or left_reverse.
+fn fraction(ending: Ending, answer: usize) -> Result<Fraction, Refusal> {
+    match ending {
         Ending::Finished { numerator, denominator, steps } => {
             if numerator.len() + denominator.len() > answer {
                 return Err(Refusal::plain(13));
@@ -28,6 +34,15 @@ pub fn reverse(table: &[u8], program: &[u8], limits: Limits, answer: usize, most
         Ending::Open { a, b, .. } => Err(Refusal::at(10, Place::Pair(a, b))),
         Ending::AllowanceUsed => Err(Refusal::plain(11)),
         Ending::WorkspaceShort => Err(Refusal::plain(12)),
+    }
+}
+
+pub fn left_reverse(table: &[u8], program: &[u8], limits: Limits, answer: usize, most: &mut Most) -> Result<Fraction, Refusal> {
+    let table = read_table(table)?;
+    let word = read_program(program, table.moves)?;
+    match offending(&table) {
+        Some((a, b)) => Err(Refusal::at(16, Place::Pair(a, b))),
+        None => fraction(run_left(&table, word, limits, most), answer),
     }
 }
 
@@ -69,11 +84,11 @@ fn cube_side(
     complement(table, &ab, &ac, kept, place, limits, most)
 }
 
-fn cube_holds(table: &Table, a: u8, b: u8, c: u8, limits: Limits, most: &mut Most) -> Result<bool, Refusal> {
+/// Whether a triple obeys the cube rule. A stop is refused at `place`.
+fn cube_holds(table: &Table, (a, b, c): (u8, u8, u8), place: Place, limits: Limits, most: &mut Most) -> Result<bool, Refusal> {
     if table.completion(a, b).is_none() {
         return Ok(true);
     }
-    let place = Place::Triple(a, b, c);
     let left = cube_side(table, (a, b, c), 0, place, limits, most)?;
     let kept = left.as_ref().map_or(0, Word::len);
     let right = cube_side(table, (b, a, c), kept, place, limits, most)?;
@@ -97,24 +112,43 @@ fn side_weight(table: &Table, a: u8, b: u8) -> Option<usize> {
     side(table, a, b).map(|side| table.weight(&side))
 }
 
-pub fn cleared(table: &Table, limits: Limits, most: &mut Most) -> Result<(), Refusal> {
+/// The weight check.
+pub fn weights_agree(table: &Table) -> Result<(), Refusal> {
     for (a, b) in Table::pair_order(table.moves) {
         if side_weight(table, a, b) != side_weight(table, b, a) {
             return Err(Refusal::at(8, Place::Pair(a, b)));
         }
     }
+    Ok(())
+}
+
+/// The cube check of a table or of a mirror: the refusal of a triple that fails, and how a triple is told.
+fn cubes_hold(table: &Table, number: u8, told: fn(u8, u8, u8) -> Place, limits: Limits, most: &mut Most) -> Result<(), Refusal> {
     for (a, b) in Table::pair_order(table.moves) {
         for c in (1..=table.moves).filter(|c| *c != a && *c != b) {
-            if !cube_holds(table, a, b, c, limits, most)? {
-                return Err(Refusal::at(9, Place::Triple(a, b, c)));
+            let place = told(a, b, c);
+            if !cube_holds(table, (a, b, c), place, limits, most)? {
+                return Err(Refusal::at(number, place));
             }
         }
     }
     Ok(())
 }
 
+pub fn cleared(table: &Table, limits: Limits, most: &mut Most) -> Result<(), Refusal> {
+    weights_agree(table)?;
+    cubes_hold(table, 9, Place::Triple, limits, most)
+}
+
 pub fn clear(table: &[u8], limits: Limits, most: &mut Most) -> Result<(), Refusal> {
     cleared(&read_table(table)?, limits, most)
+}
+
+pub fn mirror_clear(table: &[u8], limits: Limits, most: &mut Most) -> Result<(), Refusal> {
+    let table = read_table(table)?;
+    let mirror = mirror(&table).map_err(|(a, b)| Refusal::at(16, Place::Pair(a, b)))?;
+    weights_agree(&table)?;
+    cubes_hold(&mirror, 17, Place::MirrorTriple, limits, most)
 }
 
 pub fn compare(table: &[u8], first: &[u8], second: &[u8], limits: Limits, most: &mut Most) -> Result<(Verdict, usize), Refusal> {

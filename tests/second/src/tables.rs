@@ -1,4 +1,6 @@
 //! Random tables of several families, and words over them.
+pub mod mirror;
+
 use crate::chain::{side, swapped};
 use crate::image::Entry;
 use crate::random::Random;

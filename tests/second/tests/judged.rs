@@ -4,6 +4,7 @@ use second::image::{program_image, table_image};
 use second::judge::{expected, judge};
 use second::plain::plain_table;
 use second::reversing::Most;
+use second::tables::mirror::clears_alone;
 use second::tables::{braid, doubled};
 
 /// A call, and whether it is refused with the workspace as found.
@@ -14,6 +15,10 @@ fn calls() -> Vec<(Call, bool)> {
     let entries = vec![0x00, 0x01, 0x00, 0x00, 0x20];
     let (t, f, s) = (table.clone(), first.clone(), second.clone());
     let heavy = table_image(&doubled());
+    // Both sides of 1 2 = 2 2 end in 2.
+    let mirrorless = vec![0x10, 0x23, 0x18];
+    let one_way = table_image(&clears_alone());
+    let back_last = program_image(3, &[2, 1, -2, 1, -3]);
     let [longer, shorter, lighter] = [vec![1, 2, 1], vec![2, 2], vec![1, 1]].map(|word| program_image(2, &word));
     vec![
         (Call::Compare { table: heavy.clone(), first: longer.clone(), second: shorter.clone(), allowance: 100 }, false),
@@ -26,6 +31,15 @@ fn calls() -> Vec<(Call, bool)> {
         (Call::Reverse { table: t.clone(), program: program.clone(), allowance: 4 }, false),
         (Call::Reverse { table: vec![], program: program.clone(), allowance: 5 }, true),
         (Call::Clear { table: t.clone(), allowance: 100 }, false),
+        (Call::LeftReverse { table: t.clone(), program: back_last.clone(), allowance: 5 }, false),
+        (Call::LeftReverse { table: t.clone(), program: back_last.clone(), allowance: 4 }, false),
+        (Call::LeftReverse { table: one_way.clone(), program: program_image(3, &[1, -2]), allowance: 5 }, false),
+        (Call::LeftReverse { table: mirrorless.clone(), program: vec![0x00, 0x00], allowance: 5 }, true),
+        (Call::MirrorClear { table: t.clone(), allowance: 100 }, false),
+        (Call::MirrorClear { table: t.clone(), allowance: 4 }, false),
+        (Call::MirrorClear { table: one_way, allowance: 100 }, false),
+        (Call::MirrorClear { table: mirrorless, allowance: 100 }, true),
+        (Call::MirrorClear { table: vec![0x10, 0x25, 0x0C], allowance: 100 }, true),
         (Call::Compare { table: t.clone(), first: f.clone(), second: s.clone(), allowance: 100 }, false),
         (Call::Compare { table: t.clone(), first: program.clone(), second: s.clone(), allowance: 100 }, true),
         (Call::Chain { table: t.clone(), first: f.clone(), second: s.clone(), allowance: 100 }, false),

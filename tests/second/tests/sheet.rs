@@ -1,12 +1,14 @@
 //! Cases of specification 10, of the second implementation.
 use second::image::{chain_image, program_image, read_program, read_table, table_image, Entry};
+use second::mirror::mirror;
 use second::orders::{self, Order};
 use second::outcome::{Passage, Place, Refusal, Remainder, Verdict};
 use second::plain::{plain_table, read_plain_table};
 use second::random::Random;
 use second::reversing::{Ending, Limits, Most};
-use second::services::{bed, chain, check, clear, compare, remainder, reverse};
+use second::services::{bed, chain, check, clear, compare, left_reverse, mirror_clear, remainder, reverse};
 use second::table::Table;
+use second::tables::mirror::clears_alone;
 use second::tables::{braid, doubled};
 
 const WIDE: Limits = Limits { allowance: 65_535, workspace: 32_768 };
@@ -55,6 +57,21 @@ fn completions_alone() -> Table {
     Table::light(2, vec![Some((vec![2], vec![1, 1]))]).weighing(vec![1, 2])
 }
 
+/// V of specification 10: both sides of 1 2 = 2 2 end in 2.
+fn one_last_move() -> Table {
+    Table::light(2, vec![Some((vec![2], vec![2]))])
+}
+
+/// Y of specification 10: 1 3 = 2 and 2 = 3, whose sides end in 3 and 2, and in 2 and 3.
+fn shared_crossed() -> Table {
+    Table::light(3, vec![Some((vec![3], vec![])), None, Some((vec![], vec![]))])
+}
+
+/// Z of specification 10: 1 3 = 2 and 1 3 = 3 2, whose sides end in 3 and 2 both times.
+fn shared_in_order() -> Table {
+    Table::light(3, vec![Some((vec![3], vec![])), Some((vec![3], vec![2])), None])
+}
+
 #[test]
 fn images_of_tables() {
     assert_eq!(table_image(&braid(3)), [0x20, 0x04, 0x90, 0x86, 0x30, 0x92, 0x92, 0x60]);
@@ -67,6 +84,10 @@ fn images_of_tables() {
     assert_eq!(table_image(&completions_alone()), [0x10, 0x63, 0x20]);
     assert_eq!(table_image(&endless()), [0x20, 0x04, 0x90, 0x86, 0x50, 0x45, 0x29, 0x26]);
     assert_eq!(table_image(&open_at_last()), [0x30, 0x00, 0x80, 0x46, 0x11, 0x1C, 0x50]);
+    assert_eq!(table_image(&clears_alone()), [0x20, 0x04, 0x61, 0x22, 0x8C]);
+    assert_eq!(table_image(&one_last_move()), [0x10, 0x23, 0x18]);
+    assert_eq!(table_image(&shared_crossed()), [0x20, 0x04, 0x60, 0x40, 0x00]);
+    assert_eq!(table_image(&shared_in_order()), [0x20, 0x04, 0x60, 0x8C, 0x28]);
     for moves in 1..=16 {
         assert_eq!(read_table(&table_image(&braid(moves))), Ok(braid(moves)));
         assert_eq!(read_plain_table(&plain_table(&braid(moves))), Ok(braid(moves)));
@@ -222,4 +243,63 @@ fn beds() {
     let half = program_image(16, &[16; 4_095]);
     let bytes = bed(&table_image(&braid(16)), &half, 5_000, 289).unwrap();
     assert_eq!((&bytes[14..17], &bytes[287..]), (&[15, 17, 16][..], &[0x0F, 0xFF][..]));
+}
+
+fn left_reversed(table: &Table, word: &[i8], limits: Limits, answer: usize) -> Result<(Vec<i8>, Vec<i8>, usize), Refusal> {
+    let program = program_image(table.moves, word);
+    left_reverse(&table_image(table), &program, limits, answer, &mut Most::default()).map(|f| (f.numerator, f.denominator, f.steps))
+}
+
+fn mirror_cleared(table: &Table, allowance: usize, workspace: usize) -> Result<(), Refusal> {
+    mirror_clear(&table_image(table), Limits { allowance, workspace }, &mut Most::default())
+}
+
+#[test]
+fn mirrors() {
+    for moves in 1..=16 {
+        assert_eq!(mirror(&braid(moves)), Ok(braid(moves)));
+    }
+    let pairs = vec![None, Some((vec![2], vec![1])), Some((vec![1], vec![3]))];
+    assert_eq!(mirror(&clears_alone()), Ok(Table::light(3, pairs)));
+    assert_eq!(mirror(&doubled()), Ok(doubled()));
+}
+
+#[test]
+fn left_reversings() {
+    let narrow = Limits { allowance: 1, workspace: 4 };
+    assert_eq!(left_reversed(&braid(3), &[1, -2], narrow, 4), Ok((vec![2, 1], vec![1, 2], 1)));
+    assert_eq!(left_reversed(&braid(3), &[1, -2], narrow, 3), Err(Refusal::plain(13)));
+    assert_eq!(left_reversed(&braid(3), &[1, -2], Limits { allowance: 0, ..narrow }, 4), Err(Refusal::plain(11)));
+    assert_eq!(left_reversed(&braid(3), &[1, -2], Limits { workspace: 3, ..narrow }, 4), Err(Refusal::plain(12)));
+    assert_eq!(left_reversed(&braid(3), &[2, 1, -2, 1, -3], WIDE, 7), Ok((vec![3, 2, 1, 1], vec![2, 3, 1], 5)));
+    assert_eq!(left_reversed(&braid(3), &[-3, 1, -2, 1, 2], WIDE, 7), Ok((vec![2, 1, 1, 2], vec![1, 2, 3], 1)));
+    for allowance in [0, 1, 65_535] {
+        let open = left_reversed(&Table::light(2, vec![None]), &[1, -2], Limits { allowance, ..WIDE }, 7);
+        assert_eq!(open, Err(Refusal::at(10, Place::Pair(2, 1))));
+    }
+    let long = left_reversed(&Table::light(2, vec![None]), &[1, -2], Limits { workspace: 1, ..WIDE }, 7);
+    assert_eq!(long, Err(Refusal::plain(12)));
+    assert_eq!(left_reversed(&clears_alone(), &[3, -1], WIDE, 7), Ok((vec![2], vec![1], 1)));
+    assert_eq!(left_reversed(&clears_alone(), &[1, -2], WIDE, 7), Err(Refusal::at(10, Place::Pair(2, 1))));
+    assert_eq!(left_reversed(&one_last_move(), &[], Limits { workspace: 2, ..WIDE }, 7), Err(Refusal::at(16, Place::Pair(1, 2))));
+    let empty_image = left_reverse(&table_image(&one_last_move()), &[], WIDE, 7, &mut Most::default());
+    assert_eq!(empty_image.err(), Some(Refusal::plain(4)));
+}
+
+#[test]
+fn mirrors_that_clear() {
+    assert_eq!(mirror_cleared(&braid(3), 5, 11), Ok(()));
+    assert_eq!(mirror_cleared(&braid(3), 4, 11), Err(Refusal::at(11, Place::MirrorTriple(1, 2, 3))));
+    assert_eq!(mirror_cleared(&braid(3), 5, 10), Err(Refusal::at(12, Place::MirrorTriple(1, 2, 3))));
+    assert_eq!(cleared(&clears_alone(), WIDE), Ok(()));
+    assert_eq!(mirror_cleared(&clears_alone(), 65_535, 32_768), Err(Refusal::at(17, Place::MirrorTriple(1, 3, 2))));
+    assert_eq!(mirror_cleared(&doubled().weighing(vec![1, 1]), 65_535, 32_768), Err(Refusal::at(8, Place::Pair(1, 2))));
+    assert_eq!(mirror_cleared(&doubled(), 0, 0), Ok(()));
+}
+
+#[test]
+fn tables_without_a_mirror() {
+    for (table, (a, b)) in [(one_last_move(), (1, 2)), (shared_crossed(), (2, 3)), (shared_in_order(), (1, 3)), (no_cube(), (2, 3))] {
+        assert_eq!(mirror_cleared(&table, 65_535, 32_768), Err(Refusal::at(16, Place::Pair(a, b))));
+    }
 }

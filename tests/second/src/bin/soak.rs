@@ -3,7 +3,7 @@
 //!     soak [--calls N | --minutes M] [--seed S] [--case SEED]
 //!
 //! Cases are numbered from the seed on. A case that fails is printed with its number and bytes; `--case` runs that one again.
-use second::cases::{run, Tally, Weighed};
+use second::cases::{run, Mirrored, Tally, Weighed};
 use std::process::ExitCode;
 use std::sync::atomic::{AtomicBool, AtomicU64, AtomicUsize, Ordering};
 use std::sync::Mutex;
@@ -44,7 +44,9 @@ fn met(tally: &Tally) -> Vec<String> {
         }
     };
     want("reverse", &[(0, 0), (1, 0), (2, 0), (3, 0), (4, 0), (5, 0), (6, 0), (10, 1), (11, 0), (12, 0), (13, 0)]);
+    want("left reverse", &[(0, 0), (1, 0), (2, 0), (3, 0), (4, 0), (5, 0), (6, 0), (10, 1), (11, 0), (12, 0), (13, 0), (16, 1)]);
     want("clear", &[(0, 0), (1, 0), (2, 0), (3, 0), (8, 1), (9, 2), (11, 2), (12, 2)]);
+    want("mirror clear", &[(0, 0), (1, 0), (2, 0), (3, 0), (8, 1), (11, 3), (12, 3), (16, 1), (17, 3)]);
     let stops = [(1, 0), (2, 0), (3, 0), (4, 0), (5, 0), (6, 0), (7, 0), (8, 1), (9, 2), (11, 0), (11, 2), (12, 0), (12, 2)];
     for service in ["compare", "chain", "remainder"] {
         want(service, &[(0, 0), (0, 1)]);
@@ -67,6 +69,12 @@ fn met(tally: &Tally) -> Vec<String> {
     }
     for what in Weighed::ALL.iter().filter(|what| !tally.weighed.contains_key(what)) {
         missing.push(format!("weights never led to {what:?}"));
+    }
+    if tally.backward.contains(&0) {
+        missing.push("no answer, open pair or stop of left reversing was held against right reversing under the mirror".into());
+    }
+    for what in Mirrored::ALL.iter().filter(|what| !tally.mirrored.contains_key(what)) {
+        missing.push(format!("tables and mirrors never led to {what:?}"));
     }
     missing
 }
@@ -117,6 +125,9 @@ fn main() -> ExitCode {
     for (what, count) in &tally.weighed {
         println!("{what:?} {count}");
     }
+    for (what, count) in &tally.mirrored {
+        println!("{what:?} {count}");
+    }
     for failure in &failures {
         println!("DIFFERENCE in {failure}");
     }
@@ -128,6 +139,8 @@ fn main() -> ExitCode {
     println!("{} calls, {} verdicts also by search, seed {}, {seconds} s", tally.calls, tally.searched, plan.seed);
     println!("beds: {} of joined programs, {} of fractions, {} full twists", tally.beds[0], tally.beds[1], tally.beds[2]);
     println!("other orders of steps: {} that finished alike, {} beside an open pair", tally.orders.0, tally.orders.1);
+    let [answers, open, stops] = tally.backward;
+    println!("left reversings read backward under the mirror: {answers} answers, {open} open pairs, {stops} stops");
     if failures.is_empty() && missing.is_empty() {
         ExitCode::SUCCESS
     } else {
