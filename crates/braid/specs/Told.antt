@@ -3,7 +3,7 @@ use Prim.Native.Nat.{ℕ}
 use Rattle.model.specs.Outcome.{Outcome, answered, refused}
 use Rattle.model.specs.Stated.{Sizes}
 use Rattle.model.specs.Refusals.{numbersTold}
-use Rattle.model.specs.Services.{Verdict, same-after, different-after, Remainder, moves-after, none-after, Passage, joins, breaks, ends-elsewhere}
+use Rattle.model.specs.Services.{Verdict, same-after, different-after, ChainAnswer, listed-after, unlisted-after, Remainder, moves-after, none-after, Passage, joins, breaks, ends-elsewhere}
 use Rattle.model.specs.declared.refusals.RefusalNumbers.{RefusalNumbers}
 use Rattle.braid.specs.declared.numbers.Numbers.{Numbers}
 
@@ -26,10 +26,15 @@ sizesTold s = numbers 0 (s .numerator) (s .denominator) (s .steps) 0
 abbrev pub passedTold : Unit {0} → Numbers
 passedTold x = numbers 0 0 0 0 0
 
--- compare and chain: 0 same or 1 different, then the steps
+-- compare: 0 same or 1 different, then the steps
 abbrev pub verdictTold : Verdict → Numbers
-verdictTold (same-after k) = numbers 0 0 k 0 0
+verdictTold (same-after k r) = numbers 0 0 k 0 0
 verdictTold (different-after k) = numbers 0 1 k 0 0
+
+-- chain: the same, and after same how many entries are listed, and in how many bytes
+abbrev pub chainTold : ChainAnswer → Numbers
+chainTold (listed-after k entries bytes) = numbers 0 0 k entries bytes
+chainTold (unlisted-after k) = numbers 0 1 k 0 0
 
 -- remainder: 0 for moves, how many they are, and the steps; 1 for none, and the steps in the same place
 abbrev pub remainderTold : Remainder ℕ → Numbers

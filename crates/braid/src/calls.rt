@@ -4,7 +4,7 @@ ghost use mathlib.Core.Path.{_≡_};
 ghost use Rattle.model.specs.Outcome.{mapped, answered};
 ghost use Rattle.model.specs.Images.{readTable};
 ghost use Rattle.model.specs.Plain.{readPlainTable};
-ghost use Rattle.model.specs.Services.{reverse, leftReverse, clear, mirrorClear, compare, chain, remainder, check, packTable, unpackTable, packProgram, unpackProgram, listable, programUnder, plainProgramUnder};
+ghost use Rattle.model.specs.Services.{reverse, leftReverse, clear, mirrorClear, compare, chain, remainder, check, packTable, unpackTable, packProgram, unpackProgram, listable, verdictIn, programUnder, plainProgramUnder};
 ghost use Rattle.model.specs.Bed.{bed};
 ghost use Rattle.model.specs.Areas.{outputAfter, workspaceAfter, fractionBytes, remainderBytes, ChainArea, ReadsBack};
 ghost use Rattle.model.specs.Stated.{sizes, counted};
@@ -17,9 +17,10 @@ ghost use Rattle.chaining.specs.Chain.{ListedChecks};
 ghost use Rattle.remainders.specs.Remainder.{RemainderMeaning};
 ghost use Rattle.checking.specs.Check.{CheckMeaning};
 ghost use Rattle.bed.specs.Meaning.{BedSays};
-ghost use Rattle.braid.specs.Told.{told, sizesTold, passedTold, verdictTold, remainderTold, passageTold, bytesTold};
+ghost use Rattle.braid.specs.Told.{told, sizesTold, passedTold, verdictTold, chainTold, remainderTold, passageTold, bytesTold};
 ghost use Rattle.braid.specs.Values.{Tells};
 use crate::numbers::Numbers;
+use crate::numbers::of_chained;
 use crate::numbers::of_checked;
 use crate::numbers::of_cleared;
 use crate::numbers::of_compared;
@@ -141,14 +142,14 @@ pub extern "C" fn braid_chain(
     answer: &mut [u8],
     values: &mut [u64; 4],
 ) -> u8
-    ensures told { λ r. ⌜ Tells (told verdictTold (chain (now (table .entry)) (now (first .entry)) (now (second .entry)) allowance (length (now (workspace .entry))) (length (now (answer .entry))))) r (now (values .exit)) ⌝ }
+    ensures told { λ r. ⌜ Tells (told chainTold (chain (now (table .entry)) (now (first .entry)) (now (second .entry)) allowance (length (now (workspace .entry))) (length (now (answer .entry))))) r (now (values .exit)) ⌝ }
     ensures workspace { λ r. ⌜ now (workspace .exit) ≡ workspaceAfter (chain (now (table .entry)) (now (first .entry)) (now (second .entry)) allowance (length (now (workspace .entry))) (length (now (answer .entry)))) (now (workspace .entry)) ⌝ }
     ensures area { λ r. ⌜ ChainArea (now (table .entry)) (now (first .entry)) (now (second .entry)) (now (answer .entry)) (now (answer .exit)) (chain (now (table .entry)) (now (first .entry)) (now (second .entry)) allowance (length (now (workspace .entry))) (length (now (answer .entry)))) ⌝ }
     ensures checks { λ r. ⌜ ListedChecks (now (table .entry)) (now (first .entry)) (now (second .entry)) (now (answer .entry)) (now (answer .exit)) (chain (now (table .entry)) (now (first .entry)) (now (second .entry)) allowance (length (now (workspace .entry))) (length (now (answer .entry)))) ⌝ }
-    ensures meaning { λ r. ⌜ Meaning (now (table .entry)) (now (first .entry)) (now (second .entry)) allowance (length (now (workspace .entry))) (λ T v. listable (T .size) (length (now (answer .entry))) v) (chain (now (table .entry)) (now (first .entry)) (now (second .entry)) allowance (length (now (workspace .entry))) (length (now (answer .entry)))) ⌝ }
+    ensures meaning { λ r. ⌜ Meaning (now (table .entry)) (now (first .entry)) (now (second .entry)) allowance (length (now (workspace .entry))) (λ T v. listable (T .size) (length (now (answer .entry))) v) (mapped verdictIn (chain (now (table .entry)) (now (first .entry)) (now (second .entry)) allowance (length (now (workspace .entry))) (length (now (answer .entry))))) ⌝ }
 {
-    let compared = chain(table, first, second, allowance, workspace, answer);
-    tell(of_compared(compared), values)
+    let chained = chain(table, first, second, allowance, workspace, answer);
+    tell(of_chained(chained), values)
 }
 
 #[no_mangle]

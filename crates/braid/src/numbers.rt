@@ -1,7 +1,8 @@
 // How an answer is told in numbers: 0 or the refusal's number, then four values.
 ghost use mathlib.Core.Path.{_≡_};
-ghost use Rattle.model.specs.Stated.{refusal, reversed, clearedAs, compared, remaining, checked, packedAs};
-ghost use Rattle.braid.specs.Told.{told, sizesTold, passedTold, verdictTold, remainderTold, passageTold, bytesTold};
+ghost use Rattle.model.specs.Stated.{refusal, reversed, clearedAs, compared, chained, remaining, checked, packedAs};
+ghost use Rattle.braid.specs.Told.{told, sizesTold, passedTold, verdictTold, chainTold, remainderTold, passageTold, bytesTold};
+use model::answers::Chained;
 use model::answers::Checked;
 use model::answers::Cleared;
 use model::answers::Compared;
@@ -90,8 +91,31 @@ pub(crate) fn of_compared(answer: Compared) -> Numbers
 {
     match answer {
         Compared::Refused(refusal) => of_refusal(refusal),
-        Compared::Same { steps } => counted(0, steps as u64),
+        Compared::Same {
+            steps,
+            relations: _,
+        } => counted(0, steps as u64),
         Compared::Different { steps } => counted(1, steps as u64),
+    }
+}
+
+pub(crate) fn of_chained(answer: Chained) -> Numbers
+    ensures { λ r. ⌜ r ≡ told chainTold (chained answer) ⌝ }
+{
+    match answer {
+        Chained::Refused(refusal) => of_refusal(refusal),
+        Chained::Listed {
+            steps,
+            entries,
+            bytes,
+        } => Numbers {
+            code: 0,
+            first: 0,
+            second: steps as u64,
+            third: entries as u64,
+            fourth: bytes as u64,
+        },
+        Chained::Unlisted { steps } => counted(1, steps as u64),
     }
 }
 

@@ -11,18 +11,17 @@ use lib.ListN.{length, length-append}
 use Rattle.model.specs.Word.{Word, Positive, positive, negative}
 use Rattle.model.specs.Presentation.{Presentation, complete, weightOf, weigh}
 use Rattle.model.specs.Reversing.{finished, room, reversing}
-use Rattle.model.specs.Outcome.{Outcome, answered, refused, _>>=_, unless}
+use Rattle.model.specs.Outcome.{Outcome, answered, refused, _>>=_, unless, mapped}
 use Rattle.model.specs.Images.{readProgram, chainImage}
-use Rattle.model.specs.Services.{Verdict, same-after, different-after, readForward, comparison, chainBytes, listable, chain}
-use Rattle.model.specs.Areas.{Compares, Listed, ChainArea}
+use Rattle.model.specs.Services.{Verdict, same-after, different-after, readForward, comparison, chainBytes, listable, ChainAnswer, listed-after, unlisted-after, chainAnswer, verdictIn, chain}
+use Rattle.model.specs.Areas.{Compares, Listed, ChainArea, workspaceAfter}
 use Rattle.model.specs.Stated.{refusal}
 use Rattle.model.specs.declared.answers.Refusal.{Refusal}
 use Rattle.model.specs.declared.answers.Refusal.the-variants.{AnswerShort}
-use Rattle.model.specs.declared.answers.Compared.the-variants.{Same as SameAnswer, Refused as RefusedAnswer}
+use Rattle.model.specs.declared.answers.Compared.{Compared}
+use Rattle.model.specs.declared.answers.Compared.the-variants.{Same, Different, Refused}
 use Rattle.model.proofs.Impossible.{impossible}
 use Rattle.model.proofs.Reversal.{reversing-long}
-use Rattle.model.proofs.Endings.{reversing-finishes}
-use Rattle.model.proofs.Leftmost.{counted-within}
 use Rattle.model.proofs.Equiv.{Homogeneous}
 use Rattle.theory.proofs.Clearing.{clear-homogeneous}
 use Rattle.theory.proofs.Passages.{lead-joins}
@@ -38,26 +37,34 @@ use Rattle.cells.proofs.Rules.{weight-within}
 use Rattle.engine.proofs.Lettering.{length-positive, length-negative}
 use Rattle.chains.specs.Listing.{Chained}
 use Rattle.chains.specs.Listing.{Compared as Listed-from}
-use Rattle.chains.proofs.Layouts.{room-for-fewer}
 use Rattle.loading.specs.Loading.{Images, readPrograms}
-use Rattle.comparing.specs.Compare.{toldAs, Ended, Judged, Meaning}
+use Rattle.comparing.specs.Compare.{Ended, Judged, Meaning}
 use Rattle.loading.specs.Comparison.{LoadedPrograms}
 use Rattle.chaining.specs.Chain.{Area, ListedAs, JoinsChecked, ListedChecks}
-use Rattle.comparing.specs.declared.compare.Judgement.{Judgement}
-use Rattle.comparing.specs.declared.compare.Judgement.the-variants.{Same, Different, Refused}
 use Rattle.loading.proofs.Outcomes.{AsFound, still-refused}
 use Rattle.loading.proofs.Reading.{programs-refused, programs-run}
 use Rattle.checking.proofs.CheckService.{check-runs}
 
+-- what is listed tells the verdict back
+verdict-back : (n : ℕ) (o : Outcome Verdict) → mapped verdictIn (mapped (chainAnswer n) o) ≡ o
+verdict-back n (answered (same-after k r)) = refl
+verdict-back n (answered (different-after k)) = refl
+verdict-back n (refused i place) = refl
+
+-- and the workspace after it is that after the verdict
+pub answer-workspace : (n : ℕ) (o : Outcome Verdict) (area : List ℕ) → workspaceAfter (mapped (chainAnswer n) o) area ≡ workspaceAfter o area
+answer-workspace n (answered v) area = refl
+answer-workspace n (refused i place) area = refl
+
 -- A VERDICT THAT LISTS NOTHING
 
-abbrev pub NotSame : Judgement → Type 0
+abbrev pub NotSame : Compared → Type 0
 NotSame (Same k r) = ⊥
 NotSame (Different k) = Unit {0}
 NotSame (Refused r) = Unit {0}
 
 module _ (T : Presentation) (u v : Positive) (steps width : ℕ) (before : List ℕ) where
-  pub lists-nothing : (j : Judgement) → NotSame j → Judged T u v steps width j → ListedAs T u v steps width before before (toldAs j)
+  pub lists-nothing : (j : Compared) → NotSame j → Judged T u v steps width j → ListedAs T u v steps width before before j
   lists-nothing (Same k r) unlike p = absurd unlike
   lists-nothing (Different k) unlike p =
       record { verdict = ap (λ o. o >>= listable (T .size) (length before)) (p .verdict); area = refl }
@@ -68,22 +75,23 @@ module _ (T : Presentation) (u v : Positive) (steps width : ℕ) (before : List 
       }
 
   module _ (size k r : ℕ) (sized : T .size ≡ size) (p : Judged T u v steps width (Same k r)) where
-    listing-of : (comparison T u v steps width >>= listable (T .size) (length before)) ≡ unless (ltb (length before) (chainBytes size k)) 13 (same-after k)
+    listing-of : (comparison T u v steps width >>= listable (T .size) (length before)) ≡ unless (ltb (length before) (chainBytes size r)) 13 (same-after k r)
     listing-of =
         ap (λ o. o >>= listable (T .size) (length before)) (sym (p .verdict))
-        ∙ ap (λ n. unless (ltb (length before) (chainBytes n k)) 13 (same-after k)) sized
+        ∙ ap (λ n. unless (ltb (length before) (chainBytes n r)) 13 (same-after k r)) sized
 
-    pub area-too-short : length before < chainBytes size k → ListedAs T u v steps width before before (RefusedAnswer AnswerShort)
+    pub area-too-short : length before < chainBytes size r → ListedAs T u v steps width before before (Refused AnswerShort)
     area-too-short h =
         record {
-          verdict = sym (listing-of ∙ ap (λ t. unless t 13 (same-after k)) (lt-ltb (length before) (chainBytes size k) h));
+          verdict = sym (listing-of ∙ ap (λ t. unless t 13 (same-after k r)) (lt-ltb (length before) (chainBytes size r) h));
           area = refl;
         }
 
-    pub lists-chain : chainBytes size k ≤ length before → (after : List ℕ) → Listed T u v k before after → ListedAs T u v steps width before after (SameAnswer k)
+    pub lists-chain : chainBytes size r ≤ length before → (after : List ℕ) → Listed T u v r (chainBytes (T .size) r) before after
+        → ListedAs T u v steps width before after (Same k r)
     lists-chain h after l =
         record {
-          verdict = sym (listing-of ∙ ap (λ t. unless t 13 (same-after k)) (le-ltb (length before) (chainBytes size k) h));
+          verdict = sym (listing-of ∙ ap (λ t. unless t 13 (same-after k r)) (le-ltb (length before) (chainBytes size r) h));
           area = l;
         }
 
@@ -102,12 +110,14 @@ programs-fit T u v steps width k r e =
     let h = finished-fits T steps width (negative u ++ positive v) [] [] k r (e .empty) in
     omega (arith, length-append (negative u) (positive v), length-negative u, length-positive v)
 
-pub listed-of : (T : Presentation) (u v : Positive) (k : ℕ) (before after : List ℕ) → T .size ≤ 16 → Chained T u v k before after → Listed T u v k before after
-listed-of T u v k before after few c =
+pub listed-of : (T : Presentation) (u v : Positive) (r : ℕ) (before after : List ℕ) → T .size ≤ 16 → Chained T u v r before after
+    → Listed T u v r (chainBytes (T .size) r) before after
+listed-of T u v r before after few c =
     record {
       entries = c .entries;
       leads = c .leads;
-      few = c .few;
+      counted = c .counted;
+      long = c .long;
       written = c .written;
       readable = chain-reads-back (T .size) few (c .entries) (record { short = c .short; entries = c .fit });
     }
@@ -115,7 +125,7 @@ listed-of T u v k before after few c =
 -- what the listing asks, from the comparison and the programs that were loaded again
 module _ (cells : List ℕ) (size : ℕ) (T : Presentation) (o : Of cells size T) (u v : Positive) (first second : List ℕ) (m n : ℕ) (one : ForwardOf first size m)
     (two : ForwardOf second size n) (eu : one .word ≡ u) (ev : two .word ≡ v) (steps width k r : ℕ) (e : Ended T u v steps width k r) (bytes : List ℕ) (right : ℕ)
-    (same-width : length bytes ≡ width) (l : LoadedPrograms cells T u v bytes m right) (room : ℕ) (enough : chainBytes size k ≤ room) where
+    (same-width : length bytes ≡ width) (l : LoadedPrograms cells T u v bytes m right) (room : ℕ) (enough : chainBytes size r ≤ room) where
   few : size ≤ 16
   few = omega (arith, o .sized, o .stands .few)
 
@@ -146,72 +156,76 @@ module _ (cells : List ℕ) (size : ℕ) (T : Presentation) (o : Of cells size T
         word = l .word;
         budget = steps;
         same = ap (λ i. reversing T steps i (negative u ++ positive v)) same-width ∙ e .empty;
-        enough = omega (arith, room-for-fewer size (counted-within (reversing-finishes T steps width (negative u ++ positive v) [] [] k r (e .empty))));
+        enough = enough;
       }
 
 -- THE SERVICE
 
 module _ (table first second : List ℕ) (steps width area : ℕ) where
-  abbrev lists : Images → Outcome Verdict
-  lists p = comparison (p .table) (p .first) (p .second) steps width >>= listable (p .table .size) area
+  abbrev lists : Images → Outcome ChainAnswer
+  lists p = mapped (chainAnswer (p .table .size)) (comparison (p .table) (p .first) (p .second) steps width >>= listable (p .table .size) area)
 
   pub chain-refused : (r : Refusal) → readPrograms table first second ≡ refusal r → AsFound (chain table first second steps width area) r
   unfolding chain
   chain-refused = programs-refused table first second lists
 
   pub chain-runs : (T : Presentation) (u v : Positive) → Compares table first second T u v
-      → chain table first second steps width area ≡ (comparison T u v steps width >>= listable (T .size) area)
+      → chain table first second steps width area ≡ mapped (chainAnswer (T .size)) (comparison T u v steps width >>= listable (T .size) area)
   unfolding chain
   chain-runs = programs-run table first second lists
 
   -- what is told of a verdict gives the verdict back
   shown : (n : ℕ) (x : Verdict) (y : Verdict) → listable n area x ≡ answered y → x ≡ y
-  shown n (same-after k) y e = by-room (ltb area (chainBytes n k)) e
+  shown n (same-after k r) y e = by-room (ltb area (chainBytes n r)) e
     where
-      by-room : (t : Bool) → unless t 13 (same-after k) ≡ answered y → same-after k ≡ y
+      by-room : (t : Bool) → unless t 13 (same-after k r) ≡ answered y → same-after k r ≡ y
       by-room true q = impossible (cc)
       by-room false q = cc
   shown n (different-after k) y e = cc
 
-  pub chain-means : (o : Outcome Verdict) → o ≡ chain table first second steps width area → Meaning table first second steps width (λ T v. listable (T .size) area v) o
+  pub chain-means : (o : Outcome ChainAnswer) → o ≡ chain table first second steps width area
+      → Meaning table first second steps width (λ T v. listable (T .size) area v) (mapped verdictIn o)
   chain-means o e T u v c =
-      subst (DemandThree T u v steps width (listable (T .size) area)) (sym (e ∙ chain-runs T u v c))
+      subst (DemandThree T u v steps width (listable (T .size) area))
+      (sym (ap (mapped verdictIn) (e ∙ chain-runs T u v c) ∙ verdict-back (T .size) (comparison T u v steps width >>= listable (T .size) area)))
       (demand-three-told T u v steps width (listable (T .size) area) (shown (T .size)))
 
   -- only a comparison that said `same` is told so
-  same-told : (T : Presentation) (u v : Positive) → Compares table first second T u v → (k : ℕ) → answered (same-after k) ≡ chain table first second steps width area
-      → comparison T u v steps width ≡ answered (same-after k)
-  same-told T u v c k e =
-      let x = answer-of (comparison T u v steps width) (listable (T .size) area) (same-after k) (sym (e ∙ chain-runs T u v c)) in
-      x .1 ∙ ap answered (shown (T .size) (x .0) (same-after k) (x .2))
+  same-told : (T : Presentation) (u v : Positive) → Compares table first second T u v → (k r bytes : ℕ)
+      → answered (listed-after k r bytes) ≡ chain table first second steps width area → comparison T u v steps width ≡ answered (same-after k r)
+  same-told T u v c k r bytes e =
+      let told = ap (mapped verdictIn) (e ∙ chain-runs T u v c) ∙ verdict-back (T .size) (comparison T u v steps width >>= listable (T .size) area) in
+      let x = answer-of (comparison T u v steps width) (listable (T .size) area) (same-after k r) (sym told) in
+      x .1 ∙ ap answered (shown (T .size) (x .0) (same-after k r) (x .2))
 
 -- the answer area of the service
 module _ (table first second before after : List ℕ) where
   pub area-listed : (T : Presentation) (u v : Positive) → Compares table first second T u v → (o : Outcome Verdict) → Area T u v before after o
-      → ChainArea table first second before after o
-  area-listed T u v c (answered (same-after k)) l = (T, u, v, c, l)
+      → ChainArea table first second before after (mapped (chainAnswer (T .size)) o)
+  area-listed T u v c (answered (same-after k r)) l = (T, u, v, c, l)
   area-listed T u v c (answered (different-after k)) l = l
   area-listed T u v c (refused n ps) l = l
 
 -- and what check says of it
 module _ (table first second : List ℕ) (steps width : ℕ) (before after : List ℕ) where
   -- the table cleared, so the relations keep weights
-  even-after : (T : Presentation) (u v : Positive) → Compares table first second T u v → (k : ℕ)
-      → answered (same-after k) ≡ chain table first second steps width (length before) → Homogeneous (weightOf T) (complete T)
-  even-after T u v c k e =
+  even-after : (T : Presentation) (u v : Positive) → Compares table first second T u v → (k r bytes : ℕ)
+      → answered (listed-after k r bytes) ≡ chain table first second steps width (length before) → Homogeneous (weightOf T) (complete T)
+  even-after T u v c k r bytes e =
       clear-homogeneous T steps width
-      (answered-clear T u v steps width (same-told table first second steps width (length before) T u v c k e))
+      (answered-clear T u v steps width (same-told table first second steps width (length before) T u v c k r bytes e))
 
-  joins-checked : (T : Presentation) (u v : Positive) → Compares table first second T u v → (k : ℕ)
-      → answered (same-after k) ≡ chain table first second steps width (length before) → Listed T u v k before after
-      → JoinsChecked table first second before after
-  joins-checked T u v c k e l =
+  joins-checked : (T : Presentation) (u v : Positive) → Compares table first second T u v → (k r bytes : ℕ)
+      → answered (listed-after k r bytes) ≡ chain table first second steps width (length before) → Listed T u v r bytes before after
+      → JoinsChecked table first second bytes before after
+  joins-checked T u v c k r bytes e l =
       record {
         image = chainImage (T .size) (l .entries);
+        long = l .long;
         written = l .written;
         joined = λ T′ u′ v′ c′ room h.
             check-runs table first second (chainImage (T .size) (l .entries)) room T u v c (T .size) refl (l .entries) (l .readable)
-            ∙ lead-joins T (even-after T u v c k e) room u (l .entries) v (l .leads) (omega (arith, h, same-weight T′ u′ v′ c′));
+            ∙ lead-joins T (even-after T u v c k r bytes e) room u (l .entries) v (l .leads) (omega (arith, h, same-weight T′ u′ v′ c′));
       }
     where
       same-weight : (T′ : Presentation) (u′ v′ : Positive) → Compares table first second T′ u′ v′ → weigh T u ≡ weigh T′ u′
@@ -224,8 +238,8 @@ module _ (table first second : List ℕ) (steps width : ℕ) (before after : Lis
           let words : u ≡ u′ = cc in
           ap₂ weigh tables words
 
-  pub listed-checks : (o : Outcome Verdict) → o ≡ chain table first second steps width (length before) → ChainArea table first second before after o
+  pub listed-checks : (o : Outcome ChainAnswer) → o ≡ chain table first second steps width (length before) → ChainArea table first second before after o
       → ListedChecks table first second before after o
-  listed-checks (answered (same-after k)) e (T, u, v, c, l) = joins-checked T u v c k e l
-  listed-checks (answered (different-after k)) e a = tt
+  listed-checks (answered (listed-after k r bytes)) e (T, u, v, c, l) = joins-checked T u v c k r bytes e l
+  listed-checks (answered (unlisted-after k)) e a = tt
   listed-checks (refused n ps) e a = tt

@@ -6,7 +6,7 @@ use lib.ListN.{length}
 use Rattle.model.specs.Word.{Positive}
 use Rattle.model.specs.Presentation.{Presentation, weigh}
 use Rattle.model.specs.Outcome.{Outcome, answered, refused, _>>=_}
-use Rattle.model.specs.Services.{Verdict, same-after, different-after, readForward, comparison, listable, joins, check}
+use Rattle.model.specs.Services.{Verdict, same-after, different-after, readForward, comparison, chainBytes, listable, ChainAnswer, listed-after, unlisted-after, joins, check}
 use Rattle.model.specs.Areas.{begins, Compares, Listed, workspaceAfter}
 use Rattle.model.specs.Stated.{compared}
 use Rattle.model.specs.declared.answers.Compared.{Compared}
@@ -14,7 +14,7 @@ use Rattle.cells.specs.Stands.{Of}
 
 -- the answer area: a chain after `same`, else as it was
 abbrev pub Area : Presentation → Positive → Positive → List ℕ → List ℕ → Outcome Verdict → Type 0
-Area T u v before after (answered (same-after k)) = Listed T u v k before after
+Area T u v before after (answered (same-after k r)) = Listed T u v r (chainBytes (T .size) r) before after
 Area T u v before after (answered (different-after k)) = after ≡ before
 Area T u v before after (refused n ps) = after ≡ before
 
@@ -27,16 +27,17 @@ pub record Lists (cells : List ℕ) (size : ℕ) (first second : List ℕ) (budg
   pub lists : (T : Presentation) → Of cells size T → (u v : Positive) → readForward size first ≡ answered u → readForward size second ≡ answered v
       → ListedAs T u v budget (length workspace) before after r
 
--- the area begins with an image that check answers with `joins`, in every workspace of at least the first program's weight in bytes:
+-- the area begins with an image, of so many bytes, that check answers with `joins`, in every workspace of at least the first program's weight in bytes:
 -- under a table that clears no word on the way has more letters
-pub record JoinsChecked (table first second before after : List ℕ) : Type 0 where
+pub record JoinsChecked (table first second : List ℕ) (bytes : ℕ) (before after : List ℕ) : Type 0 where
   pub image : List ℕ
+  pub long : length image ≡ bytes
   pub written : after ≡ begins image before
   pub joined : (T : Presentation) (u v : Positive) → Compares table first second T u v → (room : ℕ) → weigh T u ≤ room
       → check table first second image room ≡ answered joins
 
 -- what is listed passes check
-abbrev pub ListedChecks : List ℕ → List ℕ → List ℕ → List ℕ → List ℕ → Outcome Verdict → Type 0
-ListedChecks table first second before after (answered (same-after k)) = JoinsChecked table first second before after
-ListedChecks table first second before after (answered (different-after k)) = Unit {0}
+abbrev pub ListedChecks : List ℕ → List ℕ → List ℕ → List ℕ → List ℕ → Outcome ChainAnswer → Type 0
+ListedChecks table first second before after (answered (listed-after k many bytes)) = JoinsChecked table first second bytes before after
+ListedChecks table first second before after (answered (unlisted-after k)) = Unit {0}
 ListedChecks table first second before after (refused n ps) = Unit {0}

@@ -1,23 +1,24 @@
 // Chain (specification 6.6): as compare; where the verdict is `same`, a chain of swaps is listed in the answer area.
 ghost use mathlib.Core.Path.{_≡_};
 ghost use lib.ListN.{length};
-ghost use Rattle.model.specs.Services.{chain, listable};
+ghost use Prim.Native.Nat.{_≤_};
+ghost use Rattle.model.specs.Outcome.{mapped};
+ghost use Rattle.model.specs.Services.{chain, listable, chainAnswer, verdictIn};
 ghost use Rattle.model.specs.Areas.{workspaceAfter, ChainArea};
-ghost use Rattle.model.specs.Stated.{compared};
+ghost use Rattle.model.specs.Stated.{compared, chained};
 ghost use Rattle.loading.specs.Loading.{Forward};
 ghost use Rattle.comparing.specs.Compare.{Meaning};
 ghost use Rattle.chaining.specs.Chain.{Lists, ListedChecks};
 use areas::bytes::wipe;
 use cells::layout::CELLS;
 use chains::listing::list;
-use comparing::compare::Judgement;
 use comparing::compare::compare_programs;
-use comparing::compare::told;
 use engine::gap::Gap;
 use entries::entry::chain_bytes;
 use loading::comparison::load_programs;
 use loading::loading::ProgramsRead;
 use loading::loading::read_programs;
+use model::answers::Chained;
 use model::answers::Compared;
 use model::answers::Refusal;
 
@@ -37,10 +38,10 @@ pub fn chain_programs(
     ensures { λ r. ⌜ Lists (now (cells .entry)) size (now (first .entry)) (now (second .entry)) budget (now (workspace .entry)) (now (workspace .exit)) (now (answer .entry)) (now (answer .exit)) r ⌝ }
 {
     let verdict = compare_programs(cells, size, first, m, second, n, budget, workspace);
-    let Judgement::Same { steps, relations } = verdict else {
-        return told(verdict);
+    let Compared::Same { steps, relations } = verdict else {
+        return verdict;
     };
-    if answer.len() < chain_bytes(size, steps) {
+    if answer.len() < chain_bytes(size, relations) {
         return Compared::Refused(Refusal::AnswerShort);
     }
     let left = m as usize;
@@ -55,7 +56,23 @@ pub fn chain_programs(
         answer,
     );
     wipe(workspace);
-    Compared::Same { steps }
+    Compared::Same { steps, relations }
+}
+
+// The answer of chain: what is listed has an entry for each step on two different letters.
+pub fn listed(verdict: Compared, size: u8) -> Chained
+    requires { ⌜ (1 ≤ size) × (size ≤ 16) ⌝ }
+    ensures { λ r. ⌜ chained r ≡ mapped (chainAnswer size) (compared verdict) ⌝ }
+{
+    match verdict {
+        Compared::Same { steps, relations } => Chained::Listed {
+            steps,
+            entries: relations,
+            bytes: chain_bytes(size, relations),
+        },
+        Compared::Different { steps } => Chained::Unlisted { steps },
+        Compared::Refused(refusal) => Chained::Refused(refusal),
+    }
 }
 
 pub fn chain(
@@ -65,27 +82,30 @@ pub fn chain(
     allowance: u16,
     workspace: &mut [u8],
     answer: &mut [u8],
-) -> Compared
-    ensures stated { λ r. ⌜ compared r ≡ chain (now (table .entry)) (now (first .entry)) (now (second .entry)) allowance (length (now (workspace .entry))) (length (now (answer .entry))) ⌝ }
+) -> Chained
+    ensures stated { λ r. ⌜ chained r ≡ chain (now (table .entry)) (now (first .entry)) (now (second .entry)) allowance (length (now (workspace .entry))) (length (now (answer .entry))) ⌝ }
     ensures workspace { λ r. ⌜ now (workspace .exit) ≡ workspaceAfter (chain (now (table .entry)) (now (first .entry)) (now (second .entry)) allowance (length (now (workspace .entry))) (length (now (answer .entry)))) (now (workspace .entry)) ⌝ }
-    ensures area { λ r. ⌜ ChainArea (now (table .entry)) (now (first .entry)) (now (second .entry)) (now (answer .entry)) (now (answer .exit)) (compared r) ⌝ }
-    ensures checks { λ r. ⌜ ListedChecks (now (table .entry)) (now (first .entry)) (now (second .entry)) (now (answer .entry)) (now (answer .exit)) (compared r) ⌝ }
-    ensures meaning { λ r. ⌜ Meaning (now (table .entry)) (now (first .entry)) (now (second .entry)) allowance (length (now (workspace .entry))) (λ T v. listable (T .size) (length (now (answer .entry))) v) (compared r) ⌝ }
+    ensures area { λ r. ⌜ ChainArea (now (table .entry)) (now (first .entry)) (now (second .entry)) (now (answer .entry)) (now (answer .exit)) (chained r) ⌝ }
+    ensures checks { λ r. ⌜ ListedChecks (now (table .entry)) (now (first .entry)) (now (second .entry)) (now (answer .entry)) (now (answer .exit)) (chained r) ⌝ }
+    ensures meaning { λ r. ⌜ Meaning (now (table .entry)) (now (first .entry)) (now (second .entry)) allowance (length (now (workspace .entry))) (λ T v. listable (T .size) (length (now (answer .entry))) v) (mapped verdictIn (chained r)) ⌝ }
 {
     let mut cells = [0u8; CELLS];
     let read = read_programs(table, first, second, &mut cells);
     match read {
-        ProgramsRead::Refused(refusal) => Compared::Refused(refusal),
-        ProgramsRead::Programs { size, m, n } => chain_programs(
-            &cells,
-            size,
-            first,
-            m,
-            second,
-            n,
-            allowance,
-            workspace,
-            answer,
-        ),
+        ProgramsRead::Refused(refusal) => Chained::Refused(refusal),
+        ProgramsRead::Programs { size, m, n } => {
+            let verdict = chain_programs(
+                &cells,
+                size,
+                first,
+                m,
+                second,
+                n,
+                allowance,
+                workspace,
+                answer,
+            );
+            listed(verdict, size)
+        }
     }
 }

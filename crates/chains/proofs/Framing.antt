@@ -205,17 +205,20 @@ module _ (n total : ℕ) (area answer : List ℕ) (entries : List Entry) (h : La
   unfolding image chainImage
   image-is = ap (λ k. pack (digits 16 k ++ concatMap (entryBits n) entries)) (sym all)
 
-  pub framed : AreBytes answer → AreBytes area → answer ≡ begins (chainImage n entries) area
+  first : AreBytes answer → take (chainBytes n total) answer ≡ chainImage n entries
   unfolding image
-  framed ba bb =
-      let first : take (chainBytes n total) answer ≡ chainImage n entries =
+  first ba =
       packed-of (take (chainBytes n total) answer) image zeros (bytes-take (chainBytes n total) answer ba)
       (bits-append (digits 16 total) (concatMap (entryBits n) entries) (digits-are-bits 16 total) (entries-are-bits n entries)) front zeros-fill
-      ∙ image-is in
+      ∙ image-is
+
+  pub image-long : AreBytes answer → length (chainImage n entries) ≡ chainBytes n total
+  image-long ba = sym (ap length (first ba)) ∙ length-take-le (chainBytes n total) answer fits
+
+  pub framed : AreBytes answer → AreBytes area → answer ≡ begins (chainImage n entries) area
+  framed ba bb =
       let last : drop (chainBytes n total) answer ≡ drop (chainBytes n total) area =
       bits-injective (drop (chainBytes n total) answer) (drop (chainBytes n total) area) (bytes-drop (chainBytes n total) answer ba)
       (bytes-drop (chainBytes n total) area bb) back in
-      let long : chainBytes n total ≡ length (chainImage n entries) =
-      sym (length-take-le (chainBytes n total) answer fits) ∙ ap length first in
       sym (take-append-drop (chainBytes n total) answer)
-      ∙ (ap₂ (λ x y. x ++ y) first last ∙ ap (λ k. chainImage n entries ++ drop k area) long)
+      ∙ (ap₂ (λ x y. x ++ y) (first ba) last ∙ ap (λ k. chainImage n entries ++ drop k area) (sym (image-long ba)))

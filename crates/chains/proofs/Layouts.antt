@@ -39,13 +39,6 @@ image-end n total = up (entryPosition n total)
     up : (bits : ℕ) → bits ≤ 8 * bytesFor bits
     up bits = omega arith
 
--- room for as many entries as steps is room for fewer
-pub room-for-fewer : (n : ℕ) {few many : ℕ} → few ≤ many → chainBytes n few ≤ chainBytes n many
-room-for-fewer n {few} {many} h = up (few * entryWidth n) (many * entryWidth n) (mul-le-mul-right (entryWidth n) h)
-  where
-    up : (i j : ℕ) → i ≤ j → bytesFor (16 + i) ≤ bytesFor (16 + j)
-    up i j h = omega arith
-
 pub slot-fits : (n total : ℕ) (answer : List ℕ) → chainBytes n total ≤ length answer → (index : ℕ) → index < total → entryPosition n index + entryWidth n ≤ 8 * length answer
 slot-fits n total answer room index h =
     let m : suc index * entryWidth n ≤ total * entryWidth n = mul-le-mul-right (entryWidth n) (omega arith) in

@@ -8,9 +8,8 @@ use lib.Seq.{take-at, drop-at, length-take-le}
 use Rattle.model.specs.Word.{Positive, positive, negative}
 use Rattle.model.specs.Presentation.{Presentation}
 use Rattle.model.specs.Images.{chainImage}
+use Rattle.model.specs.Services.{chainBytes}
 use Rattle.model.specs.Areas.{begins}
-use Rattle.model.proofs.Leftmost.{counted-within}
-use Rattle.model.proofs.Endings.{reversing-finishes}
 use Rattle.engine.specs.Gap.{letters, wordAt}
 use Rattle.engine.proofs.Letters.{letters-append, length-letters}
 use Rattle.engine.proofs.Lettering.{length-negative}
@@ -24,7 +23,7 @@ use Rattle.chains.proofs.Parts.{empty-of}
 use Rattle.chains.proofs.Restated.{course-of, layout-of, passed-of}
 use Rattle.chains.proofs.Courses.{over, taken-of-second, entries-fit}
 use Rattle.chains.proofs.Rests.{next-letter, none-next}
-use Rattle.chains.proofs.Framing.{framed}
+use Rattle.chains.proofs.Framing.{framed, image-long}
 
 module _ {t : Task} {cells : List ℕ} {size total : ℕ} {bytes answer : List ℕ} {at : Progress} (s : Situation t cells size total [] bytes answer at)
     (bottom : at .stacked ≤ 0) where
@@ -156,12 +155,15 @@ module _ {cells : List ℕ} {size : ℕ} {bytes : List ℕ} {left right relation
             };
       }
 
-  pub chained : {answer : List ℕ} → AreBytes answer → AreBytes area → Complete task size relations answer → Chained T u v steps area answer
+  pub chained : {answer : List ℕ} → AreBytes answer → AreBytes area → Complete task size relations answer → Chained T u v relations area answer
   chained {answer} ba bb c =
       record {
         entries = c .entries;
         leads = c .leads;
-        few = omega (arith, c .number, counted-within (reversing-finishes T (h .budget) (length bytes) (negative u ++ positive v) [] [] steps relations (h .same)));
+        counted = c .number;
+        long =
+            subst (λ n. length (chainImage n (c .entries)) ≡ chainBytes n relations) (h .size-is)
+            (image-long size relations area answer (c .entries) (c .layout) (c .number) (settled .room) ba);
         written =
             subst (λ n. answer ≡ begins (chainImage n (c .entries)) area) (h .size-is)
             (framed size relations area answer (c .entries) (c .layout) (c .number) (settled .room) ba bb);

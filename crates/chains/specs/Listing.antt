@@ -36,11 +36,12 @@ abbrev pub Listable : List ℕ → ℕ → List ℕ → ℕ → ℕ → ℕ → 
 Listable cells size bytes left right relations room =
     (T : Presentation) × (u v : Positive) × (steps : ℕ) × Compared cells size bytes left right relations room T u v steps
 
--- the area begins with the image of a chain from u to v, all of whose entries an image can hold
-pub record Chained (T : Presentation) (u v : Positive) (steps : ℕ) (before after : List ℕ) : Type 0 where
+-- the area begins with the image of a chain of so many entries from u to v, each of which an image can hold
+pub record Chained (T : Presentation) (u v : Positive) (many : ℕ) (before after : List ℕ) : Type 0 where
   pub entries : List Entry
   pub leads : Leads T u entries v
-  pub few : length entries ≤ steps
+  pub counted : length entries ≡ many
+  pub long : length (chainImage (T .size) entries) ≡ chainBytes (T .size) many
   pub written : after ≡ begins (chainImage (T .size) entries) before
   pub short : length entries < 65536
   pub fit : All (EntryInRange (T .size)) entries
@@ -49,4 +50,4 @@ pub record Chained (T : Presentation) (u v : Positive) (steps : ℕ) (before aft
 abbrev pub ListMeans : List ℕ → ℕ → List ℕ → ℕ → ℕ → ℕ → List ℕ → List ℕ → Type 0
 ListMeans cells size bytes left right relations before after =
     (T : Presentation) (u v : Positive) (steps : ℕ) → Compared cells size bytes left right relations (length before) T u v steps
-    → Chained T u v steps before after
+    → Chained T u v relations before after

@@ -24,9 +24,9 @@ use Rattle.theory.specs.Verdicts.{DemandThree}
 use Rattle.theory.proofs.Verdicts.{demand-three}
 use Rattle.engine.specs.Run.{Reverses}
 use Rattle.loading.specs.Loading.{Images, readPrograms}
-use Rattle.comparing.specs.Compare.{judgement, judgementAs, toldAs, EndedIf, Judged, Meaning}
-use Rattle.comparing.specs.declared.compare.Judgement.{Judgement}
-use Rattle.comparing.specs.declared.compare.Judgement.the-variants.{Same, Different, Refused}
+use Rattle.comparing.specs.Compare.{judgement, EndedIf, Judged, Meaning}
+use Rattle.model.specs.declared.answers.Compared.{Compared}
+use Rattle.model.specs.declared.answers.Compared.the-variants.{Same, Different, Refused}
 use Rattle.loading.proofs.Outcomes.{AsFound, still-refused, goes-on}
 use Rattle.loading.proofs.Reading.{programs-refused, programs-run}
 
@@ -48,10 +48,10 @@ module _ (n d k r : ℕ) where
     judged-same z = only-under ∙ ap (λ t. cond t (Same k r) (Different k)) (eq-eqb d 0 z)
 
 -- what is judged of each ending: a verdict `same` is that of an empty word, and any other is `different` or a stop
-judgement-states : (e : Ending) → judgementAs (judgement (endingAnswer e)) ≡ verdictOf e
+judgement-states : (e : Ending) → compared (judgement (endingAnswer e)) ≡ verdictOf e
 judgement-states (finished [] [] k r) = refl
-judgement-states (finished [] (x ∷ d) k r) = ap judgementAs (judged-under 0 (suc (length d)) k r refl (λ e. omega arith))
-judgement-states (finished (x ∷ n) d k r) = ap judgementAs (judged-over (suc (length n)) (length d) k r (λ e. omega arith))
+judgement-states (finished [] (x ∷ d) k r) = ap compared (judged-under 0 (suc (length d)) k r refl (λ e. omega arith))
+judgement-states (finished (x ∷ n) d k r) = ap compared (judged-over (suc (length n)) (length d) k r (λ e. omega arith))
 judgement-states (open-pair a b k) = refl
 judgement-states (stopped budget) = refl
 judgement-states (stopped room) = refl
@@ -94,23 +94,23 @@ module _ (T : Presentation) (u v : Positive) (steps width : ℕ) where
         let a : e ≡ endingAnswer end = p .answer ∙ ap (λ i. endingAnswer (reversing T steps i (negative u ++ positive v))) n in
         record {
           verdict =
-              ap (λ x. judgementAs (judgement x)) a
+              ap (λ x. compared (judgement x)) a
               ∙ (judgement-states end
               ∙ sym (after-clear ∙ ap (λ t. cond t (verdictOf end) (answered (different-after 0))) (eq-eqb (weigh T u) (weigh T v) h)));
           ended = if-same (judgement e) (sym (ap judgement a));
         }
       where
-        if-same : (j : Judgement) → judgement (endingAnswer (reversing T steps width (negative u ++ positive v))) ≡ j → EndedIf T u v steps width j
+        if-same : (j : Compared) → judgement (endingAnswer (reversing T steps width (negative u ++ positive v))) ≡ j → EndedIf T u v steps width j
         if-same (Same k r) q =
             record { clear = sym clear; same-weight = h; empty = judged-empty (reversing T steps width (negative u ++ positive v)) k r q }
         if-same (Different k) q = tt
         if-same (Refused r) q = tt
 
 -- after any verdict of a reversing the workspace is all zero
-pub judged-wipe : (e : EndingAnswer) (area : List ℕ) → workspaceAfter (judgementAs (judgement e)) area ≡ replicate (length area) 0
+pub judged-wipe : (e : EndingAnswer) (area : List ℕ) → workspaceAfter (compared (judgement e)) area ≡ replicate (length area) 0
 judged-wipe (Finished n d k r) area = by-tests (eqb n 0) (eqb d 0)
   where
-    by-tests : (s t : Bool) → workspaceAfter (judgementAs (cond s (cond t (Same k r) (Different k)) (Different k))) area ≡ replicate (length area) 0
+    by-tests : (s t : Bool) → workspaceAfter (compared (cond s (cond t (Same k r) (Different k)) (Different k))) area ≡ replicate (length area) 0
     by-tests true true = refl
     by-tests true false = refl
     by-tests false t = refl
@@ -135,8 +135,3 @@ module _ (table first second : List ℕ) (steps width : ℕ) where
   -- what a verdict means, of the outcome
   pub compare-means : (o : Outcome Verdict) → o ≡ compare table first second steps width → Meaning table first second steps width (λ T v. answered v) o
   compare-means o e T u v c = subst (DemandThree T u v steps width answered) (sym (e ∙ compare-runs T u v c)) (demand-three T u v steps width)
-
-pub told-states : (j : Judgement) → compared (toldAs j) ≡ judgementAs j
-told-states (Same k r) = refl
-told-states (Different k) = refl
-told-states (Refused r) = refl

@@ -10,34 +10,21 @@ use Rattle.model.specs.Presentation.{Presentation, weigh}
 use Rattle.model.specs.Reversing.{finished, reversing}
 use Rattle.model.specs.Outcome.{Outcome, answered}
 use Rattle.model.specs.Checks.{cleared}
-use Rattle.model.specs.Services.{Verdict, same-after, different-after, readForward, comparison}
+use Rattle.model.specs.Services.{Verdict, readForward, comparison}
 use Rattle.model.specs.Areas.{Compares, workspaceAfter}
-use Rattle.model.specs.Stated.{refusal}
 use Rattle.model.specs.declared.answers.Ending.{Ending}
 use Rattle.model.specs.declared.answers.Ending.the-variants.{Finished, Undefined, Stopped}
 use Rattle.model.specs.declared.answers.Compared.{Compared}
-use Rattle.model.specs.declared.answers.Compared.the-variants.{Same as SameAnswer, Different as DifferentAnswer, Refused as RefusedAnswer}
+use Rattle.model.specs.declared.answers.Compared.the-variants.{Same, Different, Refused}
 use Rattle.theory.specs.Verdicts.{DemandThree}
 use Rattle.cells.specs.Stands.{Of}
-use Rattle.model.specs.Stated.{stopRefusal}
-use Rattle.comparing.specs.declared.compare.Judgement.{Judgement}
-use Rattle.comparing.specs.declared.compare.Judgement.the-variants.{Same, Different, Refused}
+use Rattle.model.specs.Stated.{stopRefusal, compared}
 
 -- what an ending is judged, told in numbers
-abbrev pub judgement : Ending → Judgement
+abbrev pub judgement : Ending → Compared
 judgement (Finished n d k r) = cond (eqb n 0) (cond (eqb d 0) (Same k r) (Different k)) (Different k)
 judgement (Undefined p k) = Different k
 judgement (Stopped s) = Refused (stopRefusal s)
-
-abbrev pub toldAs : Judgement → Compared
-toldAs (Same k r) = SameAnswer k
-toldAs (Different k) = DifferentAnswer k
-toldAs (Refused r) = RefusedAnswer r
-
-abbrev pub judgementAs : Judgement → Outcome Verdict
-judgementAs (Same k r) = answered (same-after k)
-judgementAs (Different k) = answered (different-after k)
-judgementAs (Refused r) = refusal r
 
 -- a verdict `same` comes from a reversing that ended empty, after a table that cleared
 pub record Ended (T : Presentation) (u v : Positive) (budget width k r : ℕ) : Type 0 where
@@ -45,17 +32,17 @@ pub record Ended (T : Presentation) (u v : Positive) (budget width k r : ℕ) : 
   pub same-weight : weigh T u ≡ weigh T v
   pub empty : reversing T budget width (negative u ++ positive v) ≡ finished [] [] k r
 
-abbrev pub EndedIf : Presentation → Positive → Positive → ℕ → ℕ → Judgement → Type 0
+abbrev pub EndedIf : Presentation → Positive → Positive → ℕ → ℕ → Compared → Type 0
 EndedIf T u v budget width (Same k r) = Ended T u v budget width k r
 EndedIf T u v budget width (Different k) = Unit {0}
 EndedIf T u v budget width (Refused r) = Unit {0}
 
-pub record Judged (T : Presentation) (u v : Positive) (budget width : ℕ) (r : Judgement) : Type 0 where
-  pub verdict : judgementAs r ≡ comparison T u v budget width
+pub record Judged (T : Presentation) (u v : Positive) (budget width : ℕ) (r : Compared) : Type 0 where
+  pub verdict : compared r ≡ comparison T u v budget width
   pub ended : EndedIf T u v budget width r
 
-pub record Judges (cells : List ℕ) (size : ℕ) (first second : List ℕ) (budget : ℕ) (before after : List ℕ) (r : Judgement) : Type 0 where
-  pub workspace : after ≡ workspaceAfter (judgementAs r) before
+pub record Judges (cells : List ℕ) (size : ℕ) (first second : List ℕ) (budget : ℕ) (before after : List ℕ) (r : Compared) : Type 0 where
+  pub workspace : after ≡ workspaceAfter (compared r) before
   pub judged : (T : Presentation) → Of cells size T → (u v : Positive) → readForward size first ≡ answered u → readForward size second ≡ answered v
       → Judged T u v budget (length before) r
 

@@ -6,7 +6,7 @@ ghost use Rattle.model.specs.Services.{compare};
 ghost use Rattle.model.specs.Areas.{workspaceAfter};
 ghost use Rattle.model.specs.Stated.{compared};
 ghost use Rattle.loading.specs.Loading.{Forward};
-ghost use Rattle.comparing.specs.Compare.{judgement, toldAs, Judges, Meaning};
+ghost use Rattle.comparing.specs.Compare.{judgement, Judges, Meaning};
 use areas::bytes::wipe;
 use cells::layout::CELLS;
 use clearing::clear::clear_cells;
@@ -17,18 +17,10 @@ use loading::weighing::program_weight;
 use model::answers::Cleared;
 use model::answers::Compared;
 use model::answers::Ending;
-use model::answers::Refusal;
 use model::stops::stop_refusal;
 
-// A verdict; `relations` counts the steps on two different letters.
-pub enum Judgement {
-    Same { steps: u16, relations: u16 },
-    Different { steps: u16 },
-    Refused(Refusal),
-}
-
 // What a comparison makes of an ending.
-pub fn judge(ending: Ending) -> Judgement
+pub fn judge(ending: Ending) -> Compared
     ensures { λ r. ⌜ r ≡ judgement ending ⌝ }
 {
     match ending {
@@ -39,15 +31,15 @@ pub fn judge(ending: Ending) -> Judgement
             relations,
         } => {
             if numerator != 0 {
-                return Judgement::Different { steps };
+                return Compared::Different { steps };
             }
             if denominator != 0 {
-                return Judgement::Different { steps };
+                return Compared::Different { steps };
             }
-            Judgement::Same { steps, relations }
+            Compared::Same { steps, relations }
         }
-        Ending::Undefined { pair: _, steps } => Judgement::Different { steps },
-        Ending::Stopped(stop) => Judgement::Refused(stop_refusal(stop)),
+        Ending::Undefined { pair: _, steps } => Compared::Different { steps },
+        Ending::Stopped(stop) => Compared::Refused(stop_refusal(stop)),
     }
 }
 
@@ -61,37 +53,23 @@ pub fn compare_programs(
     n: u16,
     budget: u16,
     workspace: &mut [u8],
-) -> Judgement
+) -> Compared
     requires { ⌜ Forward (now cells) size (now first) m (now second) n ⌝ }
     ensures { λ r. ⌜ Judges (now (cells .entry)) size (now (first .entry)) (now (second .entry)) budget (now (workspace .entry)) (now (workspace .exit)) r ⌝ }
 {
     let clear = clear_cells(cells, size, budget, workspace);
     match clear {
-        Cleared::Refused(refusal) => Judgement::Refused(refusal),
+        Cleared::Refused(refusal) => Compared::Refused(refusal),
         Cleared::Passed => {
             let one = program_weight(cells, size, first, m);
             let two = program_weight(cells, size, second, n);
             if one != two {
-                return Judgement::Different { steps: 0 };
+                return Compared::Different { steps: 0 };
             }
             let ending = run_programs(cells, size, first, m, second, n, budget, workspace);
             wipe(workspace);
             judge(ending)
         }
-    }
-}
-
-// The answer that a judgement is.
-pub fn told(judgement: Judgement) -> Compared
-    ensures { λ r. ⌜ r ≡ toldAs judgement ⌝ }
-{
-    match judgement {
-        Judgement::Same {
-            steps,
-            relations: _,
-        } => Compared::Same { steps },
-        Judgement::Different { steps } => Compared::Different { steps },
-        Judgement::Refused(refusal) => Compared::Refused(refusal),
     }
 }
 
@@ -110,7 +88,7 @@ pub fn compare(
     let read = read_programs(table, first, second, &mut cells);
     match read {
         ProgramsRead::Refused(refusal) => Compared::Refused(refusal),
-        ProgramsRead::Programs { size, m, n } => told(compare_programs(
+        ProgramsRead::Programs { size, m, n } => compare_programs(
             &cells,
             size,
             first,
@@ -119,6 +97,6 @@ pub fn compare(
             n,
             allowance,
             workspace,
-        )),
+        ),
     }
 }

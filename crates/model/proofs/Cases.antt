@@ -13,7 +13,7 @@ use Rattle.model.specs.Outcome.{unplaced, pair-of, triple-of, answered, 
 use Rattle.model.specs.Bits.{field, finish}
 use Rattle.model.specs.Images.{readTable, readProgram, readChain, tableImage, programImage, chainImage}
 use Rattle.model.specs.Plain.{plainTable, readPlainTable, readPlainProgram}
-use Rattle.model.specs.Services.{Fraction, reverse, clear, readForward, compare, comparison, chain, check, followed, packTable, unpackTable, packProgram, unpackProgram, same-after, different-after, remainder, quotient, moves-after, none-after, joins, breaks, ends-elsewhere}
+use Rattle.model.specs.Services.{Fraction, reverse, clear, readForward, compare, comparison, chain, check, followed, packTable, unpackTable, packProgram, unpackProgram, same-after, different-after, listed-after, unlisted-after, remainder, quotient, moves-after, none-after, joins, breaks, ends-elsewhere}
 use Rattle.model.specs.Areas.{fractionBytes, remainderBytes, outputAfter, workspaceAfter}
 use Rattle.model.proofs.Case.{Case, _gives_, All}
 use Rattle.model.proofs.Samples.{braid1, open2, three, broken3, two, unequal2, heavy2, endless3, image, log, pattern, braidBytes, firstBytes}
@@ -189,14 +189,19 @@ comparisons =
     -- 11 and 12 of the programs come with no numbers
     (compare (image braid1) (pattern 1 (1 ∷ [])) (pattern 1 (1 ∷ [])) 0 2 gives refused 11 unplaced) ∷
     (compare (image braid1) (pattern 1 (1 ∷ [])) (pattern 1 (1 ∷ [])) 1 1 gives refused 12 unplaced) ∷
-    (compare (image braid1) (pattern 1 (1 ∷ [])) (pattern 1 (1 ∷ [])) 1 2 gives answered (same-after 1)) ∷
-    -- 13: room for an entry for each step is asked for, 5 entries of 19 bits and the count
-    (chain braidBytes (pattern 3 (1 ∷ 2 ∷ 1 ∷ [])) (pattern 3 (2 ∷ 1 ∷ 2 ∷ [])) 65535 32768 14 gives answered (same-after 5)) ∷
-    (chain braidBytes (pattern 3 (1 ∷ 2 ∷ 1 ∷ [])) (pattern 3 (2 ∷ 1 ∷ 2 ∷ [])) 65535 32768 13 gives refused 13 unplaced) ∷
+    (compare (image braid1) (pattern 1 (1 ∷ [])) (pattern 1 (1 ∷ [])) 1 2 gives answered (same-after 1 0)) ∷
+    -- 13: of the 5 steps one is on two different letters, so that the image has the count and one entry of 19 bits
+    (chain braidBytes (pattern 3 (1 ∷ 2 ∷ 1 ∷ [])) (pattern 3 (2 ∷ 1 ∷ 2 ∷ [])) 65535 32768 5 gives answered (listed-after 5 1 5)) ∷
+    (chain braidBytes (pattern 3 (1 ∷ 2 ∷ 1 ∷ [])) (pattern 3 (2 ∷ 1 ∷ 2 ∷ [])) 65535 32768 4 gives refused 13 unplaced) ∷
+    -- steps that all vanish give a chain of no entry: the count alone
+    (chain (image braid1) (pattern 1 (1 ∷ [])) (pattern 1 (1 ∷ [])) 1 2 2 gives answered (listed-after 1 0 2)) ∷
+    (chain (image braid1) (pattern 1 (1 ∷ [])) (pattern 1 (1 ∷ [])) 1 2 1 gives refused 13 unplaced) ∷
+    -- a step on two different letters counts, also where nothing is put in their place
+    (chain (image (record { size = 2; excess = 0 ∷ 0 ∷ []; rows = (complement [] [] ∷ []) ∷ [] ∷ [] })) (pattern 2 (1 ∷ [])) (pattern 2 (2 ∷ [])) 1 2 5 gives answered (listed-after 1 1 5)) ∷
     -- 13 comes only after same
-    (chain braidBytes (pattern 3 (1 ∷ [])) (pattern 3 (2 ∷ [])) 65535 32768 0 gives answered (different-after 1)) ∷
+    (chain braidBytes (pattern 3 (1 ∷ [])) (pattern 3 (2 ∷ [])) 65535 32768 0 gives answered (unlisted-after 1)) ∷
     -- programs of equal weight and unequal length are reversed, those of unequal weight and equal length are not
-    (compare (image heavy2) (pattern 2 (1 ∷ 2 ∷ 1 ∷ [])) (pattern 2 (2 ∷ 2 ∷ [])) 65535 32768 gives answered (same-after 4)) ∷
+    (compare (image heavy2) (pattern 2 (1 ∷ 2 ∷ 1 ∷ [])) (pattern 2 (2 ∷ 2 ∷ [])) 65535 32768 gives answered (same-after 4 1)) ∷
     (compare (image heavy2) (pattern 2 (1 ∷ [])) (pattern 2 (2 ∷ [])) 65535 32768 gives answered (different-after 0)) ∷
     -- the sides are weighed whole, with their first letters
     (clear (image heavy2) 65535 32768 gives answered tt) ∷
@@ -308,7 +313,7 @@ further-holds =
       triples-hold = (refl, (refl, (refl, (refl, (refl, (refl, (refl, (refl, (refl, (refl, (refl, (refl, (refl, (refl, (refl, (refl, (refl, tt)))))))))))))))));
       tables-hold = (refl, (refl, (refl, (refl, (refl, (refl, (refl, (refl, (refl, (refl, (refl, (refl, (refl, (refl, (refl, (refl, (refl, (refl, (refl, (refl, (refl, (refl, (refl, (refl, (refl, (refl, (refl, (refl, (refl, (refl, (refl, (refl, (refl, (refl, tt))))))))))))))))))))))))))))))))));
       programs-hold = (refl, (refl, (refl, (refl, (refl, (refl, (refl, (refl, (refl, (refl, (refl, (refl, (refl, (refl, (refl, (refl, (refl, (refl, (refl, (refl, (refl, (refl, (refl, (refl, tt))))))))))))))))))))))));
-      comparisons-hold = (refl, (refl, (refl, (refl, (refl, (refl, (refl, (refl, (refl, (refl, (refl, (refl, (refl, tt)))))))))))));
+      comparisons-hold = (refl, (refl, (refl, (refl, (refl, (refl, (refl, (refl, (refl, (refl, (refl, (refl, (refl, (refl, (refl, (refl, tt))))))))))))))));
       remainders-hold = (refl, (refl, (refl, (refl, (refl, (refl, (refl, (refl, (refl, (refl, (refl, (refl, (refl, (refl, (refl, (refl, (refl, (refl, (refl, (refl, (refl, (refl, (refl, (refl, (refl, (refl, tt))))))))))))))))))))))))));
       chains-hold = (refl, (refl, (refl, (refl, (refl, (refl, (refl, (refl, (refl, (refl, (refl, (refl, (refl, (refl, (refl, (refl, (refl, (refl, (refl, (refl, tt))))))))))))))))))));
       areas-hold = (refl, (refl, (refl, (refl, (refl, (refl, (refl, (refl, tt))))))));

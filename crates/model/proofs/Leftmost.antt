@@ -7,15 +7,10 @@ use Prim.Native.Nat.{ℕ, suc, _+_, _≤_}
 use native.Mathlib.Omega.{arith}
 use Rattle.model.specs.Word.{Word, Positive, positive, negative}
 use Rattle.model.specs.Presentation.{Presentation, undefined, complement, complete}
-use Rattle.model.specs.Reversing.{nowhere, at, site, replaced, count, Leftmost}
+use Rattle.model.specs.Reversing.{nowhere, at, site, replaced, count, Leftmost, differing}
 use Rattle.model.proofs.Count.{count-add, count-within}
 use Rattle.model.proofs.Impossible.{impossible}
 use Rattle.model.proofs.Words.{fraction-nowhere}
-
--- the steps of a run that are on two different letters
-abbrev pub differing : {T : Presentation} {w w′ : Word} {k : ℕ} → Leftmost T w w′ k → ℕ
-differing Leftmost.stay = 0
-differing (Leftmost.go {a} {b} e c l) = count a b (differing l)
 
 pub record Counted (T : Presentation) (w w′ : Word) (k r : ℕ) : Type 0 where
   pub run : Leftmost T w w′ k

@@ -78,7 +78,7 @@ leftReverses =
     (leftReverse braidBytes (log 3 (forward 1 ∷ back 2 ∷ [])) 1 3 4 gives refused 12 unplaced) ∷
     -- the program of case 1 read backward comes to the words of case 1 read backward
     (leftReverse braidBytes (log 3 (forward 2 ∷ forward 1 ∷ back 2 ∷ forward 1 ∷ back 3 ∷ [])) 65535 32768 32768
-        gives answered (record { numerator = 3 ∷ 2 ∷ 1 ∷ 1 ∷ []; denominator = 2 ∷ 3 ∷ 1 ∷ []; steps = 5 })) ∷
+    gives answered (record { numerator = 3 ∷ 2 ∷ 1 ∷ 1 ∷ []; denominator = 2 ∷ 3 ∷ 1 ∷ []; steps = 5 })) ∷
     (leftReverse (image open2) (log 2 (forward 1 ∷ back 2 ∷ [])) 0 2 0 gives refused 10 (pair-of 2 1)) ∷
     -- 16 comes after the program's tests, and also where no relation is needed
     (leftReverse (image broken3) (log 3 []) 0 0 0 gives refused 16 (pair-of 2 3)) ∷

@@ -29,13 +29,13 @@ sheet =
     (reverse braidBytes (log 3 second) 65535 32768 32768 gives
     answered (record { numerator = 1 ∷ 2 ∷ 3 ∷ []; denominator = 2 ∷ 1 ∷ []; steps = 7 })) ∷
     -- case 15, and case 24 in a workspace of 32,768 bytes
-    (compare braidBytes (pattern 3 (1 ∷ 2 ∷ 1 ∷ [])) (pattern 3 (2 ∷ 1 ∷ 2 ∷ [])) 65535 32768 gives answered (same-after 5)) ∷
+    (compare braidBytes (pattern 3 (1 ∷ 2 ∷ 1 ∷ [])) (pattern 3 (2 ∷ 1 ∷ 2 ∷ [])) 65535 32768 gives answered (same-after 5 1)) ∷
     (check braidBytes (pattern 3 (1 ∷ 2 ∷ 1 ∷ [])) (pattern 3 (2 ∷ 1 ∷ 2 ∷ [])) (chainImage 3 (record { offset = 0; a = 1; b = 2 } ∷ []))
     32768 gives answered joins) ∷
     -- case 16, 1 and 2
     (compare braidBytes (pattern 3 (1 ∷ [])) (pattern 3 (2 ∷ [])) 65535 32768 gives answered (different-after 1)) ∷
     -- case 17
-    (compare (image braid1) (pattern 1 []) (pattern 1 []) 65535 0 gives answered (same-after 0)) ∷
+    (compare (image braid1) (pattern 1 []) (pattern 1 []) 65535 0 gives answered (same-after 0 0)) ∷
     -- case 9, -1 2; and case 18
     (reverse (image open2) (log 2 (back 1 ∷ forward 2 ∷ [])) 65535 32768 32768 gives refused 10 (pair-of 1 2)) ∷
     (compare (image open2) (pattern 2 (1 ∷ [])) (pattern 2 (2 ∷ [])) 65535 32768 gives answered (different-after 0)) ∷

@@ -2,7 +2,7 @@
 use mathlib.Core.List.{List, [], _++_}
 use mathlib.Core.Bool.{Bool, _||_, cond}
 use mathlib.Core.Path.{_≡_}
-use Prim.Native.Nat.{ℕ, _+_, _≤_}
+use Prim.Native.Nat.{ℕ, _+_}
 use lib.Dec.{leb, eqb}
 use lib.ListN.{length, take, drop, replicate}
 use Rattle.model.specs.Word.{Positive}
@@ -10,7 +10,7 @@ use Rattle.model.specs.Presentation.{Presentation}
 use Rattle.model.specs.Equivalence.{Entry, Leads}
 use Rattle.model.specs.Outcome.{Outcome, answered, refused}
 use Rattle.model.specs.Images.{readTable, readChain, chainImage}
-use Rattle.model.specs.Services.{Fraction, Verdict, same-after, different-after, Remainder, moves-after, none-after, readForward}
+use Rattle.model.specs.Services.{Fraction, ChainAnswer, listed-after, unlisted-after, Remainder, moves-after, none-after, readForward}
 
 -- an area with bytes put from a place on, and as it was before and after them
 abbrev pub written : List ℕ → ℕ → List ℕ → List ℕ
@@ -48,12 +48,13 @@ abbrev pub workspaceAfter : {A : Type 0} → Outcome A → List ℕ → List ℕ
 workspaceAfter (answered x) area = replicate (length area) 0
 workspaceAfter (refused n place) area = cond (beforeWork n) area (replicate (length area) 0)
 
--- 6.6, which LEAVES OPEN which chain is listed: one that leads from u to v, with no more entries than there were steps. The area begins with
--- its image, which reads back as these entries.
-pub record Listed (T : Presentation) (u v : Positive) (steps : ℕ) (before after : List ℕ) : Type 0 where
+-- 6.6, which LEAVES OPEN which chain is listed: one of so many entries that leads from u to v. The area begins with its image, of so many bytes, which
+-- reads back as these entries.
+pub record Listed (T : Presentation) (u v : Positive) (many bytes : ℕ) (before after : List ℕ) : Type 0 where
   pub entries : List Entry
   pub leads : Leads T u entries v
-  pub few : length entries ≤ steps
+  pub counted : length entries ≡ many
+  pub long : length (chainImage (T .size) entries) ≡ bytes
   pub written : after ≡ begins (chainImage (T .size) entries) before
   pub readable : readChain (T .size) (chainImage (T .size) entries) ≡ answered entries
 
@@ -64,8 +65,8 @@ pub record Compares (table first second : List ℕ) (T : Presentation) (u v : Po
   pub second-read : readForward (T .size) second ≡ answered v
 
 -- 6.6: the answer area of chain: after same a listed chain, else as it was
-abbrev pub ChainArea : List ℕ → List ℕ → List ℕ → List ℕ → List ℕ → Outcome Verdict → Type 0
-ChainArea table first second before after (answered (same-after k)) =
-    (T : Presentation) × (u v : Positive) × Compares table first second T u v × Listed T u v k before after
-ChainArea table first second before after (answered (different-after k)) = after ≡ before
+abbrev pub ChainArea : List ℕ → List ℕ → List ℕ → List ℕ → List ℕ → Outcome ChainAnswer → Type 0
+ChainArea table first second before after (answered (listed-after k many bytes)) =
+    (T : Presentation) × (u v : Positive) × Compares table first second T u v × Listed T u v many bytes before after
+ChainArea table first second before after (answered (unlisted-after k)) = after ≡ before
 ChainArea table first second before after (refused n place) = after ≡ before

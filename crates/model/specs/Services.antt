@@ -12,7 +12,7 @@ use Rattle.model.specs.Equivalence.{Entry, applied, equal}
 use Rattle.model.specs.Enumeration.{pairs, triples}
 use Rattle.model.specs.Checks.{weightCheck, stopNumber, cubeCheck, cleared}
 use Rattle.model.specs.Mirror.{mirror, mirrorCheck, leftReversing}
-use Rattle.model.specs.Outcome.{Place, unplaced, pair-of, triple-of, mirror-triple-of, Outcome, answered, refused, _>>=_, unless}
+use Rattle.model.specs.Outcome.{Place, unplaced, pair-of, triple-of, mirror-triple-of, Outcome, answered, refused, _>>=_, unless, mapped}
 use Rattle.model.specs.Bits.{bytesFor}
 use Rattle.model.specs.Images.{entryPosition, readTable, readProgram, readChain, tableImage, programImage}
 use Rattle.model.specs.Plain.{plainTable, plainProgram, readPlainTable, readPlainProgram}
@@ -89,20 +89,20 @@ isForward (back a ∷ w) = false
 unfoldable pub readForward : ℕ → List ℕ → Outcome Positive
 readForward n bytes = readProgram n bytes >>= λ w. unless (not (isForward w)) 7 (forwards w)
 
--- 6.4: a verdict, with the steps
+-- 6.4: a verdict, with the steps; same also with how many of them were on two different letters
 pub data Verdict : Type 0 where
-  same-after : ℕ → Verdict
+  same-after : ℕ → ℕ → Verdict
   different-after : ℕ → Verdict
 
 -- 6.4: same if N and D are empty, else different
-abbrev pub judged : Positive → Positive → ℕ → Verdict
-judged [] [] k = same-after k
-judged [] (x ∷ d) k = different-after k
-judged (x ∷ n) d k = different-after k
+abbrev pub judged : Positive → Positive → ℕ → ℕ → Verdict
+judged [] [] k r = same-after k r
+judged [] (x ∷ d) k r = different-after k
+judged (x ∷ n) d k r = different-after k
 
 -- 6.4: what an ending comes to; after an open pair different
 abbrev pub verdictOf : Ending → Outcome Verdict
-verdictOf (finished n d k r) = answered (judged n d k)
+verdictOf (finished n d k r) = answered (judged n d k r)
 verdictOf (open-pair a b k) = answered (different-after k)
 verdictOf (stopped s) = refused (stopNumber s) unplaced
 
@@ -126,18 +126,32 @@ compare table first second steps width =
 abbrev pub chainBytes : ℕ → ℕ → ℕ
 chainBytes n entries = bytesFor (entryPosition n entries)
 
--- 6.6: refusal 13 after same, where the answer area is shorter than a chain image with an entry for each step
+-- 6.6: refusal 13 after same, where the answer area is shorter than a chain image with an entry for each step on two different letters
 abbrev pub listable : ℕ → ℕ → Verdict → Outcome Verdict
-listable n area (same-after k) = unless (ltb area (chainBytes n k)) 13 (same-after k)
+listable n area (same-after k r) = unless (ltb area (chainBytes n r)) 13 (same-after k r)
 listable n area (different-after k) = answered (different-after k)
 
+-- 6.6: what is told of a chain: the steps, its entries and the bytes of its image; or that none is listed, with the steps
+pub data ChainAnswer : Type 0 where
+  listed-after : ℕ → ℕ → ℕ → ChainAnswer
+  unlisted-after : ℕ → ChainAnswer
+
+abbrev pub chainAnswer : ℕ → Verdict → ChainAnswer
+chainAnswer n (same-after k r) = listed-after k r (chainBytes n r)
+chainAnswer n (different-after k) = unlisted-after k
+
+-- 6.5: the verdict that it tells
+abbrev pub verdictIn : ChainAnswer → Verdict
+verdictIn (listed-after k r bytes) = same-after k r
+verdictIn (unlisted-after k) = different-after k
+
 -- 6.6: as compare; the chain itself stands in the answer area (Areas.antt)
-unfoldable pub chain : List ℕ → List ℕ → List ℕ → ℕ → ℕ → ℕ → Outcome Verdict
+unfoldable pub chain : List ℕ → List ℕ → List ℕ → ℕ → ℕ → ℕ → Outcome ChainAnswer
 chain table first second steps width area =
     readTable table >>= λ T.
     readForward (T .size) first >>= λ u.
     readForward (T .size) second >>= λ v.
-    comparison T u v steps width >>= listable (T .size) area
+    mapped (chainAnswer (T .size)) (comparison T u v steps width >>= listable (T .size) area)
 
 -- WHAT IS LEFT TO RUN (6.10)
 

@@ -16,6 +16,8 @@ use Rattle.model.specs.declared.answers.Cleared.{Cleared}
 use Rattle.model.specs.declared.answers.Cleared.the-variants.{Passed, Refused as ClearRefused}
 use Rattle.model.specs.declared.answers.Compared.{Compared}
 use Rattle.model.specs.declared.answers.Compared.the-variants.{Same, Different, Refused as CompareRefused}
+use Rattle.model.specs.declared.answers.Chained.{Chained}
+use Rattle.model.specs.declared.answers.Chained.the-variants.{Listed, Unlisted, Refused as ChainRefused}
 use Rattle.model.specs.declared.answers.Checked.{Checked}
 use Rattle.model.specs.declared.answers.Checked.the-variants.{Joins, Breaks, EndsElsewhere, Refused as CheckRefused}
 use Rattle.model.specs.declared.answers.Remaining.{Remaining}
@@ -25,7 +27,7 @@ use Rattle.model.specs.declared.answers.Packed.the-variants.{Written, Re
 use Rattle.model.specs.Word.{Positive}
 use Rattle.model.specs.Reversing.{Stop, budget, room, Ending, finished, open-pair, stopped}
 use Rattle.model.specs.Outcome.{Place, unplaced, pair-of, triple-of, mirror-triple-of, Outcome, answered, refused}
-use Rattle.model.specs.Services.{Fraction, Verdict, same-after, different-after, Remainder, moves-after, none-after, Passage, joins, breaks, ends-elsewhere}
+use Rattle.model.specs.Services.{Fraction, Verdict, same-after, different-after, ChainAnswer, listed-after, unlisted-after, Remainder, moves-after, none-after, Passage, joins, breaks, ends-elsewhere}
 
 -- 7.3: the place of 11 and 12: the triple that was under way, of the table or of its mirror, or none if the programs were
 abbrev pub placed : PlaceAnswer → Place
@@ -79,11 +81,17 @@ abbrev pub clearedAs : Cleared → Outcome (Unit {0})
 clearedAs Passed = answered tt
 clearedAs (ClearRefused r) = refusal r
 
--- 6.4, 6.6: compare and chain
+-- 6.4: compare
 abbrev pub compared : Compared → Outcome Verdict
-compared (Same k) = answered (same-after k)
+compared (Same k r) = answered (same-after k r)
 compared (Different k) = answered (different-after k)
 compared (CompareRefused r) = refusal r
+
+-- 6.6: chain
+abbrev pub chained : Chained → Outcome ChainAnswer
+chained (Listed k e b) = answered (listed-after k e b)
+chained (Unlisted k) = answered (unlisted-after k)
+chained (ChainRefused r) = refusal r
 
 -- 6.10: the answer of remainder: how many moves, and the steps
 abbrev pub counted : Remainder Positive → Remainder ℕ

@@ -10,13 +10,13 @@ use lib.Dec.{eqb}
 use borrow.Author.Tests.{eq-eqb, ne-eqb}
 use Rattle.model.specs.Word.{Positive, positive, negative}
 use Rattle.model.specs.Presentation.{Presentation, weightOf, weigh}
-use Rattle.model.specs.Reversing.{Stop, budget, room, Ending, finished, open-pair, stopped, reversing, Finishes, EndsEmpty, CoversSteps, CoversRoom}
+use Rattle.model.specs.Reversing.{Stop, budget, room, Ending, finished, open-pair, stopped, reversing, Finishes, EndsEmpty, CoversSteps, CoversRoom, differing}
 use Rattle.model.specs.Equivalence.{Joined}
 use Rattle.model.specs.Outcome.{unplaced, Outcome, answered, refused, _>>=_}
 use Rattle.model.specs.Checks.{stopNumber, cleared}
 use Rattle.model.specs.Services.{Verdict, same-after, different-after, judged, verdictOf, comparison}
 use Rattle.model.proofs.Impossible.{impossible}
-use Rattle.model.proofs.Leftmost.{differing, open-unfinished}
+use Rattle.model.proofs.Leftmost.{open-unfinished}
 use Rattle.model.proofs.Endings.{Ends, reversing-ends, ends-reversing}
 use Rattle.model.proofs.Joining.{equiv-joined, joined-equiv, joined-weight}
 use Rattle.theory.proofs.Grid.{derives-empty, same-grid}
@@ -25,7 +25,7 @@ use Rattle.theory.proofs.Clearing.{clear-homogeneous, clear-complete}
 
 -- an outcome of a comparison of u and v, and what it says of them
 pub data Meaning (T : Presentation) (u v : Positive) : Outcome Verdict → Type 0 where
-  same : (k : ℕ) → Joined T u v → Meaning T u v (answered (same-after k))
+  same : (k r : ℕ) → Joined T u v → Meaning T u v (answered (same-after k r))
   different : (k : ℕ) → (Joined T u v → ⊥) → Meaning T u v (answered (different-after k))
   out-of-budget : Meaning T u v (refused 11 unplaced)
   out-of-room : Meaning T u v (refused 12 unplaced)
@@ -69,7 +69,7 @@ module _ (T : Presentation) (u v : Positive) (steps width : ℕ) where
         (g .0, finishes (g .1))
 
     pub joined-same-after : Joined T u v → (k : ℕ) (run : Finishes T (negative u ++ positive v) [] [] k) → CoversSteps steps run → CoversRoom width run
-        → comparison T u v steps width ≡ answered (same-after k)
+        → comparison T u v steps width ≡ answered (same-after k (differing run))
     joined-same-after j k run within fits =
         compared-equal (joined-weight T (weightOf T) (clear-homogeneous T steps width clear) u v j)
         ∙ ap verdictOf
@@ -87,11 +87,11 @@ module _ (T : Presentation) (u v : Positive) (steps width : ℕ) where
 
     -- WHAT EACH ENDING MEANS
 
-    judged-means : (n d : Positive) {k : ℕ} → Finishes T (negative u ++ positive v) n d k → Meaning T u v (answered (judged n d k))
-    judged-means [] [] {k} f = same k (empties-joined f)
-    judged-means [] (x ∷ d) {k} f =
+    judged-means : (n d : Positive) {k : ℕ} (r : ℕ) → Finishes T (negative u ++ positive v) n d k → Meaning T u v (answered (judged n d k r))
+    judged-means [] [] {k} r f = same k r (empties-joined f)
+    judged-means [] (x ∷ d) {k} r f =
         different k (λ j. let e = not-empty [] (x ∷ d) f j .1 in impossible (cc))
-    judged-means (x ∷ n) d {k} f =
+    judged-means (x ∷ n) d {k} r f =
         different k (λ j. let e = not-empty (x ∷ n) d f j .0 in impossible (cc))
 
     stop-means : (s : Stop) → Meaning T u v (refused (stopNumber s) unplaced)
@@ -99,7 +99,7 @@ module _ (T : Presentation) (u v : Positive) (steps width : ℕ) where
     stop-means room = out-of-room
 
     ending-means : (end : Ending) → Ends T steps width (negative u ++ positive v) end → Meaning T u v (verdictOf end)
-    ending-means (finished n d k r) t = judged-means n d (t .run)
+    ending-means (finished n d k r) t = judged-means n d r (t .run)
     ending-means (open-pair a b k) t =
         different k (λ j. open-unfinished T (t .reached .run) (t .here) (t .undefined-there) [] [] (joined-empties j .1))
     ending-means (stopped s) t = stop-means s
@@ -117,20 +117,20 @@ module _ (T : Presentation) (u v : Positive) (steps width : ℕ) where
 
   -- AND WHAT THE OUTCOME TELLS
 
-  means-joined : {o : Outcome Verdict} (k : ℕ) → Meaning T u v o → o ≡ answered (same-after k) → Joined T u v
-  means-joined k (same k′ j) e = j
-  means-joined k (different k′ a) e = impossible (cc)
-  means-joined k out-of-budget e = impossible (cc)
-  means-joined k out-of-room e = impossible (cc)
+  means-joined : {o : Outcome Verdict} (k r : ℕ) → Meaning T u v o → o ≡ answered (same-after k r) → Joined T u v
+  means-joined k r (same k′ r′ j) e = j
+  means-joined k r (different k′ a) e = impossible (cc)
+  means-joined k r out-of-budget e = impossible (cc)
+  means-joined k r out-of-room e = impossible (cc)
 
   means-apart : {o : Outcome Verdict} (k : ℕ) → Meaning T u v o → o ≡ answered (different-after k) → Joined T u v → ⊥
-  means-apart k (same k′ j) e i = impossible (cc)
+  means-apart k (same k′ r′ j) e i = impossible (cc)
   means-apart k (different k′ a) e i = a i
   means-apart k out-of-budget e i = impossible (cc)
   means-apart k out-of-room e i = impossible (cc)
 
-  pub same-joined : (k : ℕ) → comparison T u v steps width ≡ answered (same-after k) → Joined T u v
-  same-joined k e = means-joined k (comparison-means (answered-clear e)) e
+  pub same-joined : (k r : ℕ) → comparison T u v steps width ≡ answered (same-after k r) → Joined T u v
+  same-joined k r e = means-joined k r (comparison-means (answered-clear e)) e
 
   pub different-apart : (k : ℕ) → comparison T u v steps width ≡ answered (different-after k) → Joined T u v → ⊥
   different-apart k e = means-apart k (comparison-means (answered-clear e)) e

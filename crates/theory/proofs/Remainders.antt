@@ -11,14 +11,14 @@ use lib.ListN.{length}
 use borrow.Author.Tests.{lt-ltb, le-ltb, ltb-true}
 use Rattle.model.specs.Word.{Positive, positive, negative}
 use Rattle.model.specs.Presentation.{Presentation, complete, weightOf, weigh}
-use Rattle.model.specs.Reversing.{Stop, budget, room, Ending, finished, open-pair, stopped, reversing, Finishes, Residual, CoversSteps, CoversRoom}
+use Rattle.model.specs.Reversing.{Stop, budget, room, Ending, finished, open-pair, stopped, reversing, Finishes, Residual, CoversSteps, CoversRoom, differing}
 use Rattle.model.specs.Equivalence.{Joined}
 use Rattle.model.specs.Outcome.{unplaced, Outcome, answered, refused, _>>=_, unless}
 use Rattle.model.specs.Checks.{stopNumber, cleared}
 use Rattle.model.specs.Services.{Remainder, moves-after, none-after, remainderOf, quotient}
 use Rattle.model.proofs.Impossible.{impossible}
 use Rattle.model.proofs.Complete.{complete-turn}
-use Rattle.model.proofs.Leftmost.{differing, open-unfinished}
+use Rattle.model.proofs.Leftmost.{open-unfinished}
 use Rattle.model.proofs.Endings.{Ends, reversing-ends, ends-reversing}
 use Rattle.model.proofs.Equiv.{total-append}
 use Rattle.model.proofs.Joining.{equiv-joined, joined-equiv, joined-weight}

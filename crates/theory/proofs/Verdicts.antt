@@ -11,7 +11,7 @@ use Rattle.theory.specs.Verdicts.{Settled, settled, by-allowance, by-mem
 use Rattle.theory.proofs.Comparison.{Meaning, same, different, out-of-budget, out-of-room, joined-empties, joined-same-after, comparison-means, same-joined, different-apart}
 
 as-settled : {T : Presentation} {u v : Positive} {o : Outcome Verdict} → Meaning T u v o → Settled answered o
-as-settled (same k j) = settled (same-after k)
+as-settled (same k r j) = settled (same-after k r)
 as-settled (different k a) = settled (different-after k)
 as-settled out-of-budget = by-allowance
 as-settled out-of-room = by-memory
@@ -42,7 +42,7 @@ module _ (T : Presentation) (u v : Positive) (steps width : ℕ) where
     demand-three-told =
         let d = demand-three in
         record {
-          same-joined = λ k h. d .same-joined k (verdict-of (comparison T u v steps width) (same-after k) h);
+          same-joined = λ k r h. d .same-joined k r (verdict-of (comparison T u v steps width) (same-after k r) h);
           different-apart = λ k h. d .different-apart k (verdict-of (comparison T u v steps width) (different-after k) h);
           verdict-or-stop = λ clear. settled-through (d .verdict-or-stop clear);
           ends-empty = d .ends-empty;

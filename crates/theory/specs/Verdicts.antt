@@ -4,7 +4,7 @@ use mathlib.Core.Path.{_≡_}
 use Prim.Native.Nat.{ℕ}
 use Rattle.model.specs.Word.{Positive, positive, negative}
 use Rattle.model.specs.Presentation.{Presentation}
-use Rattle.model.specs.Reversing.{Finishes, EndsEmpty, CoversSteps, CoversRoom}
+use Rattle.model.specs.Reversing.{differing, Finishes, EndsEmpty, CoversSteps, CoversRoom}
 use Rattle.model.specs.Equivalence.{Joined}
 use Rattle.model.specs.Outcome.{unplaced, Outcome, answered, refused}
 use Rattle.model.specs.Checks.{cleared}
@@ -19,13 +19,13 @@ pub data Settled (tell : Verdict → Outcome Verdict) : Outcome Verdict → Type
 -- `tell` is how the service tells a verdict: chain may refuse one with 13
 pub record DemandThree (T : Presentation) (u v : Positive) (steps width : ℕ) (tell : Verdict → Outcome Verdict) (outcome : Outcome Verdict) : Type 0 where
   -- `same` only if a chain of swaps joins the two words
-  pub same-joined : (k : ℕ) → outcome ≡ answered (same-after k) → Joined T u v
+  pub same-joined : (k r : ℕ) → outcome ≡ answered (same-after k r) → Joined T u v
   -- `different` only if none does
   pub different-apart : (k : ℕ) → outcome ≡ answered (different-after k) → Joined T u v → ⊥
   -- under a table that clears it is a verdict, as the service tells it, or a stop
   pub verdict-or-stop : cleared T steps width ≡ answered tt → Settled tell outcome
   -- joined words have a reversing that ends empty,
   pub ends-empty : cleared T steps width ≡ answered tt → Joined T u v → EndsEmpty T (negative u ++ positive v)
-  -- and where allowance and workspace cover it, the answer is `same` with its steps
+  -- and where allowance and workspace cover it, the answer is `same` with its steps, and how many were on two different letters
   pub answers-same : cleared T steps width ≡ answered tt → Joined T u v → (k : ℕ) (run : Finishes T (negative u ++ positive v) [] [] k)
-      → CoversSteps steps run → CoversRoom width run → outcome ≡ tell (same-after k)
+      → CoversSteps steps run → CoversRoom width run → outcome ≡ tell (same-after k (differing run))

@@ -1,11 +1,12 @@
 -- `braid::calls::braid_chain` meets its contract.
 use mathlib.Core.Path.{ap, subst, _∙_}
 use lib.ListN.{length}
-use Rattle.model.specs.Services.{listable}
+use Rattle.model.specs.Outcome.{mapped}
+use Rattle.model.specs.Services.{listable, verdictIn}
 use Rattle.model.specs.Areas.{ChainArea}
 use Rattle.comparing.specs.Compare.{Meaning}
 use Rattle.chaining.specs.Chain.{ListedChecks}
-use Rattle.braid.specs.Told.{told, verdictTold}
+use Rattle.braid.specs.Told.{told, chainTold}
 use Rattle.braid.specs.Values.{Tells}
 use borrow.Author.Needs.{needs}
 use Rattle.braid.proofs.calls.braid_chain.Statement.{statement}
@@ -14,8 +15,8 @@ use Rattle.braid.proofs.calls.braid_chain.Tie as tie
 chain-requires : tie.Need-chain-requires
 chain-requires c κs = search needs
 
-of-compared-requires : tie.Need-of-compared-requires
-of-compared-requires c κs = search needs
+of-chained-requires : tie.Need-of-chained-requires
+of-chained-requires c κs = search needs
 
 tell-requires : tie.Need-tell-requires
 tell-requires c κs = search needs
@@ -31,9 +32,9 @@ returns c =
     let s = c .before .before .before .before .before .before .before .before .before .before .before .before .before .before .before in
     let z = c .before .before .before .before .before .before .before .chain in
     let e = z .ensures .0 in
-    (subst (λ n. Tells n (c .tell .result) (c .tell .last .1 .0)) (c .before .before .of-compared .ensures ∙ ap (told verdictTold) e) (c .tell .ensures), (z .ensures .1 .0, (subst (ChainArea (s .args .table .now) (s .args .first .now) (s .args .second .now) (s .args .answer .now) (z .last .1 .1 .1 .1 .1 .0)) e (z .ensures .1 .1 .0), (subst (ListedChecks (s .args .table .now) (s .args .first .now) (s .args .second .now) (s .args .answer .now) (z .last .1 .1 .1 .1 .1 .0)) e (z .ensures .1 .1 .1 .0), subst (Meaning (s .args .table .now) (s .args .first .now) (s .args .second .now) (s .args .allowance) (length (s .args .workspace .now)) (λ T v. listable (T .size) (length (s .args .answer .now)) v)) e (z .ensures .1 .1 .1 .1)))))
+    (subst (λ n. Tells n (c .tell .result) (c .tell .last .1 .0)) (c .before .before .of-chained .ensures ∙ ap (told chainTold) e) (c .tell .ensures), (z .ensures .1 .0, (subst (ChainArea (s .args .table .now) (s .args .first .now) (s .args .second .now) (s .args .answer .now) (z .last .1 .1 .1 .1 .1 .0)) e (z .ensures .1 .1 .0), (subst (ListedChecks (s .args .table .now) (s .args .first .now) (s .args .second .now) (s .args .answer .now) (z .last .1 .1 .1 .1 .1 .0)) e (z .ensures .1 .1 .1 .0), subst (λ o. Meaning (s .args .table .now) (s .args .first .now) (s .args .second .now) (s .args .allowance) (length (s .args .workspace .now)) (λ T v. listable (T .size) (length (s .args .answer .now)) v) (mapped verdictIn o)) e (z .ensures .1 .1 .1 .1)))))
 
 pub braid-chain-spec : {M : Type 1} → statement M
 braid-chain-spec =
     tie.close
-    (tie.spec chain-requires of-compared-requires tell-requires same-length same-length-2 returns)
+    (tie.spec chain-requires of-chained-requires tell-requires same-length same-length-2 returns)

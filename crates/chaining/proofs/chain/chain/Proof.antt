@@ -1,10 +1,12 @@
 -- `chaining::chain::chain` meets its contract.
 use mathlib.Core.Path.{refl, sym, ap, subst, _∙_}
 use lib.ListN.{length}
-use Rattle.model.specs.Areas.{workspaceAfter}
-use Rattle.model.specs.Stated.{compared}
+use Rattle.model.specs.Outcome.{mapped}
+use Rattle.model.specs.Services.{chainAnswer}
+use Rattle.model.specs.Areas.{workspaceAfter, ChainArea}
+use Rattle.model.specs.Stated.{compared, chained}
 use Rattle.loading.specs.Loading.{ProgramsDone}
-use Rattle.chaining.proofs.ChainService.{chain-refused, chain-runs, chain-means, area-listed, listed-checks}
+use Rattle.chaining.proofs.ChainService.{answer-workspace, chain-refused, chain-runs, chain-means, area-listed, listed-checks}
 use Rattle.cells.proofs.Rules.{blank-zeros}
 use borrow.Author.Needs.{needs}
 use Rattle.chaining.proofs.chain.chain.Statement.{statement}
@@ -32,6 +34,13 @@ chain-programs-requires c κs =
     let t = subst (ProgramsDone (a .table .now) (a .first .now) (a .second .now) (v .last .1 .1 .1 .0)) (c .before .before .before .before .read2 .given .1) (v .ensures) in
     t .forward
 
+listed-requires : tie.Need-listed-requires
+listed-requires c κs =
+    let a = c .before .before .before .before .before .before .before .before .before .before .before .before .before .before .before .before .before .before .before .args in
+    let v = c .before .before .before .before .before .before .before .before .before .before .before .before .read-programs in
+    let t = subst (ProgramsDone (a .table .now) (a .first .now) (a .second .now) (v .last .1 .1 .1 .0)) (c .before .before .before .before .before .before .before .before .before .read2 .given .1) (v .ensures) in
+    (t .forward .pair .some, t .forward .pair .few)
+
 returns : tie.Need-returns
 returns c =
     let a = c .before .before .before .before .before .before .before .before .before .before .before .args in
@@ -50,16 +59,18 @@ same-length-2 c = search needs
 
 returns-2 : tie.Need-returns-2
 returns-2 c =
-    let a = c .before .before .before .before .before .before .before .before .before .before .before .before .before .before .before .before .before .before .before .args in
-    let v = c .before .before .before .before .before .before .before .before .before .before .before .before .read-programs in
-    let t = subst (ProgramsDone (a .table .now) (a .first .now) (a .second .now) (v .last .1 .1 .1 .0)) (c .before .before .before .before .before .before .before .before .before .read2 .given .1) (v .ensures) in
+    let a = c .before .before .before .before .before .before .before .before .before .before .before .before .before .before .before .before .before .before .before .before .args in
+    let v = c .before .before .before .before .before .before .before .before .before .before .before .before .before .read-programs in
+    let t = subst (ProgramsDone (a .table .now) (a .first .now) (a .second .now) (v .last .1 .1 .1 .0)) (c .before .before .before .before .before .before .before .before .before .before .read2 .given .1) (v .ensures) in
     let f = t .forward in
-    let z = c .before .before .before .before .chain-programs in
+    let z = c .before .before .before .before .before .chain-programs in
     let l = z .ensures .lists (f .table) (f .of) (f .pair .one .word) (f .pair .two .word) (f .pair .one .read) (f .pair .two .read) in
-    let e = l .verdict ∙ sym (chain-runs (a .table .now) (a .first .now) (a .second .now) (a .allowance) (length (a .workspace .now)) (length (a .answer .now)) (f .table) (f .pair .one .word) (f .pair .two .word) (t .reads)) in
-    let area = area-listed (a .table .now) (a .first .now) (a .second .now) (a .answer .now) (z .last .1 .1 .1 .1 .1 .1 .1 .1 .0) (f .table) (f .pair .one .word) (f .pair .two .word) (t .reads) (compared (z .result)) (l .area) in
-    let checks = listed-checks (a .table .now) (a .first .now) (a .second .now) (a .allowance) (length (a .workspace .now)) (a .answer .now) (z .last .1 .1 .1 .1 .1 .1 .1 .1 .0) (compared (z .result)) e area in
-    (e, (z .ensures .wiped ∙ ap (λ x. workspaceAfter x (a .workspace .now)) e, (area, (checks, chain-means (a .table .now) (a .first .now) (a .second .now) (a .allowance) (length (a .workspace .now)) (length (a .answer .now)) _ e))))
+    let told = c .listed .ensures ∙ ap (λ n. mapped (chainAnswer n) (compared (z .result))) (sym (f .of .sized)) in
+    let e = told ∙ (ap (mapped (chainAnswer (f .table .size))) (l .verdict) ∙ sym (chain-runs (a .table .now) (a .first .now) (a .second .now) (a .allowance) (length (a .workspace .now)) (length (a .answer .now)) (f .table) (f .pair .one .word) (f .pair .two .word) (t .reads))) in
+    let area = subst (ChainArea (a .table .now) (a .first .now) (a .second .now) (a .answer .now) (z .last .1 .1 .1 .1 .1 .1 .1 .1 .0)) (sym told) (area-listed (a .table .now) (a .first .now) (a .second .now) (a .answer .now) (z .last .1 .1 .1 .1 .1 .1 .1 .1 .0) (f .table) (f .pair .one .word) (f .pair .two .word) (t .reads) (compared (z .result)) (l .area)) in
+    let checks = listed-checks (a .table .now) (a .first .now) (a .second .now) (a .allowance) (length (a .workspace .now)) (a .answer .now) (z .last .1 .1 .1 .1 .1 .1 .1 .1 .0) (chained (c .listed .result)) e area in
+    let wiped = z .ensures .wiped ∙ (sym (answer-workspace (f .table .size) (compared (z .result)) (a .workspace .now)) ∙ ap (λ x. workspaceAfter x (a .workspace .now)) (sym told ∙ e)) in
+    (e, (wiped, (area, (checks, chain-means (a .table .now) (a .first .now) (a .second .now) (a .allowance) (length (a .workspace .now)) (length (a .answer .now)) _ e))))
 
 pub chain-spec : {M : Type 1} → statement M
 chain-spec =
@@ -71,6 +82,7 @@ chain-spec =
     enum-known-read-2
     slice-aggregate-chain-programs
     chain-programs-requires
+    listed-requires
     returns
     same-length
     same-length-2

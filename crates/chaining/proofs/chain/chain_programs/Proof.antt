@@ -9,12 +9,10 @@ use types.Run.{OneOf}
 use lib.ListN.{length, replicate, length-replicate}
 use Rattle.model.specs.Areas.{workspaceAfter}
 use Rattle.model.specs.Stated.{compared}
-use Rattle.comparing.specs.Compare.{judgementAs, Judged}
-use Rattle.chaining.specs.Chain.{ListedAs}
-use Rattle.comparing.specs.declared.compare.Judgement.{Judgement}
-use Rattle.comparing.specs.declared.compare.Judgement.the-variants.{Same, Different, Refused}
-use Rattle.comparing.proofs.compare.Judgement.{the-type}
-use Rattle.comparing.proofs.Comparing.{told-states}
+use Rattle.comparing.specs.Compare.{Judged}
+use Rattle.model.specs.declared.answers.Compared.{Compared}
+use Rattle.model.specs.declared.answers.Compared.the-variants.{Same, Different, Refused}
+use Rattle.model.proofs.answers.Compared.{the-type}
 use Rattle.chaining.proofs.ChainService.{NotSame, lists-nothing, area-too-short, lists-chain, programs-fit, listed-from, listed-of}
 use borrow.Author.Needs.{needs}
 use Rattle.chaining.proofs.chain.chain_programs.Statement.{statement}
@@ -26,29 +24,23 @@ compare-programs-requires c κs = search needs
 enum-known-verdict : tie.Need-enum-known-verdict
 enum-known-verdict c = search needs
 
-told-requires : tie.Need-told-requires
-told-requires c κs = search needs
-
 same-length : tie.Need-same-length
 same-length c = search needs
 
 -- the other variants than `Same`
-not-same : (j : Judgement) → OneOf (1 ∷ 2 ∷ []) (tagOf the-type j) → NotSame j
+not-same : (j : Compared) → OneOf (1 ∷ 2 ∷ []) (tagOf the-type j) → NotSame j
 not-same (Same k r) h = ⊎-elim (λ e. omega arith) (λ e. omega arith) h
 not-same (Different k) h = tt
 not-same (Refused r) h = tt
 
 returns : tie.Need-returns
 returns c =
-    let s = c .before .before .before .before .before .before .before .before .before .before .before in
-    let z = c .before .before .before .before .compare-programs in
-    let p = s .pre .pair in
-    let no = not-same (z .result) (c .before .match .keys2) in
-    let e = c .told .ensures in
+    let s = c .before .before .before .before .before .before .before .before .before .before in
+    let z = c .before .before .before .compare-programs in
+    let no = not-same (z .result) (c .match .keys2) in
     record {
-      wiped = z .ensures .workspace ∙ sym (ap (λ r. workspaceAfter (compared r) (s .args .workspace .now)) e ∙ ap (λ x. workspaceAfter x (s .args .workspace .now)) (told-states (z .result)));
-      lists = λ T o u v eu ev. subst (ListedAs T u v (s .args .budget) (length (s .args .workspace .now)) (s .args .answer .now) (s .args .answer .now)) (sym e)
-          (lists-nothing T u v (s .args .budget) (length (s .args .workspace .now)) (s .args .answer .now) (z .result) no (z .ensures .judged T o u v eu ev));
+      wiped = z .ensures .workspace;
+      lists = λ T o u v eu ev. lists-nothing T u v (s .args .budget) (length (s .args .workspace .now)) (s .args .answer .now) (z .result) no (z .ensures .judged T o u v eu ev);
     }
 
 chain-bytes-requires : tie.Need-chain-bytes-requires
@@ -65,7 +57,7 @@ returns-2 c =
     let k = c .before .before .before .verdict .given .0 .0 in
     let r = c .before .before .before .verdict .given .0 .1 .0 in
     record {
-      wiped = z .ensures .workspace ∙ ap (λ j. workspaceAfter (judgementAs j) (s .args .workspace .now)) (c .before .before .before .verdict .given .1);
+      wiped = z .ensures .workspace ∙ ap (λ j. workspaceAfter (compared j) (s .args .workspace .now)) (c .before .before .before .verdict .given .1);
       lists = λ T o u v eu ev. area-too-short T u v (s .args .budget) (length (s .args .workspace .now)) (s .args .answer .now) (s .args .size) k r (o .sized) (subst (Judged T u v (s .args .budget) (length (s .args .workspace .now))) (c .before .before .before .verdict .given .1) (z .ensures .judged T o u v eu ev)) (omega (arith, c .if1 .taken, c .before .chain-bytes .ensures));
     }
 
@@ -76,7 +68,7 @@ sub-right c =
     let p = s .pre .pair in
     let k = c .before .before .before .verdict .given .0 .0 in
     let r = c .before .before .before .verdict .given .0 .1 .0 in
-    omega (arith, programs-fit (s .pre .table) (p .one .word) (p .two .word) (s .args .budget) (length (s .args .workspace .now)) k r ((subst (Judged (s .pre .table) (p .one .word) (p .two .word) (s .args .budget) (length (s .args .workspace .now))) (c .before .before .before .verdict .given .1) (z .ensures .judged (s .pre .table) (s .pre .of) (p .one .word) (p .two .word) (p .one .read) (p .two .read))) .ended), p .one .count-is, p .two .count-is, (ap length (z .ensures .workspace ∙ ap (λ j. workspaceAfter (judgementAs j) (s .args .workspace .now)) (c .before .before .before .verdict .given .1)) ∙ length-replicate (length (s .args .workspace .now)) 0))
+    omega (arith, programs-fit (s .pre .table) (p .one .word) (p .two .word) (s .args .budget) (length (s .args .workspace .now)) k r ((subst (Judged (s .pre .table) (p .one .word) (p .two .word) (s .args .budget) (length (s .args .workspace .now))) (c .before .before .before .verdict .given .1) (z .ensures .judged (s .pre .table) (s .pre .of) (p .one .word) (p .two .word) (p .one .read) (p .two .read))) .ended), p .one .count-is, p .two .count-is, (ap length (z .ensures .workspace ∙ ap (λ j. workspaceAfter (compared j) (s .args .workspace .now)) (c .before .before .before .verdict .given .1)) ∙ length-replicate (length (s .args .workspace .now)) 0))
 
 load-programs-requires : tie.Need-load-programs-requires
 load-programs-requires c κs =
@@ -85,7 +77,7 @@ load-programs-requires c κs =
     let p = s .pre .pair in
     let k = c .before .before .before .before .verdict .given .0 .0 in
     let r = c .before .before .before .before .verdict .given .0 .1 .0 in
-    (p, omega (arith, programs-fit (s .pre .table) (p .one .word) (p .two .word) (s .args .budget) (length (s .args .workspace .now)) k r ((subst (Judged (s .pre .table) (p .one .word) (p .two .word) (s .args .budget) (length (s .args .workspace .now))) (c .before .before .before .before .verdict .given .1) (z .ensures .judged (s .pre .table) (s .pre .of) (p .one .word) (p .two .word) (p .one .read) (p .two .read))) .ended), p .one .count-is, p .two .count-is, (ap length (z .ensures .workspace ∙ ap (λ j. workspaceAfter (judgementAs j) (s .args .workspace .now)) (c .before .before .before .before .verdict .given .1)) ∙ length-replicate (length (s .args .workspace .now)) 0)))
+    (p, omega (arith, programs-fit (s .pre .table) (p .one .word) (p .two .word) (s .args .budget) (length (s .args .workspace .now)) k r ((subst (Judged (s .pre .table) (p .one .word) (p .two .word) (s .args .budget) (length (s .args .workspace .now))) (c .before .before .before .before .verdict .given .1) (z .ensures .judged (s .pre .table) (s .pre .of) (p .one .word) (p .two .word) (p .one .read) (p .two .read))) .ended), p .one .count-is, p .two .count-is, (ap length (z .ensures .workspace ∙ ap (λ j. workspaceAfter (compared j) (s .args .workspace .now)) (c .before .before .before .before .verdict .given .1)) ∙ length-replicate (length (s .args .workspace .now)) 0)))
 
 list-requires : tie.Need-list-requires
 list-requires c κs =
@@ -95,7 +87,7 @@ list-requires c κs =
     let l = c .before .before .before .before .load-programs in
     let k = c .before .before .before .before .before .before .before .before .before .verdict .given .0 .0 in
     let r = c .before .before .before .before .before .before .before .before .before .verdict .given .0 .1 .0 in
-    ((s .pre .table), (p .one .word), (p .two .word), k, listed-from (s .args .cells .now) (s .args .size) (s .pre .table) (s .pre .of) (p .one .word) (p .two .word) (s .args .first .now) (s .args .second .now) (s .args .m) (s .args .n) (p .one) (p .two) refl refl (s .args .budget) (length (s .args .workspace .now)) k r ((subst (Judged (s .pre .table) (p .one .word) (p .two .word) (s .args .budget) (length (s .args .workspace .now))) (c .before .before .before .before .before .before .before .before .before .verdict .given .1) (z .ensures .judged (s .pre .table) (s .pre .of) (p .one .word) (p .two .word) (p .one .read) (p .two .read))) .ended) (l .last .1 .1 .1 .1 .1 .0) (length (z .last .1 .1 .1 .1 .1 .1 .1 .0) - s .args .n) (l .ensures .same-length ∙ (ap length (z .ensures .workspace ∙ ap (λ j. workspaceAfter (judgementAs j) (s .args .workspace .now)) (c .before .before .before .before .before .before .before .before .before .verdict .given .1)) ∙ length-replicate (length (s .args .workspace .now)) 0)) (l .ensures .loads (s .args .cells .now) (s .pre .table) (s .pre .of) (p .one .word) (p .two .word) (p .one .read) (p .two .read)) (length (s .args .answer .now)) (omega (arith, c .before .before .before .before .before .before .if1 .left, c .before .before .before .before .before .before .before .chain-bytes .ensures)))
+    ((s .pre .table), (p .one .word), (p .two .word), k, listed-from (s .args .cells .now) (s .args .size) (s .pre .table) (s .pre .of) (p .one .word) (p .two .word) (s .args .first .now) (s .args .second .now) (s .args .m) (s .args .n) (p .one) (p .two) refl refl (s .args .budget) (length (s .args .workspace .now)) k r ((subst (Judged (s .pre .table) (p .one .word) (p .two .word) (s .args .budget) (length (s .args .workspace .now))) (c .before .before .before .before .before .before .before .before .before .verdict .given .1) (z .ensures .judged (s .pre .table) (s .pre .of) (p .one .word) (p .two .word) (p .one .read) (p .two .read))) .ended) (l .last .1 .1 .1 .1 .1 .0) (length (z .last .1 .1 .1 .1 .1 .1 .1 .0) - s .args .n) (l .ensures .same-length ∙ (ap length (z .ensures .workspace ∙ ap (λ j. workspaceAfter (compared j) (s .args .workspace .now)) (c .before .before .before .before .before .before .before .before .before .verdict .given .1)) ∙ length-replicate (length (s .args .workspace .now)) 0)) (l .ensures .loads (s .args .cells .now) (s .pre .table) (s .pre .of) (p .one .word) (p .two .word) (p .one .read) (p .two .read)) (length (s .args .answer .now)) (omega (arith, c .before .before .before .before .before .before .if1 .left, c .before .before .before .before .before .before .before .chain-bytes .ensures)))
 
 wipe-requires : tie.Need-wipe-requires
 wipe-requires c κs = search needs
@@ -117,13 +109,13 @@ returns-3 c =
     let k = c .before .before .before .before .before .before .before .before .before .before .before .before .before .before .before .before .before .before .verdict .given .0 .0 in
     let r = c .before .before .before .before .before .before .before .before .before .before .before .before .before .before .before .before .before .before .verdict .given .0 .1 .0 in
     record {
-      wiped = w .ensures ∙ ap (λ i. replicate i 0) (h .ensures .0 ∙ (l .ensures .same-length ∙ (ap length (z .ensures .workspace ∙ ap (λ j. workspaceAfter (judgementAs j) (s .args .workspace .now)) (c .before .before .before .before .before .before .before .before .before .before .before .before .before .before .before .before .before .before .verdict .given .1)) ∙ length-replicate (length (s .args .workspace .now)) 0)));
+      wiped = w .ensures ∙ ap (λ i. replicate i 0) (h .ensures .0 ∙ (l .ensures .same-length ∙ (ap length (z .ensures .workspace ∙ ap (λ j. workspaceAfter (compared j) (s .args .workspace .now)) (c .before .before .before .before .before .before .before .before .before .before .before .before .before .before .before .before .before .before .verdict .given .1)) ∙ length-replicate (length (s .args .workspace .now)) 0)));
       lists = λ T o u v eu ev.
           let fu : p .one .word ≡ u = cc (p .one .read, eu) in
           let fv : p .two .word ≡ v = cc (p .two .read, ev) in
           lists-chain T u v (s .args .budget) (length (s .args .workspace .now)) (s .args .answer .now) (s .args .size) k r (o .sized) (subst (Judged T u v (s .args .budget) (length (s .args .workspace .now))) (c .before .before .before .before .before .before .before .before .before .before .before .before .before .before .before .before .before .before .verdict .given .1) (z .ensures .judged T o u v eu ev))
           (omega (arith, c .before .before .before .before .before .before .before .before .before .before .before .before .before .before .before .if1 .left, c .before .before .before .before .before .before .before .before .before .before .before .before .before .before .before .before .chain-bytes .ensures)) (h .last .1 .1 .1 .1 .1 .0)
-          (listed-of T u v k (s .args .answer .now) (h .last .1 .1 .1 .1 .1 .0) (o .stands .few) (h .ensures .1 .1 T u v k (listed-from (s .args .cells .now) (s .args .size) T o u v (s .args .first .now) (s .args .second .now) (s .args .m) (s .args .n) (p .one) (p .two) fu fv (s .args .budget) (length (s .args .workspace .now)) k r ((subst (Judged T u v (s .args .budget) (length (s .args .workspace .now))) (c .before .before .before .before .before .before .before .before .before .before .before .before .before .before .before .before .before .before .verdict .given .1) (z .ensures .judged T o u v eu ev)) .ended) (l .last .1 .1 .1 .1 .1 .0) (length (z .last .1 .1 .1 .1 .1 .1 .1 .0) - s .args .n) (l .ensures .same-length ∙ (ap length (z .ensures .workspace ∙ ap (λ j. workspaceAfter (judgementAs j) (s .args .workspace .now)) (c .before .before .before .before .before .before .before .before .before .before .before .before .before .before .before .before .before .before .verdict .given .1)) ∙ length-replicate (length (s .args .workspace .now)) 0)) (l .ensures .loads (s .args .cells .now) T o u v eu ev) (length (s .args .answer .now)) (omega (arith, c .before .before .before .before .before .before .before .before .before .before .before .before .before .before .before .if1 .left, c .before .before .before .before .before .before .before .before .before .before .before .before .before .before .before .before .chain-bytes .ensures)))));
+          (listed-of T u v r (s .args .answer .now) (h .last .1 .1 .1 .1 .1 .0) (o .stands .few) (h .ensures .1 .1 T u v k (listed-from (s .args .cells .now) (s .args .size) T o u v (s .args .first .now) (s .args .second .now) (s .args .m) (s .args .n) (p .one) (p .two) fu fv (s .args .budget) (length (s .args .workspace .now)) k r ((subst (Judged T u v (s .args .budget) (length (s .args .workspace .now))) (c .before .before .before .before .before .before .before .before .before .before .before .before .before .before .before .before .before .before .verdict .given .1) (z .ensures .judged T o u v eu ev)) .ended) (l .last .1 .1 .1 .1 .1 .0) (length (z .last .1 .1 .1 .1 .1 .1 .1 .0) - s .args .n) (l .ensures .same-length ∙ (ap length (z .ensures .workspace ∙ ap (λ j. workspaceAfter (compared j) (s .args .workspace .now)) (c .before .before .before .before .before .before .before .before .before .before .before .before .before .before .before .before .before .before .verdict .given .1)) ∙ length-replicate (length (s .args .workspace .now)) 0)) (l .ensures .loads (s .args .cells .now) T o u v eu ev) (length (s .args .answer .now)) (omega (arith, c .before .before .before .before .before .before .before .before .before .before .before .before .before .before .before .if1 .left, c .before .before .before .before .before .before .before .before .before .before .before .before .before .before .before .before .chain-bytes .ensures)))));
     }
 
 pub chain-programs-spec : {M : Type 1} → statement M
@@ -132,7 +124,6 @@ chain-programs-spec =
     (tie.spec
     compare-programs-requires
     enum-known-verdict
-    told-requires
     same-length
     returns
     chain-bytes-requires

@@ -2,9 +2,8 @@
 use mathlib.Core.Path.{sym, ap, subst, _∙_}
 use lib.ListN.{length}
 use Rattle.model.specs.Areas.{workspaceAfter}
-use Rattle.model.specs.Stated.{compared}
 use Rattle.loading.specs.Loading.{ProgramsDone}
-use Rattle.comparing.proofs.Comparing.{compare-refused, compare-runs, compare-means, told-states}
+use Rattle.comparing.proofs.Comparing.{compare-refused, compare-runs, compare-means}
 use Rattle.cells.proofs.Rules.{blank-zeros}
 use borrow.Author.Needs.{needs}
 use Rattle.comparing.proofs.compare.compare.Statement.{statement}
@@ -32,9 +31,6 @@ compare-programs-requires c κs =
     let t = subst (ProgramsDone (a .table .now) (a .first .now) (a .second .now) (v .last .1 .1 .1 .0)) (c .before .before .before .read2 .given .1) (v .ensures) in
     t .forward
 
-told-requires : tie.Need-told-requires
-told-requires c κs = search needs
-
 returns : tie.Need-returns
 returns c =
     let a = c .before .before .before .before .before .before .before .before .before .before .args in
@@ -48,15 +44,14 @@ same-length c = search needs
 
 returns-2 : tie.Need-returns-2
 returns-2 c =
-    let a = c .before .before .before .before .before .before .before .before .before .before .before .before .before .before .before .before .args in
-    let v = c .before .before .before .before .before .before .before .before .before .before .read-programs in
-    let t = subst (ProgramsDone (a .table .now) (a .first .now) (a .second .now) (v .last .1 .1 .1 .0)) (c .before .before .before .before .before .before .before .read2 .given .1) (v .ensures) in
+    let a = c .before .before .before .before .before .before .before .before .before .before .before .before .before .before .before .args in
+    let v = c .before .before .before .before .before .before .before .before .before .read-programs in
+    let t = subst (ProgramsDone (a .table .now) (a .first .now) (a .second .now) (v .last .1 .1 .1 .0)) (c .before .before .before .before .before .before .read2 .given .1) (v .ensures) in
     let f = t .forward in
-    let z = c .before .before .before .compare-programs in
+    let z = c .before .before .compare-programs in
     let j = z .ensures .judged (f .table) (f .of) (f .pair .one .word) (f .pair .two .word) (f .pair .one .read) (f .pair .two .read) in
     let o = j .verdict ∙ sym (compare-runs (a .table .now) (a .first .now) (a .second .now) (a .allowance) (length (a .workspace .now)) (f .table) (f .pair .one .word) (f .pair .two .word) (t .reads)) in
-    let e = ap compared (c .told .ensures) ∙ (told-states (z .result) ∙ o) in
-    (e, (z .ensures .workspace ∙ ap (λ x. workspaceAfter x (a .workspace .now)) o, compare-means (a .table .now) (a .first .now) (a .second .now) (a .allowance) (length (a .workspace .now)) _ e))
+    (o, (z .ensures .workspace ∙ ap (λ x. workspaceAfter x (a .workspace .now)) o, compare-means (a .table .now) (a .first .now) (a .second .now) (a .allowance) (length (a .workspace .now)) _ o))
 
 pub compare-spec : {M : Type 1} → statement M
 compare-spec =
@@ -68,7 +63,6 @@ compare-spec =
     enum-known-read-2
     slice-aggregate-compare-programs
     compare-programs-requires
-    told-requires
     returns
     same-length
     returns-2)

@@ -5,9 +5,9 @@ use Rattle.model.specs.Presentation.{Presentation}
 use Rattle.model.specs.Outcome.{answered}
 use Rattle.model.specs.Checks.{cleared}
 use Rattle.model.specs.Areas.{workspaceAfter}
-use Rattle.model.specs.Stated.{clearedAs}
+use Rattle.model.specs.Stated.{clearedAs, compared}
 use Rattle.cells.specs.Stands.{Of}
-use Rattle.comparing.specs.Compare.{judgementAs, Judged}
+use Rattle.comparing.specs.Compare.{Judged}
 use Rattle.comparing.proofs.Comparing.{comparison-refused, unequal-programs, equal-programs, judged-wipe}
 use borrow.Author.Needs.{needs}
 use Rattle.comparing.proofs.compare.compare_programs.Statement.{statement}
@@ -76,7 +76,7 @@ returns-3 c =
     let e = c .judge .ensures in
     let kept : length (z .last .1 .1 .1 .0) ≡ length (s .args .workspace .now) = ap length (z .ensures .1 ∙ ap (λ r. workspaceAfter (clearedAs r) (s .args .workspace .now)) (c .before .before .before .before .before .before .before .before .before .before .before .before .enum-told .given .1)) ∙ length-replicate (length (s .args .workspace .now)) 0 in
     record {
-      workspace = w .ensures ∙ (ap (λ i. replicate i 0) (x .ensures .0 ∙ kept) ∙ sym (ap (λ j. workspaceAfter (judgementAs j) (s .args .workspace .now)) e ∙ judged-wipe (x .result) (s .args .workspace .now)));
+      workspace = w .ensures ∙ (ap (λ i. replicate i 0) (x .ensures .0 ∙ kept) ∙ sym (ap (λ j. workspaceAfter (compared j) (s .args .workspace .now)) e ∙ judged-wipe (x .result) (s .args .workspace .now)));
       judged = λ T o u v eu ev.
           subst (Judged T u v (s .args .budget) (length (s .args .workspace .now))) (sym e)
           (equal-programs T u v (s .args .budget) (length (s .args .workspace .now)) (passed T o)

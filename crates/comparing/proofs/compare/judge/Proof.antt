@@ -1,7 +1,7 @@
 -- `comparing::compare::judge` meets its contract.
 use mathlib.Core.Path.{sym, ap, _∙_}
 use Rattle.comparing.specs.Compare.{judgement}
-use Rattle.comparing.specs.declared.compare.Judgement.the-variants.{Refused}
+use Rattle.model.specs.declared.answers.Compared.the-variants.{Refused}
 use Rattle.comparing.proofs.Comparing.{judged-over, judged-under, judged-same}
 use borrow.Author.Needs.{needs}
 use Rattle.comparing.proofs.compare.judge.Statement.{statement}
