@@ -70,7 +70,7 @@ static inline unsigned braid_table_moves(const uint8_t *table)
     return (table[0] >> 4) + 1u;
 }
 
-/* Bytes of a chain image of so many entries under a table of n moves (5.6): what braid_chain wants, with the steps as entries. */
+/* Bytes of a chain image of so many entries under a table of n moves (5.6). */
 static inline size_t braid_chain_bytes(unsigned n, size_t entries)
 {
     return (16 + entries * (15 + 2 * (size_t)braid_move_bits(n)) + 7) / 8;
@@ -202,11 +202,11 @@ BRAID_CALL uint8_t braid_compare(const uint8_t *table, size_t table_length, cons
                                  size_t second_length, uint16_t allowance, uint8_t *workspace, size_t workspace_length, uint64_t *values);
 
 /*
- * As compare. After 'same' the answer area begins with the image of a chain that turns the first program into the second, in no more entries
- * than steps; its first 16 bits are their number e, so that it has braid_chain_bytes(n, e) bytes, and braid_check answers it with BRAID_JOINS. Words on
- * its way may be longer than both programs. After 'different' the area is as found.
- * Values: as compare. Refusals: as compare, and 13 after 'same' if the area is shorter than braid_chain_bytes(n, steps). braid_compare gives the steps
- * beforehand; braid_chain_bytes(n, allowance) always suffices, and n is braid_table_moves(table).
+ * As compare. After 'same' the answer area begins with the image of a chain that turns the first program into the second. It has an entry for each step of
+ * the reversing on two different moves, and none for a step on two equal ones; the first values[3] bytes of the area, handed to braid_check with the
+ * same table and programs, are answered with BRAID_JOINS. Words on its way may be longer than both programs. After 'different' the area is as found.
+ * Values: BRAID_SAME, steps, entries, bytes of the image; or BRAID_DIFFERENT, steps, 0, 0. Refusals: as compare, and 13 after 'same' if the area is shorter
+ * than the image. braid_chain_bytes(n, allowance) always suffices, and so do as many entries as braid_compare's steps; n is braid_table_moves(table).
  */
 BRAID_CALL uint8_t braid_chain(const uint8_t *table, size_t table_length, const uint8_t *first, size_t first_length, const uint8_t *second,
                                size_t second_length, uint16_t allowance, uint8_t *workspace, size_t workspace_length, uint8_t *answer,
