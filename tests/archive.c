@@ -138,7 +138,7 @@ static void engine(void)
 {
     static const uint8_t braid3[] = {0x20, 0x04, 0x90, 0x86, 0x30, 0x92, 0x92, 0x60}, one[] = {0x00, 0x30, 0x40}, two[] = {0x00, 0x32, 0x08};
     static const uint8_t turned[] = {0x00, 0x21, 0x40};
-    size_t needed = braid_chain_bytes(3, 5);
+    size_t needed = braid_chain_bytes(3, 1);
     memcpy(table, braid3, table_length = sizeof braid3);
     memcpy(program, one, program_length = sizeof one);
     answers("clear", clear);
@@ -155,10 +155,11 @@ static void engine(void)
     hold("nothing is left after 5 steps", values[0] == BRAID_MOVES && values[1] == 0 && values[2] == 5);
     chain_length = needed;
     answers("chain", list);
+    hold("an entry for the one step on two different moves", values[1] == 5 && values[2] == 1 && values[3] == needed);
     chain_length = needed - 1;
     list();
-    hold("an area one byte too short for as many entries as steps", result == BRAID_ANSWER_SHORT && values[0] == BRAID_NO_PLACE);
-    chain_length = braid_chain_bytes(3, (size_t)chain[0] * 256 + chain[1]);
+    hold("an area one byte too short for the chain", result == BRAID_ANSWER_SHORT && values[0] == BRAID_NO_PLACE);
+    chain_length = needed;
     answers("check", check);
     hold("joins", values[0] == BRAID_JOINS);
     hold("bytes of the longest chain", braid_chain_bytes(BRAID_MOST_TABLE_MOVES, BRAID_MOST_ENTRIES) == BRAID_MOST_CHAIN_BYTES);

@@ -25,7 +25,7 @@ int main(void)
     need(braid_compare(table, t, first, m, second, n, BRAID_MOST_ALLOWANCE, workspace, w, values), "comparing");
     printf("%s after %u steps\n", values[0] == BRAID_SAME ? "same" : "different", (unsigned)values[1]);
     need(braid_chain(table, t, first, m, second, n, BRAID_MOST_ALLOWANCE, workspace, w, chain, sizeof chain, values), "listing");
-    c = braid_chain_bytes(3, (size_t)chain[0] * 256 + chain[1]);
+    c = (size_t)values[3];
     need(braid_check(table, t, first, m, second, n, chain, c, workspace, sizeof u, values), "checking");
     printf("a chain of %u bytes %s\n", (unsigned)c, values[0] == BRAID_JOINS ? "joins them" : "does not join them");
     return 0;

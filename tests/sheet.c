@@ -219,8 +219,7 @@ static void weighing(void)
     static const uint8_t one[] = {0x00, 0x10}, two[] = {0x00, 0x14}, rest[] = {1};
     /* The count in 16 bits; the offset in 15, then 2 and 1, less 1, in a bit each. */
     static const uint8_t grows[] = {0x00, 0x01, 0x00, 0x01, 0x00};
-    uint8_t listed[16];
-    size_t length;
+    uint8_t listed[5];
     uint8_t result;
     hold("1 2 1 = 2 2 clears with no workspace", braid_clear(ALL_OF(heavy), 0, workspace, 0, values), BRAID_ANSWER, "0 0 0 0", 0, nothing, 0);
     hold("completions that weigh the same do not suffice", braid_clear(ALL_OF(heavy_unequal), 0, ALL_OF(workspace), values),
@@ -239,12 +238,14 @@ static void weighing(void)
     hold("none after 2 of 1, without a step",
          braid_remainder(ALL_OF(heavy), ALL_OF(two), ALL_OF(one), MOST_STEPS, ALL_OF(workspace), ALL_OF(answer), values), BRAID_ANSWER,
          "1 0 0 0", AREA, nothing, 0);
-    result = braid_chain(ALL_OF(heavy), ALL_OF(two_two), ALL_OF(one_two_one), MOST_STEPS, ALL_OF(workspace), ALL_OF(answer), values);
-    length = answer[0] == 0 && answer[1] <= 4 ? braid_chain_bytes(2, answer[1]) : 0;
+    result = braid_chain(ALL_OF(heavy), ALL_OF(two_two), ALL_OF(one_two_one), MOST_STEPS, ALL_OF(workspace), answer, sizeof listed, values);
     memcpy(listed, answer, sizeof listed);
-    hold("a chain from 2 2 to 1 2 1", result, BRAID_ANSWER, "0 4 0 0", AREA, listed, length);
+    hold("a chain of 1 entry in 5 bytes from 2 2 to 1 2 1", result, BRAID_ANSWER, "0 4 1 5", AREA, ALL_OF(listed));
+    hold("4 bytes are too few for its image",
+         braid_chain(ALL_OF(heavy), ALL_OF(two_two), ALL_OF(one_two_one), MOST_STEPS, ALL_OF(workspace), answer, sizeof listed - 1, values),
+         BRAID_ANSWER_SHORT, "0 0 0 0", AREA, nothing, 0);
     hold("it joins in as many bytes as 2 2 weighs",
-         braid_check(ALL_OF(heavy), ALL_OF(two_two), ALL_OF(one_two_one), listed, length, workspace, 4, values), BRAID_ANSWER, "0 0 0 0", 4,
+         braid_check(ALL_OF(heavy), ALL_OF(two_two), ALL_OF(one_two_one), ALL_OF(listed), workspace, 4, values), BRAID_ANSWER, "0 0 0 0", 4,
          nothing, 0);
     hold("the entry 0, 2, 1 joins in 3 bytes",
          braid_check(ALL_OF(heavy), ALL_OF(two_two), ALL_OF(one_two_one), ALL_OF(grows), workspace, 3, values), BRAID_ANSWER, "0 0 0 0", 3,
@@ -288,6 +289,12 @@ static void remainders(void)
          nothing, 0);
 }
 
+/* Lists a chain under the braid table in an area of so many bytes. */
+static uint8_t chained(const uint8_t *first, size_t first_length, const uint8_t *second, size_t second_length, size_t length)
+{
+    return braid_chain(ALL_OF(braid3), first, first_length, second, second_length, MOST_STEPS, ALL_OF(workspace), answer, length, values);
+}
+
 /* Checks a chain under the braid table. */
 static uint8_t checked(const uint8_t *first, size_t first_length, const uint8_t *second, size_t second_length, const uint8_t *chain,
                        size_t chain_length)
@@ -299,16 +306,27 @@ static void chaining(void)
 {
     /* The count in 16 bits; the offset in 15, then 1 and 2, less 1, in 2 bits each. */
     static const uint8_t single[] = {0x00, 0x01, 0x00, 0x00, 0x20};
-    enum { STEPS = 5 };
-    uint8_t listed[14];
-    uint8_t result =
-        braid_chain(ALL_OF(braid3), ALL_OF(image_121), ALL_OF(image_212), MOST_STEPS, ALL_OF(workspace), ALL_OF(answer), values);
-    size_t entries = (size_t)answer[0] * 256 + answer[1];
-    size_t length = entries <= STEPS ? braid_chain_bytes(3, entries) : 0;
+    static const uint8_t again[] = {0x00, 0x30, 0x40}, no_entry[] = {0x00, 0x00}, one_of_3[] = {0x00, 0x10}, two_of_3[] = {0x00, 0x12};
+    /* 1 = 2, the move 2 under it, and the one entry 0, 1, 2. */
+    static const uint8_t equal_moves[] = {0x10, 0x20, 0x00}, two_of_2[] = {0x00, 0x14}, equal_chain[] = {0x00, 0x01, 0x00, 0x00, 0x80};
+    uint8_t listed[5];
+    uint8_t result = chained(ALL_OF(image_121), ALL_OF(image_212), sizeof listed);
     memcpy(listed, answer, sizeof listed);
-    tally("a listed chain has at most as many entries as steps", entries <= STEPS);
-    hold("a chain from 1 2 1 to 2 1 2", result, BRAID_ANSWER, "0 5 0 0", AREA, listed, length);
-    hold("the listed chain joins", checked(ALL_OF(image_121), ALL_OF(image_212), listed, length), BRAID_ANSWER, "0 0 0 0", AREA,
+    tally("a listed chain has an entry for the step on two different moves", listed[0] == 0 && listed[1] == 1);
+    tally("its bytes are those of 1 entry", braid_chain_bytes(3, 1) == sizeof listed);
+    hold("a chain of 1 entry in 5 bytes from 1 2 1 to 2 1 2", result, BRAID_ANSWER, "0 5 1 5", AREA, ALL_OF(listed));
+    hold("4 bytes are too few for it", chained(ALL_OF(image_121), ALL_OF(image_212), sizeof listed - 1), BRAID_ANSWER_SHORT, "0 0 0 0", AREA,
+         nothing, 0);
+    hold("more bytes stay as found", chained(ALL_OF(image_121), ALL_OF(image_212), AREA), BRAID_ANSWER, "0 5 1 5", AREA, ALL_OF(listed));
+    hold("no entry from 1 2 1 to itself", chained(ALL_OF(image_121), ALL_OF(again), sizeof no_entry), BRAID_ANSWER, "0 3 0 2", AREA,
+         ALL_OF(no_entry));
+    hold("a byte is too few for no entry", chained(ALL_OF(image_121), ALL_OF(again), sizeof no_entry - 1), BRAID_ANSWER_SHORT, "0 0 0 0", AREA,
+         nothing, 0);
+    hold("no chain from 1 to 2", chained(ALL_OF(one_of_3), ALL_OF(two_of_3), 0), BRAID_ANSWER, "1 1 0 0", AREA, nothing, 0);
+    hold("an entry though 1 = 2 puts nothing in their place",
+         braid_chain(ALL_OF(equal_moves), ALL_OF(one_of_3), ALL_OF(two_of_2), MOST_STEPS, ALL_OF(workspace), answer, 5, values), BRAID_ANSWER, "0 1 1 5",
+         AREA, ALL_OF(equal_chain));
+    hold("the listed chain joins", checked(ALL_OF(image_121), ALL_OF(image_212), ALL_OF(listed)), BRAID_ANSWER, "0 0 0 0", AREA,
          nothing, 0);
     hold("the entry 0, 1, 2 joins", checked(ALL_OF(image_121), ALL_OF(image_212), ALL_OF(single)), BRAID_ANSWER, "0 0 0 0", AREA,
          nothing, 0);

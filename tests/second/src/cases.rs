@@ -13,7 +13,7 @@ use crate::plain::plain_table;
 use crate::random::Random;
 use crate::reversing::{Ending, Most};
 use crate::table::Table;
-use crate::tables::{any, clearing, forward_word, growing, signed_word, walk, word_of_weight};
+use crate::tables::{any, clearing, forward_word, growing, signed_word, twins, walk, word_of_weight};
 use crate::word::{bytes, undoing, Word};
 pub use mirror::Mirrored;
 use std::collections::BTreeMap;
@@ -58,6 +58,40 @@ impl Weighed {
     ];
 }
 
+/// What the lengths of listed chains and of their areas must come to.
+#[derive(Clone, Copy, Debug, PartialEq, Eq, PartialOrd, Ord)]
+pub enum Listed {
+    /// 13 in an area one byte shorter than the chain's image.
+    ByteShort,
+    /// Answered in an area exactly as long as the image.
+    ExactArea,
+    /// Answered in a longer area.
+    LongerArea,
+    /// Answered in an area too short for an entry for each step.
+    AreaShortOfSteps,
+    /// Some entries, and fewer than steps, since moves vanished at the others.
+    FewerThanSteps,
+    /// No entry after some steps.
+    NoneAfterSteps,
+    /// An entry for each of some steps: two different moves vanished at the last one.
+    AsManyAsSteps,
+    /// A chain of 65,535 entries.
+    MostEntries,
+}
+
+impl Listed {
+    pub const ALL: [Listed; 8] = [
+        Listed::ByteShort,
+        Listed::ExactArea,
+        Listed::LongerArea,
+        Listed::AreaShortOfSteps,
+        Listed::FewerThanSteps,
+        Listed::NoneAfterSteps,
+        Listed::AsManyAsSteps,
+        Listed::MostEntries,
+    ];
+}
+
 /// How often each service gave each result, an answer's first value apart.
 #[derive(Default)]
 pub struct Tally {
@@ -69,6 +103,7 @@ pub struct Tally {
     pub beds: [usize; 3],
     pub results: BTreeMap<(&'static str, u8, u64), usize>,
     pub weighed: BTreeMap<Weighed, usize>,
+    pub listed: BTreeMap<Listed, usize>,
     /// Left reversings held against right reversing under the mirror: answers, open pairs and stops.
     pub backward: [usize; 3],
     pub mirrored: BTreeMap<Mirrored, usize>,
@@ -89,6 +124,9 @@ impl Tally {
         for (key, count) in &other.weighed {
             *self.weighed.entry(*key).or_default() += count;
         }
+        for (key, count) in &other.listed {
+            *self.listed.entry(*key).or_default() += count;
+        }
         for (key, count) in &other.mirrored {
             *self.mirrored.entry(*key).or_default() += count;
         }
@@ -97,6 +135,12 @@ impl Tally {
     fn note(&mut self, what: Weighed, holds: bool) {
         if holds {
             *self.weighed.entry(what).or_default() += 1;
+        }
+    }
+
+    fn note_listed(&mut self, what: Listed, holds: bool) {
+        if holds {
+            *self.listed.entry(what).or_default() += 1;
         }
     }
 }
@@ -275,7 +319,7 @@ impl Case<'_> {
         for order in [Order::Rightmost, Order::Random(Random::new(self.random.bits())), Order::Random(Random::new(self.random.bits()))] {
             match whole.result {
                 0 => {
-                    let Ending::Finished { numerator: n, denominator: d, steps: k } = orders::reverse(table, word, order, steps) else {
+                    let Ending::Finished { numerator: n, denominator: d, steps: k, .. } = orders::reverse(table, word, order, steps) else {
                         return Err(format!("another order doesn't finish in {steps} steps: {table:?} {word:?}"));
                     };
                     let same = (n.len(), d.len(), k) == (numerator, denominator, steps);
@@ -374,9 +418,11 @@ impl Case<'_> {
         self.tally.note(Weighed::SameOfUnequalLength, answered && left.values[0] == 0 && !equally_long);
         self.tally
             .note(Weighed::DifferentOfEqualLength, answered && left.values[..2] == [1, 0] && equally_long && !self.open_at_once(&sound));
-        let exact = chain_bytes(table.moves, steps);
-        if left.result == 0 && left.values[0] == 0 {
+        let same = answered && left.values[0] == 0;
+        let exact = if same { left.values[3] as usize } else { chain_bytes(table.moves, steps) };
+        if same {
             self.listed(&sound, &left)?;
+            self.around_image(&sound, most.bytes, exact)?;
         }
         for _ in 0..5 {
             let near = self.random.pick(&[most.steps, most.steps, steps]);
@@ -504,15 +550,45 @@ impl Case<'_> {
         read_table(table).is_ok_and(|table| meeting(&table).is_some_and(|(a, b)| table.completion(a, b).is_none()))
     }
 
-    /// Both implementations follow a listed chain to the second program; as many bytes of workspace as the first one weighs are enough, and as many as
-    /// the longest word has moves are needed.
+    /// Areas around the end of a chain's image: a byte less than it has is 13, as many suffice, and so do more.
+    fn around_image(&mut self, made: &Call, workspace: usize, bytes: usize) -> Held<()> {
+        let more = bytes + self.random.between(1, 40);
+        for (answer, result) in [(bytes - 1, 13), (bytes, 0), (more, 0)] {
+            let left = self.held(made, workspace, answer)?;
+            if left.result != result {
+                return Err(format!("{} for a chain of {bytes} bytes in an area of {answer}: {made:02x?}", left.result));
+            }
+            self.tally.note_listed(Listed::ByteShort, result == 13);
+            if result == 0 {
+                self.listed(made, &left)?;
+            }
+        }
+        Ok(())
+    }
+
+    /// Notes what a listed chain's entries are to the steps, and its bytes to the area.
+    fn listed_lengths(&mut self, moves: u8, left: &Left) {
+        let [_, steps, entries, bytes] = left.values.map(|value| value as usize);
+        let area = left.answer.len();
+        self.tally.note_listed(Listed::ExactArea, area == bytes);
+        self.tally.note_listed(Listed::LongerArea, area > bytes);
+        self.tally.note_listed(Listed::AreaShortOfSteps, area < chain_bytes(moves, steps));
+        self.tally.note_listed(Listed::FewerThanSteps, 0 < entries && entries < steps);
+        self.tally.note_listed(Listed::NoneAfterSteps, 0 == entries && entries < steps);
+        self.tally.note_listed(Listed::AsManyAsSteps, 0 < entries && entries == steps);
+        self.tally.note_listed(Listed::MostEntries, entries == 65_535);
+    }
+
+    /// Both implementations follow a listed chain to the second program: the bytes that were told, and no others. As many bytes of workspace as the first
+    /// one weighs are enough, and as many as the longest word has moves are needed.
     fn listed(&mut self, made: &Call, left: &Left) -> Held<()> {
         let Call::Chain { table, first, second, .. } = made else {
             return Err("no chain was asked for".into());
         };
-        let image = listed_chain(made, left.values[1] as usize, &left.answer)?;
+        let image = listed_chain(made, left.values[2] as usize, left.values[3] as usize, &left.answer)?;
         let refused = |r| format!("{r:?}");
         let read = read_table(table).map_err(refused)?;
+        self.listed_lengths(read.moves, left);
         let (from, to) = (read_forward(first, read.moves).map_err(refused)?, read_forward(second, read.moves).map_err(refused)?);
         let entries = read_chain(&image, read.moves).map_err(refused)?;
         let mut longest = 0;
@@ -645,7 +721,7 @@ impl Case<'_> {
     }
 
     /// q times 2, then 3 3, is 3 3, then q times 2, in (2 p + 1) q + 2 steps where 2 is p times 1. The first 3 leaves 1s behind, past which the second is
-    /// then brought.
+    /// then brought. Two 3s vanish, and p - 1 times 1 for each 2 on the other side: (p + 2) q steps are on two different moves.
     fn listed_growth(&mut self) -> Held<()> {
         let power = self.random.pick(&[2, 5, 8, 8]);
         let third = self.random.between(1, 8) as u8;
@@ -654,11 +730,12 @@ impl Case<'_> {
         let (twos, threes) = (vec![2; q], vec![3, 3]);
         let [first, second] = [[twos.clone(), threes.clone()], [threes, twos]].map(|words| program_image(table.moves, &words.concat()));
         let steps = (2 * usize::from(power) + 1) * q + 2;
-        let exact = chain_bytes(table.moves, steps);
+        let entries = (usize::from(power) + 2) * q;
+        let exact = chain_bytes(table.moves, entries);
         let sound = Call::Chain { table: table_image(&table), first: first.clone(), second: second.clone(), allowance: steps as u16 };
         let left = self.held(&sound, 32_768, exact)?;
-        if left.values != [0, steps as u64, 0, 0] {
-            return Err(format!("not the same after {steps} steps: {table:?} {q}"));
+        if left.values != [0, steps, entries, exact].map(|value| value as u64) {
+            return Err(format!("not the same after {steps} steps by {entries} entries: {table:?} {q}"));
         }
         self.listed(&sound, &left)?;
         let answer = self.random.pick(&[exact, exact - 1, exact + 9]);
@@ -668,21 +745,36 @@ impl Case<'_> {
         Ok(())
     }
 
-    /// Under commuting moves, k times 1 then k times 2 is k times 2 then k times 1, in k * k + 2 * k steps: 65,535 for k = 255.
+    /// Under commuting moves, k times 1 then k times 2 is k times 2 then k times 1, in k * k + 2 * k steps: 65,535 for k = 255. At 2 * k of them two equal
+    /// moves vanish; where the second program has 3 for 1 and 4 for 2, they are different, and every step has its entry.
     fn many_steps(&mut self) -> Held<()> {
-        let k = self.random.pick(&[60, 200, 254, 255, 256]);
-        let weights = vec![self.random.between(1, 8) as u8, self.random.between(1, 8) as u8];
-        let table = Table::light(2, vec![Some((vec![2], vec![1]))]).weighing(weights);
-        let (ones, twos) = (vec![1; k], vec![2; k]);
-        let [first, second] = [[ones.clone(), twos.clone()], [twos, ones]].map(|words| program_image(2, &words.concat()));
-        let allowance = self.allowance(k * k + 2 * k);
-        let chain = Call::Chain { table: table_image(&table), first, second, allowance };
-        let exact = chain_bytes(2, k * k + 2 * k);
+        let k = self.random.pick(&[60, 200, 254, 255, 255, 256]);
+        let (one, two) = (self.random.between(1, 8) as u8, self.random.between(1, 8) as u8);
+        let steps = k * k + 2 * k;
+        let twin = self.random.once_in(2);
+        let (table, first_again, second_again, entries) = if twin {
+            (twins(one, two), 3, 4, steps)
+        } else {
+            (Table::light(2, vec![Some((vec![2], vec![1]))]).weighing(vec![one, two]), 1, 2, k * k)
+        };
+        let exact = chain_bytes(table.moves, entries);
+        let words = [[vec![1; k], vec![2; k]], [vec![second_again; k], vec![first_again; k]]];
+        let [first, second] = words.map(|words| program_image(table.moves, &words.concat()));
+        let of = |allowance| Call::Chain { table: table_image(&table), first: first.clone(), second: second.clone(), allowance };
+        if steps <= 65_535 {
+            let sound = of(steps as u16);
+            let left = self.held(&sound, 4 * k, exact)?;
+            if left.values != [0, steps, entries, exact].map(|value| value as u64) {
+                return Err(format!("not the same after {steps} steps by {entries} entries: {table:?} {k}"));
+            }
+            self.listed(&sound, &left)?;
+        }
+        let made = of(self.allowance(steps));
         let answer = self.random.pick(&[exact, exact - 1, exact + 9]);
         let workspace = self.random.pick(&[4 * k, 4 * k - 1, 32_768]);
-        let left = self.held(&chain, workspace, answer)?;
+        let left = self.held(&made, workspace, answer)?;
         if left.result == 0 {
-            self.listed(&chain, &left)?;
+            self.listed(&made, &left)?;
         }
         Ok(())
     }
@@ -710,6 +802,9 @@ impl Case<'_> {
                 let left = self.held(&chain, workspace, 70_000 * 3)?;
                 if left.result == 0 && left.values[0] == 0 {
                     self.listed(&chain, &left)?;
+                    let exact = left.values[3] as usize;
+                    let answer = self.random.pick(&[exact, exact - 1]);
+                    self.held(&chain, workspace, answer)?;
                 }
                 let entries = chain_image(table.moves, &entries);
                 self.held(&Call::Check { table: image.clone(), first: one, second: two.clone(), entries }, 4_095, 0)?;

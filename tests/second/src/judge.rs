@@ -1,19 +1,19 @@
 //! Whether what the firmware left behind is what the second implementation says: result, values and every byte of both areas.
 use crate::chain::follow;
 use crate::guarded::{Call, Left};
-use crate::image::{chain_bytes, chain_image, read_chain, read_forward, read_table};
-use crate::outcome::{Passage, Place, Refusal, Remainder, Verdict};
+use crate::image::{chain_image, read_chain, read_forward, read_table};
+use crate::outcome::{Listing, Passage, Place, Refusal, Remainder, Verdict};
 use crate::reversing::{Limits, Most};
 use crate::services;
 use crate::word::bytes;
 
-/// What a call must leave. The answer area begins with `written`; after 'same' a chain call's area begins with a chain of at most `listed`
-/// entries instead.
+/// What a call must leave. The answer area begins with `written`; after 'same' a chain call's area begins instead with a chain of exactly as many
+/// entries, in exactly as many bytes, as `listed` says.
 pub struct Expected {
     pub result: u8,
     pub values: [u64; 4],
     written: Vec<u8>,
-    listed: Option<usize>,
+    listed: Option<(usize, usize)>,
 }
 
 impl Expected {
@@ -24,6 +24,15 @@ impl Expected {
     fn fraction(fraction: services::Fraction) -> Expected {
         let lengths = [fraction.numerator.len(), fraction.denominator.len(), fraction.steps, 0];
         Expected::answer(lengths.map(|x| x as u64), [bytes(&fraction.numerator), bytes(&fraction.denominator)].concat())
+    }
+
+    fn listing(listing: Listing) -> Expected {
+        match listing {
+            Listing::Same { steps, entries, bytes } => {
+                Expected { listed: Some((entries, bytes)), ..Expected::answer([0, steps as u64, entries as u64, bytes as u64], Vec::new()) }
+            }
+            Listing::Different { steps } => Expected::answer([1, steps as u64, 0, 0], Vec::new()),
+        }
     }
 
     fn refused(refusal: Refusal) -> Expected {
@@ -59,10 +68,7 @@ pub fn expected(call: &Call, workspace: usize, answer: usize, most: &mut Most) -
         Call::Compare { table, first, second, allowance } => services::compare(table, first, second, limits(allowance), most)
             .map(|verdict| Expected::answer(verdict_values(verdict), Vec::new())),
         Call::Chain { table, first, second, allowance } => {
-            services::chain(table, first, second, limits(allowance), answer, most).map(|verdict| Expected {
-                listed: (verdict.0 == Verdict::Same).then_some(verdict.1),
-                ..Expected::answer(verdict_values(verdict), Vec::new())
-            })
+            services::chain(table, first, second, limits(allowance), answer, most).map(Expected::listing)
         }
         Call::Remainder { table, done, pattern, allowance } => {
             services::remainder(table, done, pattern, limits(allowance), answer, most).map(|(left, steps)| match left {
@@ -94,29 +100,24 @@ fn has_workspace(call: &Call) -> bool {
     !matches!(call, PackTable { .. } | UnpackTable { .. } | PackProgram { .. } | UnpackProgram { .. } | Bed { .. })
 }
 
-/// The image of the chain that an answer area begins with, where it is one of at most `steps` entries that joins the programs.
-pub fn listed_chain(call: &Call, steps: usize, answer: &[u8]) -> Result<Vec<u8>, String> {
+/// The first `bytes` bytes of an answer area, where they are the image of a chain of exactly `entries` entries that joins the programs.
+pub fn listed_chain(call: &Call, entries: usize, bytes: usize, answer: &[u8]) -> Result<Vec<u8>, String> {
     let Call::Chain { table, first, second, .. } = call else {
         return Err("no chain was asked for".into());
     };
     let table = read_table(table).map_err(|r| format!("{r:?}"))?;
     let first = read_forward(first, table.moves).map_err(|r| format!("{r:?}"))?;
     let second = read_forward(second, table.moves).map_err(|r| format!("{r:?}"))?;
-    let [high, low, ..] = answer else {
-        return Err("the area is too short for a count".into());
-    };
-    let count = usize::from(*high) * 256 + usize::from(*low);
-    let length = chain_bytes(table.moves, count);
-    if count > steps || length > answer.len() {
-        return Err(format!("the chain has {count} entries after {steps} steps"));
+    let image = answer.get(..bytes).ok_or(format!("the area has no {bytes} bytes"))?;
+    let listed = read_chain(image, table.moves).map_err(|r| format!("the first {bytes} bytes are refused as a chain with {r:?}"))?;
+    if listed.len() != entries {
+        return Err(format!("the chain has {} entries, not {entries}", listed.len()));
     }
-    let image = answer[..length].to_vec();
-    let entries = read_chain(&image, table.moves).map_err(|r| format!("the chain is refused with {r:?}"))?;
-    if chain_image(table.moves, &entries) != image {
+    if chain_image(table.moves, &listed) != image {
         return Err("the chain's image is not that of its entries".into());
     }
-    match follow(&table, &first, &second, &entries, usize::MAX, &mut 0) {
-        Ok(Passage::Joins) => Ok(image),
+    match follow(&table, &first, &second, &listed, usize::MAX, &mut 0) {
+        Ok(Passage::Joins) => Ok(image.to_vec()),
         other => Err(format!("the listed chain doesn't join the programs: {other:?}")),
     }
 }
@@ -132,7 +133,7 @@ pub fn judge(call: &Call, expected: &Expected, workspace: &[u8], answer: &[u8], 
         return Err(format!("the workspace is not {}", if kept { "as found" } else { "all zero" }));
     }
     let written = match expected.listed {
-        Some(steps) => listed_chain(call, steps, &left.answer)?,
+        Some((entries, bytes)) => listed_chain(call, entries, bytes, &left.answer)?,
         None => expected.written.clone(),
     };
     if left.answer.len() != answer.len() || !left.answer.starts_with(&written) {

@@ -79,7 +79,7 @@ fn before(relations: &[Relation], a: u8, b: u8) -> Option<(&[i8], &[i8])> {
 pub fn left_reverse(table: &Table, start: Word, limits: Limits, most: &mut Most) -> Ending {
     let relations = relations(table);
     let mut word = start;
-    let mut steps = 0;
+    let (mut steps, mut swaps) = (0, 0);
     most.bytes = most.bytes.max(word.len());
     if word.len() > limits.workspace {
         return Ending::WorkspaceShort;
@@ -88,7 +88,7 @@ pub fn left_reverse(table: &Table, start: Word, limits: Limits, most: &mut Most)
         let Some(at) = rightmost(&word) else {
             let split = word.iter().position(|m| *m > 0).unwrap_or(word.len());
             let numerator = word.split_off(split);
-            return Ending::Finished { numerator, denominator: undoing(&word), steps };
+            return Ending::Finished { numerator, denominator: undoing(&word), steps, swaps };
         };
         let (forward, back) = (word[at].unsigned_abs(), word[at + 1].unsigned_abs());
         let Some((u, v)) = before(&relations, forward, back) else {
@@ -104,6 +104,7 @@ pub fn left_reverse(table: &Table, start: Word, limits: Limits, most: &mut Most)
         }
         word.splice(at..at + 2, undoing(u).into_iter().chain(v.iter().copied()));
         steps += 1;
+        swaps += usize::from(forward != back);
         most.steps = most.steps.max(steps);
     }
 }

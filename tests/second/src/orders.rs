@@ -31,13 +31,13 @@ fn sites<'a>(table: &'a Table, word: &[i8]) -> Vec<Site<'a>> {
 
 pub fn reverse(table: &Table, start: &[i8], mut order: Order, allowed: usize) -> Ending {
     let mut word: Word = start.to_vec();
-    let mut steps = 0;
+    let (mut steps, mut swaps) = (0, 0);
     loop {
         let mut open = sites(table, &word);
         let Some(rightmost) = open.first() else {
             let numerator: Word = word.iter().copied().take_while(|m| *m > 0).collect();
             let denominator = undoing(&word[numerator.len()..]);
-            return Ending::Finished { numerator, denominator, steps };
+            return Ending::Finished { numerator, denominator, steps, swaps };
         };
         let (a, b) = (word[rightmost.at].unsigned_abs(), word[rightmost.at + 1].unsigned_abs());
         let chosen = match &mut order {
@@ -56,6 +56,7 @@ pub fn reverse(table: &Table, start: &[i8], mut order: Order, allowed: usize) ->
         if steps == allowed {
             return Ending::AllowanceUsed;
         }
+        swaps += usize::from(word[chosen.at] + word[chosen.at + 1] != 0);
         let tail = word.split_off(chosen.at + 2);
         word.truncate(chosen.at);
         word.extend(there);

@@ -33,6 +33,13 @@ pub enum Verdict {
     Different,
 }
 
+/// The answer of chain. After same a chain of just so many entries is listed, in an image of just so many bytes.
+#[derive(Clone, Copy, Debug, PartialEq)]
+pub enum Listing {
+    Same { steps: usize, entries: usize, bytes: usize },
+    Different { steps: usize },
+}
+
 #[derive(Clone, Copy, Debug, PartialEq)]
 pub enum Passage {
     Joins,

@@ -2,9 +2,10 @@
 use crate::table::Table;
 use crate::word::{undoing, Word};
 
+/// How a reversing ends. `swaps` are those of the steps that were on two different moves.
 #[derive(Clone, Debug, PartialEq)]
 pub enum Ending {
-    Finished { numerator: Word, denominator: Word, steps: usize },
+    Finished { numerator: Word, denominator: Word, steps: usize, swaps: usize },
     Open { a: u8, b: u8, steps: usize },
     AllowanceUsed,
     WorkspaceShort,
@@ -30,7 +31,7 @@ fn leftmost(word: &[i8]) -> Option<usize> {
 /// Reverses a word. `kept` bytes of the workspace hold something else meanwhile.
 pub fn reverse(table: &Table, start: Word, kept: usize, limits: Limits, most: &mut Most) -> Ending {
     let mut word = start;
-    let mut steps = 0;
+    let (mut steps, mut swaps) = (0, 0);
     most.bytes = most.bytes.max(kept + word.len());
     if kept + word.len() > limits.workspace {
         return Ending::WorkspaceShort;
@@ -40,7 +41,7 @@ pub fn reverse(table: &Table, start: Word, kept: usize, limits: Limits, most: &m
             let split = word.iter().position(|m| *m < 0).unwrap_or(word.len());
             let denominator = undoing(&word[split..]);
             word.truncate(split);
-            return Ending::Finished { numerator: word, denominator, steps };
+            return Ending::Finished { numerator: word, denominator, steps, swaps };
         };
         let (a, b) = ((-word[at]) as u8, word[at + 1] as u8);
         let (Some(there), Some(back)) = (table.completion(a, b), table.completion(b, a)) else {
@@ -56,6 +57,7 @@ pub fn reverse(table: &Table, start: Word, kept: usize, limits: Limits, most: &m
         }
         word.splice(at..at + 2, there.iter().copied().chain(undoing(back)));
         steps += 1;
+        swaps += usize::from(a != b);
         most.steps = most.steps.max(steps);
     }
 }

@@ -3,7 +3,7 @@ use crate::bed::Bed;
 use crate::chain::{follow, side};
 use crate::image::*;
 use crate::mirror::{left_reverse as run_left, mirror, offending};
-use crate::outcome::{Passage, Place, Refusal, Remainder, Verdict};
+use crate::outcome::{Listing, Passage, Place, Refusal, Remainder, Verdict};
 use crate::plain::{plain_table, read_plain_program, read_plain_table};
 use crate::reversing::{reverse as run, Ending, Limits, Most};
 use crate::table::Table;
@@ -25,7 +25,7 @@ pub fn reverse(table: &[u8], program: &[u8], limits: Limits, answer: usize, most
 /// What comes of the reversing of reverse or left_reverse.
 fn fraction(ending: Ending, answer: usize) -> Result<Fraction, Refusal> {
     match ending {
-        Ending::Finished { numerator, denominator, steps } => {
+        Ending::Finished { numerator, denominator, steps, .. } => {
             if numerator.len() + denominator.len() > answer {
                 return Err(Refusal::plain(13));
             }
@@ -151,37 +151,41 @@ pub fn mirror_clear(table: &[u8], limits: Limits, most: &mut Most) -> Result<(),
     cubes_hold(&mirror, 17, Place::MirrorTriple, limits, most)
 }
 
-pub fn compare(table: &[u8], first: &[u8], second: &[u8], limits: Limits, most: &mut Most) -> Result<(Verdict, usize), Refusal> {
-    let table = read_table(table)?;
+/// A verdict with its steps, and after same the number of those on two different moves.
+fn compared(table: &Table, first: &[u8], second: &[u8], limits: Limits, most: &mut Most) -> Result<(Verdict, usize, usize), Refusal> {
     let first = read_forward(first, table.moves)?;
     let second = read_forward(second, table.moves)?;
-    cleared(&table, limits, most)?;
+    cleared(table, limits, most)?;
     if table.weight(&first) != table.weight(&second) {
-        return Ok((Verdict::Different, 0));
+        return Ok((Verdict::Different, 0, 0));
     }
-    match run(&table, [undoing(&first), second].concat(), 0, limits, most) {
-        Ending::Finished { numerator, denominator, steps } if numerator.is_empty() && denominator.is_empty() => Ok((Verdict::Same, steps)),
-        Ending::Finished { steps, .. } => Ok((Verdict::Different, steps)),
-        Ending::Open { steps, .. } => Ok((Verdict::Different, steps)),
+    match run(table, [undoing(&first), second].concat(), 0, limits, most) {
+        Ending::Finished { numerator, denominator, steps, swaps } if numerator.is_empty() && denominator.is_empty() => {
+            Ok((Verdict::Same, steps, swaps))
+        }
+        Ending::Finished { steps, .. } => Ok((Verdict::Different, steps, 0)),
+        Ending::Open { steps, .. } => Ok((Verdict::Different, steps, 0)),
         Ending::AllowanceUsed => Err(Refusal::plain(11)),
         Ending::WorkspaceShort => Err(Refusal::plain(12)),
     }
 }
 
-/// As compare. Which chain is listed is left open, so the result has none.
-pub fn chain(
-    table: &[u8],
-    first: &[u8],
-    second: &[u8],
-    limits: Limits,
-    answer: usize,
-    most: &mut Most,
-) -> Result<(Verdict, usize), Refusal> {
-    let (verdict, steps) = compare(table, first, second, limits, most)?;
-    if verdict == Verdict::Same && answer < chain_bytes(read_table(table)?.moves, steps) {
+pub fn compare(table: &[u8], first: &[u8], second: &[u8], limits: Limits, most: &mut Most) -> Result<(Verdict, usize), Refusal> {
+    compared(&read_table(table)?, first, second, limits, most).map(|(verdict, steps, _)| (verdict, steps))
+}
+
+/// As compare. Which chain is listed is left open but for its number of entries, so the result has none.
+pub fn chain(table: &[u8], first: &[u8], second: &[u8], limits: Limits, answer: usize, most: &mut Most) -> Result<Listing, Refusal> {
+    let table = read_table(table)?;
+    let (verdict, steps, entries) = compared(&table, first, second, limits, most)?;
+    if verdict == Verdict::Different {
+        return Ok(Listing::Different { steps });
+    }
+    let bytes = chain_bytes(table.moves, entries);
+    if answer < bytes {
         return Err(Refusal::plain(13));
     }
-    Ok((verdict, steps))
+    Ok(Listing::Same { steps, entries, bytes })
 }
 
 /// The moves that are left of a pattern after those done, with the steps.

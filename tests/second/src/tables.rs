@@ -168,6 +168,12 @@ pub fn growing(power: u8, third: u8) -> Table {
         .weighing(vec![1, power, third])
 }
 
+/// 3 is 1 and 4 is 2, by relations with nothing to complete, and 1 and 2 commute under either number. A step on 1 and 3 lets two different moves vanish.
+pub fn twins(one: u8, two: u8) -> Table {
+    Table::from_pairs(4, |a, b| Some(if b - a == 2 { (vec![], vec![]) } else { (vec![b as i8], vec![a as i8]) }))
+        .weighing(vec![one, two, one, two])
+}
+
 /// Two tables side by side; moves of different ones commute, or are open to each other.
 fn beside(one: &Table, two: &Table, commute: bool) -> Table {
     let shift = one.moves;

@@ -1,11 +1,14 @@
 //! That the comparison of the two implementations can fail: each change of what a sound call left is noticed.
 use second::guarded::{call, Call, Left};
-use second::image::{program_image, table_image};
+use second::image::{chain_image, program_image, table_image, Entry};
 use second::judge::{expected, judge};
+use second::outcome::Passage;
 use second::plain::plain_table;
 use second::reversing::Most;
+use second::services::check;
+use second::table::Table;
 use second::tables::mirror::clears_alone;
-use second::tables::{braid, doubled};
+use second::tables::{braid, doubled, growing};
 
 /// A call, and whether it is refused with the workspace as found.
 fn calls() -> Vec<(Call, bool)> {
@@ -24,6 +27,7 @@ fn calls() -> Vec<(Call, bool)> {
         (Call::Compare { table: heavy.clone(), first: longer.clone(), second: shorter.clone(), allowance: 100 }, false),
         (Call::Compare { table: heavy.clone(), first: lighter.clone(), second: shorter.clone(), allowance: 100 }, false),
         (Call::Chain { table: heavy.clone(), first: shorter.clone(), second: longer.clone(), allowance: 100 }, false),
+        (Call::Chain { table: heavy.clone(), first: shorter.clone(), second: lighter.clone(), allowance: 100 }, false),
         (Call::Remainder { table: heavy.clone(), done: shorter, pattern: lighter, allowance: 100 }, false),
         (Call::UnpackTable { table: heavy }, true),
         (Call::PackTable { plain: vec![2, 1, 9, 255] }, true),
@@ -81,5 +85,47 @@ fn every_change_is_noticed() {
         for k in 0..answer.len() {
             assert!(judged(&changed(&left, |l| l.answer[k] ^= 4)).is_err(), "byte {k} of the answer area of {made:?}");
         }
+    }
+}
+
+/// Programs with the values that chain tells of them, and another chain between them, which is longer or shorter than the listed one.
+fn other_chains() -> Vec<(Table, [Vec<i8>; 2], [u64; 4], Vec<Entry>)> {
+    let chain = |entries: &[(usize, u8, u8)]| entries.iter().map(|(offset, a, b)| Entry { offset: *offset, a: *a, b: *b }).collect();
+    let one_move = Table::from_pairs(3, |_, _| Some((vec![], vec![])));
+    vec![
+        // A swap, its opposite, and the swap again.
+        (braid(3), [vec![1, 2, 1], vec![2, 1, 2]], [0, 5, 1, 5], chain(&[(0, 1, 2), (0, 2, 1), (0, 1, 2)])),
+        (doubled(), [vec![2, 2], vec![1, 2, 1]], [0, 4, 1, 5], chain(&[(0, 2, 1), (0, 1, 2), (0, 2, 1)])),
+        // A swap and its opposite between equal programs.
+        (braid(3), [vec![1, 2, 1], vec![1, 2, 1]], [0, 3, 0, 2], chain(&[(0, 1, 2), (0, 2, 1)])),
+        // One entry more: from 1 to 2 by way of 3.
+        (one_move, [vec![1], vec![2]], [0, 1, 1, 5], chain(&[(0, 1, 3), (0, 3, 2)])),
+        // One entry less: the second 3 is brought past a 2 and not past three 1s.
+        (growing(3, 1), [vec![2, 3, 3], vec![3, 3, 2]], [0, 9, 5, 14], chain(&[(0, 2, 3), (1, 1, 2), (1, 2, 3), (2, 1, 2)])),
+    ]
+}
+
+#[test]
+fn a_chain_of_another_length_is_noticed() {
+    let (workspace, answer) = (vec![0x5A; 40], vec![0x77; 64]);
+    for (table, words, values, entries) in other_chains() {
+        let image = table_image(&table);
+        let [first, second] = words.map(|word| program_image(table.moves, &word));
+        let other = chain_image(table.moves, &entries);
+        assert_eq!(check(&image, &first, &second, &other, 40, &mut 0), Ok(Passage::Joins), "{entries:?}");
+        let made = Call::Chain { table: image, first, second, allowance: 100 };
+        let must = expected(&made, workspace.len(), answer.len(), &mut Most::default());
+        let left = call(&made, &workspace, &answer).unwrap();
+        let judged = |left: &Left| judge(&made, &must, &workspace, &answer, left);
+        assert_eq!((judged(&left), left.values), (Ok(()), values), "{made:?}");
+        let relisted = changed(&left, |l| l.answer = [&other, &answer[other.len()..]].concat());
+        assert!(judged(&relisted).is_err(), "{entries:?}");
+        let told = [0, values[1], entries.len() as u64, other.len() as u64];
+        assert_ne!(told, values);
+        assert!(judged(&changed(&relisted, |l| l.values = told)).is_err(), "{entries:?}, as it is told");
+        assert!(judged(&changed(&left, |l| l.values[2] = values[2] + 1)).is_err());
+        assert!(judged(&changed(&left, |l| l.values[3] = values[3] + 1)).is_err());
+        assert!(judged(&changed(&left, |l| l.values[3] = values[3] - 1)).is_err());
+        assert!(judged(&changed(&left, |l| l.values[2..].fill(0))).is_err());
     }
 }

@@ -2,14 +2,14 @@
 use second::image::{chain_image, program_image, read_program, read_table, table_image, Entry};
 use second::mirror::mirror;
 use second::orders::{self, Order};
-use second::outcome::{Passage, Place, Refusal, Remainder, Verdict};
+use second::outcome::{Listing, Passage, Place, Refusal, Remainder, Verdict};
 use second::plain::{plain_table, read_plain_table};
 use second::random::Random;
 use second::reversing::{Ending, Limits, Most};
 use second::services::{bed, chain, check, clear, compare, left_reverse, mirror_clear, remainder, reverse};
 use second::table::Table;
 use second::tables::mirror::clears_alone;
-use second::tables::{braid, doubled};
+use second::tables::{braid, doubled, growing, twins};
 
 const WIDE: Limits = Limits { allowance: 65_535, workspace: 32_768 };
 
@@ -21,6 +21,11 @@ fn reversed(table: &Table, word: &[i8], limits: Limits) -> Result<(Vec<i8>, Vec<
 fn compared(table: &Table, first: &[i8], second: &[i8], limits: Limits) -> Result<(Verdict, usize), Refusal> {
     let [first, second] = [first, second].map(|word| program_image(table.moves, word));
     compare(&table_image(table), &first, &second, limits, &mut Most::default())
+}
+
+fn chained(table: &Table, first: &[i8], second: &[i8], answer: usize) -> Result<Listing, Refusal> {
+    let [first, second] = [first, second].map(|word| program_image(table.moves, word));
+    chain(&table_image(table), &first, &second, WIDE, answer, &mut Most::default())
 }
 
 fn left(table: &Table, done: &[i8], pattern: &[i8], answer: usize) -> Result<(Remainder, usize), Refusal> {
@@ -114,7 +119,7 @@ fn reversings() {
 #[test]
 fn other_orders() {
     let word = [-3, 1, -2, 1, 2];
-    let whole = Ending::Finished { numerator: vec![1, 1, 2, 3], denominator: vec![1, 3, 2], steps: 5 };
+    let whole = Ending::Finished { numerator: vec![1, 1, 2, 3], denominator: vec![1, 3, 2], steps: 5, swaps: 4 };
     assert_eq!(orders::reverse(&braid(3), &word, Order::Rightmost, 5), whole);
     assert_eq!(orders::reverse(&braid(3), &word, Order::Random(Random::new(1)), 5), whole);
     assert_eq!(orders::reverse(&braid(3), &word, Order::Rightmost, 4), Ending::AllowanceUsed);
@@ -128,6 +133,28 @@ fn comparisons() {
     assert_eq!(compared(&braid(3), &[1, 2, 1], &[2, 1, 2], WIDE), Ok((Verdict::Same, 5)));
     assert_eq!(compared(&braid(3), &[1], &[2], WIDE), Ok((Verdict::Different, 1)));
     assert_eq!(compared(&braid(1), &[], &[], Limits { allowance: 65_535, workspace: 0 }), Ok((Verdict::Same, 0)));
+}
+
+#[test]
+fn lengths_of_chains() {
+    let one_entry = Ok(Listing::Same { steps: 5, entries: 1, bytes: 5 });
+    for answer in [5, 6, 13, 14, 32_768] {
+        assert_eq!(chained(&braid(3), &[1, 2, 1], &[2, 1, 2], answer), one_entry);
+    }
+    for answer in [4, 2, 0] {
+        assert_eq!(chained(&braid(3), &[1, 2, 1], &[2, 1, 2], answer), Err(Refusal::plain(13)));
+    }
+    assert_eq!(chained(&braid(3), &[1], &[2], 0), Ok(Listing::Different { steps: 1 }));
+    let equal = Table::light(2, vec![Some((vec![], vec![]))]);
+    assert_eq!(chained(&equal, &[1], &[2], 5), Ok(Listing::Same { steps: 1, entries: 1, bytes: 5 }));
+    assert_eq!(chained(&braid(3), &[1], &[], 0), Ok(Listing::Different { steps: 0 }));
+    assert_eq!(chained(&braid(3), &[1, 2, 1], &[1, 2, 1], 2), Ok(Listing::Same { steps: 3, entries: 0, bytes: 2 }));
+    assert_eq!(chained(&braid(3), &[1, 2, 1], &[1, 2, 1], 1), Err(Refusal::plain(13)));
+    assert_eq!(chained(&braid(1), &[], &[], 2), Ok(Listing::Same { steps: 0, entries: 0, bytes: 2 }));
+    // Two different moves that vanish have an entry.
+    assert_eq!(chained(&twins(1, 1), &[1, 2], &[4, 3], 10), Ok(Listing::Same { steps: 3, entries: 3, bytes: 10 }));
+    assert_eq!(chained(&twins(1, 1), &[1, 2], &[4, 3], 9), Err(Refusal::plain(13)));
+    assert_eq!(chained(&growing(3, 1), &[2, 3, 3], &[3, 3, 2], 14), Ok(Listing::Same { steps: 9, entries: 5, bytes: 14 }));
 }
 
 #[test]
@@ -194,7 +221,7 @@ fn a_word_that_grows() {
     let checked = |workspace| check(&table_image(&doubled()), &first, &second, &entries, workspace, &mut 0);
     assert_eq!([4, 3, 2].map(checked), [Ok(Passage::Joins), Ok(Passage::Joins), Err(Refusal::plain(12))]);
     let listed = |answer| chain(&table_image(&doubled()), &first, &second, WIDE, answer, &mut Most::default());
-    assert_eq!([11, 10].map(listed), [Ok((Verdict::Same, 4)), Err(Refusal::plain(13))]);
+    assert_eq!([5, 4].map(listed), [Ok(Listing::Same { steps: 4, entries: 1, bytes: 5 }), Err(Refusal::plain(13))]);
 }
 
 #[test]

@@ -3,7 +3,7 @@
 //!     soak [--calls N | --minutes M] [--seed S] [--case SEED]
 //!
 //! Cases are numbered from the seed on. A case that fails is printed with its number and bytes; `--case` runs that one again.
-use second::cases::{run, Mirrored, Tally, Weighed};
+use second::cases::{run, Listed, Mirrored, Tally, Weighed};
 use std::process::ExitCode;
 use std::sync::atomic::{AtomicBool, AtomicU64, AtomicUsize, Ordering};
 use std::sync::Mutex;
@@ -70,6 +70,9 @@ fn met(tally: &Tally) -> Vec<String> {
     for what in Weighed::ALL.iter().filter(|what| !tally.weighed.contains_key(what)) {
         missing.push(format!("weights never led to {what:?}"));
     }
+    for what in Listed::ALL.iter().filter(|what| !tally.listed.contains_key(what)) {
+        missing.push(format!("the lengths of chains and areas never came to {what:?}"));
+    }
     if tally.backward.contains(&0) {
         missing.push("no answer, open pair or stop of left reversing was held against right reversing under the mirror".into());
     }
@@ -123,6 +126,9 @@ fn main() -> ExitCode {
         println!("{service:14} {result:2} {value} {count:9}");
     }
     for (what, count) in &tally.weighed {
+        println!("{what:?} {count}");
+    }
+    for (what, count) in &tally.listed {
         println!("{what:?} {count}");
     }
     for (what, count) in &tally.mirrored {
