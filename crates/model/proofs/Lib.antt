@@ -14,6 +14,7 @@ pub mod Equiv
 pub mod Entries
 pub mod Joining
 pub mod Residues
+pub mod Listing
 pub mod Case
 pub mod Samples
 pub mod Sheet
@@ -23,3 +24,4 @@ pub mod Positions
 pub mod Beds
 pub mod BedCases
 pub mod MirrorCases
+pub mod WaysCases

@@ -13,5 +13,6 @@ pub mod Mirror
 pub mod Services
 pub mod Bed
 pub mod Areas
+pub mod Ways
 pub mod Stated
 pub mod Refusals

@@ -1,5 +1,6 @@
 -- Specification 7.1, 7.3 and the answers of 6: numbers and values for each case of src/answers.rt. A promise says that what is stated of the
 -- answer is the service's outcome.
+use mathlib.Core.List.{List}
 use Prim.Native.Nat.{ℕ}
 use lib.ListN.{length}
 use Rattle.model.specs.declared.answers.Place.{Place as PlaceAnswer}
@@ -24,9 +25,12 @@ use Rattle.model.specs.declared.answers.Remaining.{Remaining}
 use Rattle.model.specs.declared.answers.Remaining.the-variants.{Moves, Nothing, Refused as RemainderRefused}
 use Rattle.model.specs.declared.answers.Packed.{Packed}
 use Rattle.model.specs.declared.answers.Packed.the-variants.{Written, Refused as PackRefused}
+use Rattle.model.specs.declared.answers.Ways.{Ways}
+use Rattle.model.specs.declared.answers.Ways.the-variants.{Listed as WordsListed, Refused as WaysRefused}
 use Rattle.model.specs.Word.{Positive}
 use Rattle.model.specs.Reversing.{Stop, budget, room, Ending, finished, open-pair, stopped}
 use Rattle.model.specs.Outcome.{Place, unplaced, pair-of, triple-of, mirror-triple-of, Outcome, answered, refused}
+use Rattle.model.specs.Ways.{listingBytes}
 use Rattle.model.specs.Services.{Fraction, Verdict, same-after, different-after, ChainAnswer, listed-after, unlisted-after, Remainder, moves-after, none-after, Passage, joins, breaks, ends-elsewhere}
 
 -- 7.3: the place of 11 and 12: the triple that was under way, of the table or of its mirror, or none if the programs were
@@ -114,6 +118,18 @@ checked (CheckRefused r) = refusal r
 abbrev pub packedAs : Packed → Outcome ℕ
 packedAs (Written k) = answered k
 packedAs (PackRefused r) = refusal r
+
+-- 6.14: the answer of ways: the number of words, and of bytes
+pub record Counts : Type 0 where
+  pub words : ℕ
+  pub bytes : ℕ
+
+abbrev pub counts : List Positive → Counts
+counts vs = record { words = length vs; bytes = length (listingBytes vs) }
+
+abbrev pub listedAs : Ways → Outcome Counts
+listedAs (WordsListed w k) = answered (record { words = w; bytes = k })
+listedAs (WaysRefused r) = refusal r
 
 -- 3.2: how a reversing ends, by lengths: the answer that each ending of the model has
 abbrev pub stopAnswer : Stop → StopAnswer

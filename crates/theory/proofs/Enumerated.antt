@@ -11,7 +11,7 @@ use lib.Dec.{eqb}
 use borrow.Author.Tests.{ne-eqb}
 use Rattle.model.specs.Enumeration.{range, concatMap, pairs, others, triples}
 
-range-has : (from k c : ℕ) → from ≤ c → c < from + k → List·Memᴰ c (range from k)
+pub range-has : (from k c : ℕ) → from ≤ c → c < from + k → List·Memᴰ c (range from k)
 range-has from zero c low high = absurd (omega arith)
 range-has from (suc k) c low high = go (ℕ-discrete c from) (λ l. range-has (suc from) k c l (omega arith))
   where
@@ -19,7 +19,7 @@ range-has from (suc k) c low high = go (ℕ-discrete c from) (λ l. range-has (s
     go (yes e) rest = List·Memᴰ·head e
     go (no e) rest = List·Memᴰ·tail (rest (omega arith))
 
-concat-has : {A B : Type 0} (f : A → List B) {x : A} {y : B} {l : List A} → List·Memᴰ x l → List·Memᴰ y (f x) → List·Memᴰ y (concatMap f l)
+pub concat-has : {A B : Type 0} (f : A → List B) {x : A} {y : B} {l : List A} → List·Memᴰ x l → List·Memᴰ y (f x) → List·Memᴰ y (concatMap f l)
 concat-has f {y} (List·Memᴰ·head {x = z} {xs} e) h = Memᴰ·append-left {s = f z} (concatMap f xs) (rw (← e) h)
 concat-has f (List·Memᴰ·tail {x = z} m) h = Memᴰ·append-right (f z) (concat-has f m h)
 

@@ -22,3 +22,4 @@ pub mod Comparison
 pub mod Verdicts
 pub mod Remainders
 pub mod MirrorClearing
+pub mod Ways

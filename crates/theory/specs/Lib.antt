@@ -6,3 +6,4 @@ pub mod Orders
 pub mod Passages
 pub mod Remainders
 pub mod Verdicts
+pub mod Ways
