@@ -1,7 +1,7 @@
 -- Specification 8.3, how an outcome is told in numbers to C: 0 for an answer, else the refusal's number, then four values.
 use Prim.Native.Nat.{ℕ}
 use Rattle.model.specs.Outcome.{Outcome, answered, refused}
-use Rattle.model.specs.Stated.{Sizes}
+use Rattle.model.specs.Stated.{Sizes, Counts}
 use Rattle.model.specs.Refusals.{numbersTold}
 use Rattle.model.specs.Services.{Verdict, same-after, different-after, ChainAnswer, listed-after, unlisted-after, Remainder, moves-after, none-after, Passage, joins, breaks, ends-elsewhere}
 use Rattle.model.specs.declared.refusals.RefusalNumbers.{RefusalNumbers}
@@ -50,3 +50,7 @@ passageTold ends-elsewhere = numbers 0 2 0 0 0
 -- packing, unpacking and bed: the bytes written
 abbrev pub bytesTold : ℕ → Numbers
 bytesTold k = numbers 0 k 0 0 0
+
+-- ways: the words and the bytes of the listing
+abbrev pub countsTold : Counts → Numbers
+countsTold c = numbers 0 (c .words) (c .bytes) 0 0

@@ -6,8 +6,9 @@ ghost use Rattle.model.specs.Images.{readTable};
 ghost use Rattle.model.specs.Plain.{readPlainTable};
 ghost use Rattle.model.specs.Services.{reverse, leftReverse, clear, mirrorClear, compare, chain, remainder, check, packTable, unpackTable, packProgram, unpackProgram, listable, verdictIn, programUnder, plainProgramUnder};
 ghost use Rattle.model.specs.Bed.{bed};
+ghost use Rattle.model.specs.Ways.{ways, waysArea};
 ghost use Rattle.model.specs.Areas.{outputAfter, workspaceAfter, fractionBytes, remainderBytes, ChainArea, ReadsBack};
-ghost use Rattle.model.specs.Stated.{sizes, counted};
+ghost use Rattle.model.specs.Stated.{sizes, counted, counts};
 ghost use Rattle.clearing.specs.Clear.{ClearMeaning};
 ghost use Rattle.reversal.specs.Reverse.{ReverseMeaning};
 ghost use Rattle.left_reversal.specs.LeftReverse.{LeftMeaning};
@@ -17,7 +18,8 @@ ghost use Rattle.chaining.specs.Chain.{ListedChecks};
 ghost use Rattle.remainders.specs.Remainder.{RemainderMeaning};
 ghost use Rattle.checking.specs.Check.{CheckMeaning};
 ghost use Rattle.bed.specs.Meaning.{BedSays};
-ghost use Rattle.braid.specs.Told.{told, sizesTold, passedTold, verdictTold, chainTold, remainderTold, passageTold, bytesTold};
+ghost use Rattle.ways.specs.Service.{WaysSay};
+ghost use Rattle.braid.specs.Told.{told, sizesTold, passedTold, verdictTold, chainTold, remainderTold, passageTold, bytesTold, countsTold};
 ghost use Rattle.braid.specs.Values.{Tells};
 use crate::numbers::Numbers;
 use crate::numbers::of_chained;
@@ -27,6 +29,7 @@ use crate::numbers::of_compared;
 use crate::numbers::of_packed;
 use crate::numbers::of_remaining;
 use crate::numbers::of_reversed;
+use crate::numbers::of_ways;
 use bed::bed::bed;
 use chaining::chain::chain;
 use checking::check::check;
@@ -40,6 +43,7 @@ use packing::unpack_program;
 use packing::unpack_table;
 use remainders::remainder::remainder;
 use reversal::reverse::reverse;
+use ways::ways::ways;
 
 // Sets all four values and gives the result.
 pub(crate) fn tell(numbers: Numbers, values: &mut [u64; 4]) -> u8
@@ -252,4 +256,19 @@ pub extern "C" fn braid_bed(
 {
     let shown = bed(table, program, moves, answer);
     tell(of_packed(shown), values)
+}
+
+#[no_mangle]
+pub extern "C" fn braid_ways(
+    table: &[u8],
+    program: &[u8],
+    answer: &mut [u8],
+    values: &mut [u64; 4],
+) -> u8
+    ensures told { λ r. ⌜ Tells (told countsTold (mapped counts (ways (now (table .entry)) (now (program .entry)) (length (now (answer .entry)))))) r (now (values .exit)) ⌝ }
+    ensures answer { λ r. ⌜ now (answer .exit) ≡ waysArea (ways (now (table .entry)) (now (program .entry)) (length (now (answer .entry)))) (now (answer .entry)) ⌝ }
+    ensures meaning { λ r. ⌜ WaysSay (now (table .entry)) (now (program .entry)) (mapped counts (ways (now (table .entry)) (now (program .entry)) (length (now (answer .entry))))) (now (answer .exit)) ⌝ }
+{
+    let listed = ways(table, program, answer);
+    tell(of_ways(listed), values)
 }

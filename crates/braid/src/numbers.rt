@@ -1,7 +1,7 @@
 // How an answer is told in numbers: 0 or the refusal's number, then four values.
 ghost use mathlib.Core.Path.{_≡_};
-ghost use Rattle.model.specs.Stated.{refusal, reversed, clearedAs, compared, chained, remaining, checked, packedAs};
-ghost use Rattle.braid.specs.Told.{told, sizesTold, passedTold, verdictTold, chainTold, remainderTold, passageTold, bytesTold};
+ghost use Rattle.model.specs.Stated.{refusal, reversed, clearedAs, compared, chained, remaining, checked, packedAs, listedAs};
+ghost use Rattle.braid.specs.Told.{told, sizesTold, passedTold, verdictTold, chainTold, remainderTold, passageTold, bytesTold, countsTold};
 use model::answers::Chained;
 use model::answers::Checked;
 use model::answers::Cleared;
@@ -10,6 +10,7 @@ use model::answers::Packed;
 use model::answers::Refusal;
 use model::answers::Remaining;
 use model::answers::Reversed;
+use model::answers::Ways;
 use model::refusals::refusal_numbers;
 
 pub struct Numbers {
@@ -158,5 +159,14 @@ pub(crate) fn of_packed(answer: Packed) -> Numbers
     match answer {
         Packed::Refused(refusal) => of_refusal(refusal),
         Packed::Written { bytes } => counted(bytes as u64, 0),
+    }
+}
+
+pub(crate) fn of_ways(answer: Ways) -> Numbers
+    ensures { λ r. ⌜ r ≡ told countsTold (listedAs answer) ⌝ }
+{
+    match answer {
+        Ways::Refused(refusal) => of_refusal(refusal),
+        Ways::Listed { words, bytes } => counted(words as u64, bytes as u64),
     }
 }

@@ -110,7 +110,7 @@ wider : {A : Type 0} (j k : ℕ) (o : Outcome A) → j ≤ k → Early j o → E
 wider j k (answered x) h e = tt
 wider j k (refused n ps) h e = omega arith
 
-forward-early : (n : ℕ) (bytes : List ℕ) → Early 7 (readForward n bytes)
+pub forward-early : (n : ℕ) (bytes : List ℕ) → Early 7 (readForward n bytes)
 unfolding readForward
 forward-early n bytes =
     then 7 (readProgram n bytes) _ (wider 6 7 (readProgram n bytes) (omega arith) (program-early n bytes))

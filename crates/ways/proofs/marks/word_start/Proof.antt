@@ -1,0 +1,66 @@
+-- `ways::marks::word_start` meets its contract.
+use mathlib.Core.Path.{sym, _∙_}
+use Prim.Native.Nat.{_≤_}
+use native.Mathlib.Omega.{arith}
+use Rattle.ways.specs.Marks.{Inside}
+use Rattle.ways.proofs.Ends.{inside-none, inside-before}
+use Rattle.ways.proofs.marks.word_start.Statement.{statement}
+use Rattle.ways.proofs.marks.word_start.Tie as tie
+
+abbrev Inv-loop : tie.InvT-loop
+Inv-loop area low at start₀ start = (low ≤ start) × (start ≤ at) × Inside area start at
+
+abbrev μ-loop : tie.MeasureT-loop
+μ-loop area low at start₀ start = start
+
+loop-holds : tie.Need-loop-holds Inv-loop μ-loop
+loop-holds c =
+    let s = c .before in
+    (s .pre .0, omega arith, inside-none (s .args .area .now) (s .args .at))
+
+sub-is-ending : tie.Need-sub-is-ending Inv-loop μ-loop
+sub-is-ending c = omega arith
+
+shared-slice-read-is-ending : tie.Need-shared-slice-read-is-ending Inv-loop μ-loop
+shared-slice-read-is-ending c = omega arith
+
+is-ending-requires : tie.Need-is-ending-requires Inv-loop μ-loop
+is-ending-requires c κs = tt
+
+returns : tie.Need-returns Inv-loop μ-loop
+returns c =
+    let l = c .before .before .before .before .loop in
+    record { after = l .inv .0; before = l .inv .1; letters = l .inv .2; begins = λ h. sym (c .before .is-ending .ensures) ∙ c .if1 .taken }
+
+sub-start : tie.Need-sub-start Inv-loop μ-loop
+sub-start c = omega arith
+
+loop-less : tie.Need-loop-less Inv-loop μ-loop
+loop-less c = omega arith
+
+loop-again : tie.Need-loop-again Inv-loop μ-loop
+loop-again c =
+    let s = c .before .before .before .before .before .before in
+    let l = c .before .before .before .before .loop in
+    (omega (arith, c .before .before .before .loop-test .taken), omega (arith, l .inv .1), inside-before (s .args .area .now) (l .start) (s .args .at) (sym (c .before .is-ending .ensures) ∙ c .if1 .left) (l .inv .2))
+
+returns-2 : tie.Need-returns-2 Inv-loop μ-loop
+returns-2 c =
+    let l = c .before .loop in
+    record { after = l .inv .0; before = l .inv .1; letters = l .inv .2; begins = λ h. absurd (omega (arith, c .loop-test .left)) }
+
+pub word-start-spec : {M : Type 1} → statement M
+word-start-spec =
+    tie.close
+    (tie.spec
+    Inv-loop
+    μ-loop
+    loop-holds
+    sub-is-ending
+    shared-slice-read-is-ending
+    is-ending-requires
+    returns
+    sub-start
+    loop-less
+    loop-again
+    returns-2)

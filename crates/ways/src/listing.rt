@@ -1,0 +1,51 @@
+// All words joined to the program whose letters stand in the area.
+ghost use mathlib.Core.Path.{_≡_};
+ghost use lib.ListN.{length};
+ghost use Rattle.ways.specs.Listing.{Begun, ListMeans};
+use crate::marks::first_untried;
+use crate::marks::word_start;
+use crate::trying::Held;
+use crate::trying::Tried;
+use crate::trying::try_word;
+
+// The listing stands in the area, with so many words in so many bytes; or it is longer than the area.
+pub enum Listing {
+    Whole { words: usize, bytes: usize },
+    Long,
+}
+
+// The area begins with the program's word, which is marked as untried, in the first `first` bytes.
+pub fn list_words(area: &mut [u8], cells: &[u8], size: u8, first: usize) -> Listing
+    requires { ⌜ Begun (now cells) size (now area) first ⌝ }
+    ensures length { λ r. ⌜ length (now (area .exit)) ≡ length (now (area .entry)) ⌝ }
+    ensures listed { λ r. ⌜ ListMeans (now (cells .entry)) size (now (area .entry)) first (now (area .exit)) r ⌝ }
+{
+    let mut used = first;
+    let mut words: usize = 0;
+    let mut end = first_untried(area, used);
+    while end < used {
+        let word = word_start(area, 0, end);
+        let letters = end - word;
+        let tried = try_word(
+            area,
+            cells,
+            size,
+            Held {
+                word,
+                letters,
+                used,
+            },
+        );
+        match tried {
+            Tried::Full => return Listing::Long,
+            Tried::Going(next) => {
+                let mark = next.word + next.letters;
+                area[mark] = 0;
+                used = next.used;
+                words += 1;
+                end = first_untried(area, used);
+            }
+        }
+    }
+    Listing::Whole { words, bytes: used }
+}

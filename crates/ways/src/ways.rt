@@ -1,0 +1,68 @@
+// Ways (specification 6.14): all words of forward moves that are joined to a program, each once, in the answer area.
+ghost use mathlib.Core.Path.{_≡_};
+ghost use lib.ListN.{length};
+ghost use Rattle.model.specs.Outcome.{mapped};
+ghost use Rattle.model.specs.Ways.{ways, waysArea};
+ghost use Rattle.model.specs.Stated.{counts, listedAs};
+ghost use Rattle.ways.specs.Service.{Listable, ProgramListed, WaysSay};
+use crate::listing::Listing;
+use crate::listing::list_words;
+use crate::marks::UNTRIED;
+use areas::bytes::wipe;
+use cells::layout::CELLS;
+use checks::table::Weights;
+use checks::table::check_weights;
+use images::programs::ProgramRead;
+use images::programs::read_forward;
+use images::programs::unpack_letters;
+use images::tables::TableRead;
+use images::tables::read_table;
+use model::answers::Refusal;
+use model::answers::Ways;
+
+// An accepted program under a table that passed the weight check. Where the listing is longer than the area, the area is wiped.
+pub fn list_program(cells: &[u8], size: u8, program: &[u8], count: u16, answer: &mut [u8]) -> Ways
+    requires { ⌜ Listable (now cells) size (now program) count ⌝ }
+    ensures { λ r. ⌜ ProgramListed (now (cells .entry)) size (now (program .entry)) (now (answer .entry)) (now (answer .exit)) r ⌝ }
+{
+    let letters = count as usize;
+    if answer.len() <= letters {
+        wipe(answer);
+        return Ways::Refused(Refusal::AnswerShort);
+    }
+    unpack_letters(program, size, count, answer, 0);
+    answer[letters] = UNTRIED;
+    let listing = list_words(answer, cells, size, letters + 1);
+    match listing {
+        Listing::Long => {
+            wipe(answer);
+            Ways::Refused(Refusal::AnswerShort)
+        }
+        Listing::Whole { words, bytes } => Ways::Listed { words, bytes },
+    }
+}
+
+pub fn ways(table: &[u8], program: &[u8], answer: &mut [u8]) -> Ways
+    ensures stated { λ r. ⌜ listedAs r ≡ mapped counts (ways (now (table .entry)) (now (program .entry)) (length (now (answer .entry)))) ⌝ }
+    ensures answer { λ r. ⌜ now (answer .exit) ≡ waysArea (ways (now (table .entry)) (now (program .entry)) (length (now (answer .entry)))) (now (answer .entry)) ⌝ }
+    ensures meaning { λ r. ⌜ WaysSay (now (table .entry)) (now (program .entry)) (listedAs r) (now (answer .exit)) ⌝ }
+{
+    let mut cells = [0u8; CELLS];
+    let read = read_table(table, &mut cells);
+    match read {
+        TableRead::Refused(refusal) => Ways::Refused(refusal),
+        TableRead::Table { size } => {
+            let accepted = read_forward(program, size);
+            match accepted {
+                ProgramRead::Refused(refusal) => Ways::Refused(refusal),
+                ProgramRead::Program { count } => {
+                    let weights = check_weights(&cells, size);
+                    match weights {
+                        Weights::Unequal(pair) => Ways::Refused(Refusal::UnequalWeights(pair)),
+                        Weights::Equal => list_program(&cells, size, program, count, answer),
+                    }
+                }
+            }
+        }
+    }
+}
