@@ -154,7 +154,7 @@ static inline const char *braid_text(uint8_t result)
  *   workspace                              a byte holds a move; what it holds on entry plays no part. After refusals 1 to 8 and 16 it is as found,
  *                                          after every other outcome all its bytes are zero
  *   answer                                 begins with the answer's bytes after an answer; every other byte is as found, and so are all after a
- *                                          refusal
+ *                                          refusal, but for 13 of braid_ways
  *   values                                 all four are set by every call
  *
  * A larger allowance, workspace or answer area changes no outcome but 11, 12 and 13. A workspace of 32,768 bytes is usual.
@@ -259,6 +259,15 @@ BRAID_CALL uint8_t braid_unpack_program(const uint8_t *table, size_t table_lengt
  */
 BRAID_CALL uint8_t braid_bed(const uint8_t *table, size_t table_length, const uint8_t *program, size_t program_length, uint64_t moves,
                              uint8_t *answer, size_t answer_length, uint64_t *values);
+
+/*
+ * All words of forward moves that chains join to a program of forward moves, each once, in order of the first move that differs, lower number first
+ * (6.14). The table must pass the weight check and need not clear. Answer area: each word's moves, a byte each, then a zero byte. Where the listing is
+ * longer than the area, the area holds zeros in every byte, the one refusal that changes it. There is neither allowance nor workspace.
+ * Values: words, bytes written, 0, 0. Refusals: 1 to 8, 13, in this order.
+ */
+BRAID_CALL uint8_t braid_ways(const uint8_t *table, size_t table_length, const uint8_t *program, size_t program_length, uint8_t *answer,
+                              size_t answer_length, uint64_t *values);
 
 #ifdef __cplusplus
 }
