@@ -92,6 +92,8 @@ static void check(void)
 
 static void show(void) { result = braid_bed(table, table_length, program, program_length, UINT64_MAX, answer, answer_length, values); }
 
+static void ways(void) { result = braid_ways(table, table_length, program, program_length, answer, answer_length, values); }
+
 /* The call answers, and its stack suffices. */
 static void answers(const char *name, void (*call)(void))
 {
@@ -214,11 +216,31 @@ static void longest_bed(void)
     hold("its text", strcmp(braid_text(BRAID_NOT_BRAID_TABLE), "the table isn't the braid table of its number of moves") == 0);
 }
 
+/* The listing of 99 times the last move and once the first, which commutes with it, under the braid table of 16 moves: 100 words. */
+static void long_listing(void)
+{
+    fill_braid_table(BRAID_MOST_TABLE_MOVES);
+    pack_table();
+    table_length = (size_t)values[0];
+    memset(plain, BRAID_MOST_TABLE_MOVES, 100);
+    plain[0] = 1;
+    plain_length = 100;
+    pack_program();
+    program_length = (size_t)values[0];
+    answer_length = 100 * 101;
+    answers("ways", ways);
+    hold("a word for each place of the first move", values[0] == 100 && values[1] == 100 * 101);
+    answer_length--;
+    ways();
+    hold("an area one byte too short for a listing", result == BRAID_ANSWER_SHORT && answer[0] == 0);
+}
+
 int main(void)
 {
     longest_forms();
     engine();
     longest_bed();
+    long_listing();
     printf("%d passed, %d failed\n", passed, failed);
     return failed != 0;
 }

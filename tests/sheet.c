@@ -466,6 +466,29 @@ static void mirror_clearing(void)
          "0 0 0 0", 0, nothing, 0);
 }
 
+/* The listing of a program in an area of so many bytes. */
+static uint8_t listed(const uint8_t *table, size_t table_length, const uint8_t *program, size_t program_length, size_t length)
+{
+    return braid_ways(table, table_length, program, program_length, answer, length, values);
+}
+
+static void ways(void)
+{
+    static const uint8_t two_words[] = {1, 2, 1, 0, 2, 1, 2, 0}, zeros[] = {0, 0, 0, 0, 0, 0, 0}, end_only[] = {0};
+    static const uint8_t no_moves[] = {0x00, 0x00}, back_move[] = {0x00, 0x18};
+    /* 2 2 and 1 under n = 2. */
+    static const uint8_t image_22[] = {0x00, 0x25}, image_1[] = {0x00, 0x10}, by_letters[] = {1, 2, 1, 0, 2, 2, 0};
+    hold("the words joined to 1 2 1", listed(ALL_OF(braid3), ALL_OF(image_121), AREA), BRAID_ANSWER, "2 8 0 0", 0, ALL_OF(two_words));
+    hold("and to 2 1 2, in 8 bytes", listed(ALL_OF(braid3), ALL_OF(image_212), 8), BRAID_ANSWER, "2 8 0 0", 0, ALL_OF(two_words));
+    hold("7 bytes give 13, and are zero", listed(ALL_OF(braid3), ALL_OF(image_121), 7), BRAID_ANSWER_SHORT, "0 0 0 0", 0, ALL_OF(zeros));
+    hold("words of different lengths by their letters", listed(ALL_OF(heavy), ALL_OF(image_22), AREA), BRAID_ANSWER, "2 7 0 0", 0, ALL_OF(by_letters));
+    hold("a program of no moves", listed(ALL_OF(braid3), ALL_OF(no_moves), 1), BRAID_ANSWER, "1 1 0 0", 0, ALL_OF(end_only));
+    hold("it needs a byte", listed(ALL_OF(braid3), ALL_OF(no_moves), 0), BRAID_ANSWER_SHORT, "0 0 0 0", 0, nothing, 0);
+    hold("the cube rule plays no part", listed(ALL_OF(broken_cube), ALL_OF(no_moves), 1), BRAID_ANSWER, "1 1 0 0", 0, ALL_OF(end_only));
+    hold("a back move gives 7 before 8", listed(ALL_OF(unequal), ALL_OF(back_move), 0), BRAID_BACK_MOVE, "0 0 0 0", 0, nothing, 0);
+    hold("unequal weights give 8 before 13", listed(ALL_OF(unequal), ALL_OF(image_1), 0), BRAID_UNEQUAL_WEIGHTS, "1 1 2 0", 0, nothing, 0);
+}
+
 int main(void)
 {
     as_found();
@@ -480,6 +503,7 @@ int main(void)
     beds();
     left_reversing();
     mirror_clearing();
+    ways();
     printf("%d passed, %d failed\n", passed, failed);
     return failed != 0;
 }

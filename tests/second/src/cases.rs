@@ -2,6 +2,7 @@
 //! class.
 mod bed;
 mod mirror;
+mod ways;
 
 use crate::chain::follow;
 use crate::classes::class;
@@ -101,6 +102,8 @@ pub struct Tally {
     pub orders: (usize, usize),
     /// Beds held against those of joined programs, of numerator and denominator, and of full twists.
     pub beds: [usize; 3],
+    /// Listings of more than one word, held against each other from two of their words; and those with words of different lengths.
+    pub listings: [usize; 2],
     pub results: BTreeMap<(&'static str, u8, u64), usize>,
     pub weighed: BTreeMap<Weighed, usize>,
     pub listed: BTreeMap<Listed, usize>,
@@ -116,6 +119,9 @@ impl Tally {
         self.orders.0 += other.orders.0;
         self.orders.1 += other.orders.1;
         for (total, more) in self.beds.iter_mut().chain(&mut self.backward).zip(other.beds.iter().chain(&other.backward)) {
+            *total += more;
+        }
+        for (total, more) in self.listings.iter_mut().zip(other.listings) {
             *total += more;
         }
         for (key, count) in &other.results {
@@ -160,6 +166,7 @@ fn name(call: &Call) -> &'static str {
         Call::PackProgram { .. } => "pack program",
         Call::UnpackProgram { .. } => "unpack program",
         Call::Bed { .. } => "bed",
+        Call::Ways { .. } => "ways",
     }
 }
 
@@ -183,7 +190,7 @@ type Held<T> = Result<T, String>;
 /// Runs the case of a seed; the error has all that is needed to see it again.
 pub fn run(seed: u64, tally: &mut Tally) -> Held<()> {
     let mut case = Case { random: Random::new(seed), tally };
-    let held = match case.random.below(88) {
+    let held = match case.random.below(94) {
         0..=15 => case.reversing(),
         16..=23 => case.clearing(),
         24..=36 => case.comparing(),
@@ -192,6 +199,7 @@ pub fn run(seed: u64, tally: &mut Tally) -> Held<()> {
         50..=62 => case.packing(),
         64..=71 => case.bed(),
         72..=87 => case.mirror(),
+        88..=93 => case.ways(),
         _ => match case.random.below(16) {
             0..=1 => case.many_steps(),
             2..=3 => case.given_growth(),

@@ -124,6 +124,15 @@ extern "C" {
         answer_length: usize,
         values: *mut u64,
     ) -> u8;
+    fn braid_ways(
+        table: *const u8,
+        table_length: usize,
+        program: *const u8,
+        program_length: usize,
+        answer: *mut u8,
+        answer_length: usize,
+        values: *mut u64,
+    ) -> u8;
 }
 
 /// What a call gives: the result and the four values.
@@ -278,4 +287,8 @@ pub fn bed(table: &[u8], program: &[u8], moves: u64, answer: &mut [u8]) -> Told 
     told(|values| unsafe {
         braid_bed(table.as_ptr(), table.len(), program.as_ptr(), program.len(), moves, answer.as_mut_ptr(), answer.len(), values)
     })
+}
+
+pub fn ways(table: &[u8], program: &[u8], answer: &mut [u8]) -> Told {
+    told(|values| unsafe { braid_ways(table.as_ptr(), table.len(), program.as_ptr(), program.len(), answer.as_mut_ptr(), answer.len(), values) })
 }

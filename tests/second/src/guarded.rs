@@ -17,6 +17,7 @@ pub enum Call {
     PackProgram { table: Vec<u8>, plain: Vec<u8> },
     UnpackProgram { table: Vec<u8>, program: Vec<u8> },
     Bed { table: Vec<u8>, program: Vec<u8>, moves: u64 },
+    Ways { table: Vec<u8>, program: Vec<u8> },
 }
 
 /// What a call left behind.
@@ -70,7 +71,7 @@ impl Call {
     fn images(&self) -> Vec<&[u8]> {
         match self {
             Call::Reverse { table, program, .. } | Call::LeftReverse { table, program, .. } => vec![table, program],
-            Call::UnpackProgram { table, program } | Call::Bed { table, program, .. } => vec![table, program],
+            Call::UnpackProgram { table, program } | Call::Bed { table, program, .. } | Call::Ways { table, program } => vec![table, program],
             Call::Clear { table, .. } | Call::MirrorClear { table, .. } | Call::UnpackTable { table } => vec![table],
             Call::Compare { table, first, second, .. } | Call::Chain { table, first, second, .. } => vec![table, first, second],
             Call::Remainder { table, done, pattern, .. } => vec![table, done, pattern],
@@ -101,6 +102,7 @@ pub fn call(call: &Call, workspace: &[u8], answer: &[u8]) -> Result<Left, String
         Call::PackProgram { .. } => firmware::pack_program(image(0), image(1), o),
         Call::UnpackProgram { .. } => firmware::unpack_program(image(0), image(1), o),
         Call::Bed { moves, .. } => firmware::bed(image(0), image(1), *moves, o),
+        Call::Ways { .. } => firmware::ways(image(0), image(1), o),
     };
     if !images.iter().all(Guarded::unchanged) {
         return Err("an image, or bytes around it, changed".into());

@@ -91,8 +91,15 @@ pub fn expected(call: &Call, workspace: usize, answer: usize, most: &mut Most) -
         Call::PackProgram { table, plain } => services::pack_program(table, plain, answer).map(packed),
         Call::UnpackProgram { table, program } => services::unpack_program(table, program, answer).map(packed),
         Call::Bed { table, program, moves } => services::bed(table, program, *moves, answer).map(packed),
+        Call::Ways { table, program } => {
+            services::ways(table, program, answer).map(|(words, listing)| Expected::answer([words as u64, listing.len() as u64, 0, 0], listing))
+        }
     };
-    outcome.unwrap_or_else(Expected::refused)
+    let must = outcome.unwrap_or_else(Expected::refused);
+    match call {
+        Call::Ways { .. } if must.result == 13 => Expected { written: vec![0; answer], ..must },
+        _ => must,
+    }
 }
 
 fn has_workspace(call: &Call) -> bool {

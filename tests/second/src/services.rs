@@ -1,14 +1,15 @@
 //! The services of specification 6. Areas come in only by their lengths; what would be written is in the result.
 use crate::bed::Bed;
-use crate::chain::{follow, side};
+use crate::chain::{follow, side, swapped};
 use crate::image::*;
 use crate::mirror::{left_reverse as run_left, mirror, offending};
 use crate::outcome::{Listing, Passage, Place, Refusal, Remainder, Verdict};
 use crate::plain::{plain_table, read_plain_program, read_plain_table};
 use crate::reversing::{reverse as run, Ending, Limits, Most};
 use crate::table::Table;
-use crate::tables::braid;
+use crate::tables::{braid, fitting as swaps};
 use crate::word::{bytes, undoing, Word};
+use std::collections::BTreeSet;
 
 pub struct Fraction {
     pub numerator: Word,
@@ -259,4 +260,31 @@ pub fn bed(table: &[u8], program: &[u8], moves: u64, answer: usize) -> Result<Ve
         bed.lay(*m);
     }
     fitting(bed.bytes(), answer)
+}
+
+/// All words joined to a program, in order: how many, and each with a zero byte after it. Words found are part of the listing, so that the search may
+/// end with 13 as soon as they are longer than the area.
+pub fn ways(table: &[u8], program: &[u8], answer: usize) -> Result<(usize, Vec<u8>), Refusal> {
+    let table = read_table(table)?;
+    let word = read_forward(program, table.moves)?;
+    weights_agree(&table)?;
+    let mut listed = BTreeSet::from([word.clone()]);
+    let mut open = vec![word.clone()];
+    let mut length = word.len() + 1;
+    while let Some(word) = open.pop() {
+        if length > answer {
+            return Err(Refusal::plain(13));
+        }
+        for entry in swaps(&table, &word) {
+            let next = swapped(&table, &word, entry).unwrap();
+            if listed.insert(next.clone()) {
+                length += next.len() + 1;
+                open.push(next);
+            }
+        }
+    }
+    if length > answer {
+        return Err(Refusal::plain(13));
+    }
+    Ok((listed.len(), listed.iter().flat_map(|word| [bytes(word), vec![0]].concat()).collect()))
 }

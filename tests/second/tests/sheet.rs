@@ -6,7 +6,7 @@ use second::outcome::{Listing, Passage, Place, Refusal, Remainder, Verdict};
 use second::plain::{plain_table, read_plain_table};
 use second::random::Random;
 use second::reversing::{Ending, Limits, Most};
-use second::services::{bed, chain, check, clear, compare, left_reverse, mirror_clear, remainder, reverse};
+use second::services::{bed, chain, check, clear, compare, left_reverse, mirror_clear, remainder, reverse, ways};
 use second::table::Table;
 use second::tables::mirror::clears_alone;
 use second::tables::{braid, doubled, growing, twins};
@@ -329,4 +329,22 @@ fn tables_without_a_mirror() {
     for (table, (a, b)) in [(one_last_move(), (1, 2)), (shared_crossed(), (2, 3)), (shared_in_order(), (1, 3)), (no_cube(), (2, 3))] {
         assert_eq!(mirror_cleared(&table, 65_535, 32_768), Err(Refusal::at(16, Place::Pair(a, b))));
     }
+}
+
+#[test]
+fn listings() {
+    let table = table_image(&braid(3));
+    let of = |word: &[i8], area: usize| ways(&table, &program_image(3, word), area);
+    assert_eq!(of(&[1, 2, 1], 8), Ok((2, vec![1, 2, 1, 0, 2, 1, 2, 0])));
+    assert_eq!(of(&[2, 1, 2], 8), of(&[1, 2, 1], 8));
+    assert_eq!(of(&[1, 2, 1], 7), Err(Refusal::plain(13)));
+    assert_eq!(of(&[], 1), Ok((1, vec![0])));
+    assert_eq!(of(&[], 0), Err(Refusal::plain(13)));
+    let (words, listing) = of(&[1, 2, 1, 3, 2, 1], 112).unwrap();
+    assert_eq!((words, listing.len(), &listing[..14]), (16, 112, &[1, 2, 1, 3, 2, 1, 0, 1, 2, 3, 1, 2, 1, 0][..]));
+    let heavy = table_image(&doubled());
+    assert_eq!(ways(&heavy, &program_image(2, &[2, 2]), 7), Ok((2, vec![1, 2, 1, 0, 2, 2, 0])));
+    let unequal = table_image(&doubled().weighing(vec![1, 1]));
+    assert_eq!(ways(&unequal, &program_image(2, &[1]), 9), Err(Refusal::at(8, Place::Pair(1, 2))));
+    assert_eq!(ways(&unequal, &program_image(2, &[-1]), 9), Err(Refusal::plain(7)));
 }

@@ -61,6 +61,10 @@ fn met(tally: &Tally) -> Vec<String> {
     want("pack program", &[(0, 0), (1, 0), (2, 0), (3, 0), (4, 0), (5, 0), (13, 0)]);
     want("unpack program", &[(0, 0), (1, 0), (2, 0), (3, 0), (4, 0), (5, 0), (6, 0), (13, 0)]);
     want("bed", &[(0, 0), (1, 0), (2, 0), (3, 0), (4, 0), (5, 0), (6, 0), (13, 0), (15, 0)]);
+    want("ways", &[(0, 0), (1, 0), (2, 0), (3, 0), (4, 0), (5, 0), (6, 0), (7, 0), (8, 1), (13, 0)]);
+    if tally.listings.contains(&0) {
+        missing.push("no listing was held against that of a joined word, or none had words of different lengths".into());
+    }
     if tally.beds.contains(&0) {
         missing.push("no bed was held against that of a joined program, of a fraction or of a full twist".into());
     }
@@ -144,6 +148,7 @@ fn main() -> ExitCode {
     let seconds = began.elapsed().as_secs();
     println!("{} calls, {} verdicts also by search, seed {}, {seconds} s", tally.calls, tally.searched, plan.seed);
     println!("beds: {} of joined programs, {} of fractions, {} full twists", tally.beds[0], tally.beds[1], tally.beds[2]);
+    println!("listings: {} from two words, {} with words of different lengths", tally.listings[0], tally.listings[1]);
     println!("other orders of steps: {} that finished alike, {} beside an open pair", tally.orders.0, tally.orders.1);
     let [answers, open, stops] = tally.backward;
     println!("left reversings read backward under the mirror: {answers} answers, {open} open pairs, {stops} stops");

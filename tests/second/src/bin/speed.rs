@@ -24,6 +24,8 @@ const AREA: usize = 32_768;
 const SLICES: u32 = 40;
 /// The firmware's time may be that many times the time in Rust.
 const BESIDE_RUST: f64 = 1.25;
+/// A listing in an area of 32,768 bytes, and one that does not fit there, may take that many milliseconds.
+const LISTING: f64 = 500.0;
 /// A step's cost at 4,000 moves may be that many times the cost at 50.
 const FLAT: f64 = 1.3;
 
@@ -294,6 +296,28 @@ fn target(what: &str, found: f64, most: f64) -> bool {
     met
 }
 
+/// The middle of three times of a call of ways, in milliseconds, under four moves that all commute; what it told must be as said.
+fn listing(areas: &mut Areas, program: &[i8], told: Told) -> f64 {
+    let commuting = Table::from_pairs(4, |a, b| Some((vec![b as i8], vec![a as i8])));
+    let (table, program) = (table_image(&commuting), program_image(4, program));
+    let mut times = [0; 3].map(|_: u8| {
+        let begun = Instant::now();
+        let got = firmware::ways(&table, &program, &mut areas.answer);
+        let time = begun.elapsed();
+        assert_eq!(got, told);
+        time.as_secs_f64() * 1_000.0
+    });
+    times.sort_by(f64::total_cmp);
+    times[1]
+}
+
+/// Every way to lay 1 1 2 2 3 3 4 4, and one move more, which is too long for the area.
+fn ways(measures: &mut Measures) -> bool {
+    let whole = listing(&mut measures.areas, &[1, 1, 2, 2, 3, 3, 4, 4], (0, [2_520, 22_680, 0, 0]));
+    let refused = listing(&mut measures.areas, &[1, 1, 2, 2, 3, 3, 4, 4, 4], (13, [0; 4]));
+    target("ways, 2,520 words in 22,680 bytes, milliseconds", whole, LISTING) & target("ways, refused with 13 in 32,768 bytes, milliseconds", refused, LISTING)
+}
+
 fn main() -> ExitCode {
     let (mut milliseconds, mut steps, mut words) = (1_000, 100_000, usize::MAX);
     let mut arguments = std::env::args().skip(1);
@@ -329,6 +353,7 @@ fn main() -> ExitCode {
         let flat = rows[2].1.firmware / rows[0].1.firmware;
         met &= target(&format!("{name}, a step at 4,000 moves beside one at 50"), flat, FLAT);
     }
+    met &= ways(&mut measures);
     if met {
         ExitCode::SUCCESS
     } else {
