@@ -1,9 +1,9 @@
 -- Specification 8.3, how an outcome is told in numbers to C: 0 for an answer, else the refusal's number, then four values.
 use Prim.Native.Nat.{ℕ}
 use Rattle.model.specs.Outcome.{Outcome, answered, refused}
-use Rattle.model.specs.Stated.{Sizes, Counts}
+use Rattle.model.specs.Stated.{Counts}
 use Rattle.model.specs.Refusals.{numbersTold}
-use Rattle.model.specs.Services.{Verdict, same-after, different-after, ChainAnswer, listed-after, unlisted-after, Remainder, moves-after, none-after, Passage, joins, breaks, ends-elsewhere}
+use Rattle.model.specs.Services.{Sizes, Verdict, same-after, different-after, ChainAnswer, listed-after, unlisted-after, Remainder, moves-after, none-after, Passage, joins, breaks, ends-elsewhere}
 use Rattle.model.specs.declared.refusals.RefusalNumbers.{RefusalNumbers}
 use Rattle.braid.specs.declared.numbers.Numbers.{Numbers}
 

@@ -4,13 +4,14 @@ ghost use mathlib.Core.Path.{_≡_};
 ghost use Rattle.model.specs.Outcome.{mapped, answered};
 ghost use Rattle.model.specs.Images.{readTable};
 ghost use Rattle.model.specs.Plain.{readPlainTable};
-ghost use Rattle.model.specs.Services.{reverse, leftReverse, clear, mirrorClear, compare, chain, remainder, check, packTable, unpackTable, packProgram, unpackProgram, listable, verdictIn, programUnder, plainProgramUnder};
+ghost use Rattle.model.specs.Services.{sizes, reverse, enquire, commit, leftReverse, clear, mirrorClear, compare, chain, remainder, check, packTable, unpackTable, packProgram, unpackProgram, listable, verdictIn, programUnder, plainProgramUnder};
 ghost use Rattle.model.specs.Bed.{bed};
 ghost use Rattle.model.specs.Ways.{ways, waysArea};
 ghost use Rattle.model.specs.Areas.{outputAfter, workspaceAfter, fractionBytes, remainderBytes, ChainArea, ReadsBack};
-ghost use Rattle.model.specs.Stated.{sizes, counted, counts};
+ghost use Rattle.model.specs.Stated.{counted, counts};
 ghost use Rattle.clearing.specs.Clear.{ClearMeaning};
 ghost use Rattle.reversal.specs.Reverse.{ReverseMeaning};
+ghost use Rattle.committing.specs.Commit.{CommitMeaning};
 ghost use Rattle.left_reversal.specs.LeftReverse.{LeftMeaning};
 ghost use Rattle.mirror_clearing.specs.MirrorClear.{MirrorClearMeaning};
 ghost use Rattle.comparing.specs.Compare.{Meaning};
@@ -34,7 +35,10 @@ use bed::bed::bed;
 use chaining::chain::chain;
 use checking::check::check;
 use clearing::clear::clear;
+use committing::commit::Handed;
+use committing::commit::commit;
 use comparing::compare::compare;
+use enquiring::enquire::enquire;
 use left_reversal::left_reverse::left_reverse;
 use mirror_clearing::mirror_clear::mirror_clear;
 use packing::pack_program;
@@ -68,6 +72,47 @@ pub extern "C" fn braid_reverse(
     ensures meaning { λ r. ⌜ ReverseMeaning (now (table .entry)) (now (program .entry)) (mapped sizes (reverse (now (table .entry)) (now (program .entry)) allowance (length (now (workspace .entry))) (length (now (answer .entry))))) (now (answer .exit)) ⌝ }
 {
     let reversed = reverse(table, program, allowance, workspace, answer);
+    tell(of_reversed(reversed), values)
+}
+
+#[no_mangle]
+pub extern "C" fn braid_enquire(
+    table: &[u8],
+    program: &[u8],
+    allowance: u16,
+    workspace: &mut [u8],
+    values: &mut [u64; 4],
+) -> u8
+    ensures told { λ r. ⌜ Tells (told sizesTold (enquire (now (table .entry)) (now (program .entry)) allowance (length (now (workspace .entry))))) r (now (values .exit)) ⌝ }
+    ensures workspace { λ r. ⌜ now (workspace .exit) ≡ workspaceAfter (enquire (now (table .entry)) (now (program .entry)) allowance (length (now (workspace .entry)))) (now (workspace .entry)) ⌝ }
+{
+    let reversed = enquire(table, program, allowance, workspace);
+    tell(of_reversed(reversed), values)
+}
+
+#[no_mangle]
+pub extern "C" fn braid_commit(
+    table: &[u8],
+    program: &[u8],
+    allowance: u16,
+    numerator: u64,
+    denominator: u64,
+    steps: u64,
+    workspace: &mut [u8],
+    answer: &mut [u8],
+    values: &mut [u64; 4],
+) -> u8
+    ensures told { λ r. ⌜ Tells (told sizesTold (mapped sizes (commit (now (table .entry)) (now (program .entry)) allowance (length (now (workspace .entry))) (record { numerator = numerator; denominator = denominator; steps = steps }) (length (now (answer .entry)))))) r (now (values .exit)) ⌝ }
+    ensures answer { λ r. ⌜ now (answer .exit) ≡ outputAfter fractionBytes (commit (now (table .entry)) (now (program .entry)) allowance (length (now (workspace .entry))) (record { numerator = numerator; denominator = denominator; steps = steps }) (length (now (answer .entry)))) (now (answer .entry)) ⌝ }
+    ensures workspace { λ r. ⌜ now (workspace .exit) ≡ workspaceAfter (commit (now (table .entry)) (now (program .entry)) allowance (length (now (workspace .entry))) (record { numerator = numerator; denominator = denominator; steps = steps }) (length (now (answer .entry)))) (now (workspace .entry)) ⌝ }
+    ensures meaning { λ r. ⌜ CommitMeaning (now (table .entry)) (now (program .entry)) allowance (length (now (workspace .entry))) (record { numerator = numerator; denominator = denominator; steps = steps }) (now (answer .entry)) (now (answer .exit)) (mapped sizes (commit (now (table .entry)) (now (program .entry)) allowance (length (now (workspace .entry))) (record { numerator = numerator; denominator = denominator; steps = steps }) (length (now (answer .entry))))) ⌝ }
+{
+    let numbers = Handed {
+        numerator,
+        denominator,
+        steps,
+    };
+    let reversed = commit(table, program, allowance, numbers, workspace, answer);
     tell(of_reversed(reversed), values)
 }
 

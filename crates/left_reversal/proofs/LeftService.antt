@@ -9,9 +9,9 @@ use Rattle.model.specs.Reversing.{reversing}
 use Rattle.model.specs.Outcome.{Outcome, answered, _>>=_, mapped}
 use Rattle.model.specs.Images.{readTable, readProgram}
 use Rattle.model.specs.Mirror.{mirror, mirrorCheck, leftReversing}
-use Rattle.model.specs.Services.{Fraction, fractionOf, leftFraction, leftReverse}
+use Rattle.model.specs.Services.{Sizes, sizes, Fraction, fractionOf, leftFraction, leftReverse}
 use Rattle.model.specs.Areas.{fractionBytes, outputAfter, workspaceAfter}
-use Rattle.model.specs.Stated.{Sizes, sizes, refusal}
+use Rattle.model.specs.Stated.{refusal}
 use Rattle.model.specs.declared.answers.Pair.{Pair}
 use Rattle.model.specs.declared.answers.Refusal.{Refusal}
 use Rattle.model.specs.declared.answers.Refusal.the-variants.{NoMirror}

@@ -15,9 +15,8 @@ use Rattle.model.specs.Range.{LetterInRange, ProgramInRange}
 use Rattle.model.specs.Images.{countWidth}
 use Rattle.model.specs.Plain.{plainProgram}
 use Rattle.model.specs.Outcome.{Outcome, answered, refused, unless, mapped}
-use Rattle.model.specs.Services.{Fraction, fractionOf}
+use Rattle.model.specs.Services.{sizes, Fraction, fractionOf}
 use Rattle.model.specs.Areas.{written, fractionBytes, outputAfter}
-use Rattle.model.specs.Stated.{sizes}
 use Rattle.model.specs.declared.answers.Refusal.{Refusal}
 use Rattle.model.specs.declared.answers.Reversed.the-variants.{Answer, Refused}
 use Rattle.model.proofs.Complete.{all-reverse}

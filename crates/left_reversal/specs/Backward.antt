@@ -8,9 +8,9 @@ use Rattle.model.specs.Presentation.{Presentation}
 use Rattle.model.specs.Reversing.{reversing}
 use Rattle.model.specs.Outcome.{answered, mapped}
 use Rattle.model.specs.Images.{readProgram}
-use Rattle.model.specs.Services.{fractionOf}
+use Rattle.model.specs.Services.{sizes, fractionOf}
 use Rattle.model.specs.Areas.{fractionBytes, outputAfter}
-use Rattle.model.specs.Stated.{sizes, reversed}
+use Rattle.model.specs.Stated.{reversed}
 use Rattle.model.specs.declared.answers.Ending.{Ending}
 use Rattle.model.specs.declared.answers.Reversed.{Reversed}
 use Rattle.theory.specs.Mirrors.{readBackward}

@@ -9,9 +9,9 @@ use Rattle.model.specs.Reversing.{reversing}
 use Rattle.model.specs.Outcome.{Outcome, answered, mapped}
 use Rattle.model.specs.Images.{readTable, readProgram}
 use Rattle.model.specs.Mirror.{mirror, mirrorCheck}
-use Rattle.model.specs.Services.{Fraction, fractionOf, leftFraction}
+use Rattle.model.specs.Services.{Sizes, sizes, Fraction, fractionOf, leftFraction}
 use Rattle.model.specs.Areas.{fractionBytes, outputAfter, workspaceAfter}
-use Rattle.model.specs.Stated.{Sizes, sizes, reversed}
+use Rattle.model.specs.Stated.{reversed}
 use Rattle.model.specs.declared.answers.Reversed.{Reversed}
 use Rattle.theory.specs.Mirrors.{readBackward}
 use Rattle.cells.specs.Stands.{Of}

@@ -25,3 +25,4 @@ pub mod Beds
 pub mod BedCases
 pub mod MirrorCases
 pub mod WaysCases
+pub mod EnquiryCases

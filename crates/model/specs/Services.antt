@@ -1,6 +1,6 @@
 -- Specification 6 and 7.2: what each service answers, for every table, program, budget of steps and area length.
 use mathlib.Core.List.{List, [], _∷_, _++_}
-use mathlib.Core.Bool.{Bool, true, false, not, cond}
+use mathlib.Core.Bool.{Bool, true, false, not, _&&_, cond}
 use mathlib.Core.Option.{Option, none, some}
 use Prim.Native.Nat.{ℕ, suc, _+_}
 use lib.Dec.{ltb, eqb}
@@ -36,6 +36,43 @@ reverse table program steps width area =
     readTable table >>= λ T.
     readProgram (T .size) program >>= λ w.
     fractionOf area (reversing T steps width w)
+
+-- SIZE FIRST, THEN THE ANSWER (6.15, 6.16)
+
+-- 6.2: what is told of a fraction: the lengths of N and D, and the steps
+pub record Sizes : Type 0 where
+  pub numerator : ℕ
+  pub denominator : ℕ
+  pub steps : ℕ
+
+abbrev pub sizes : Fraction → Sizes
+sizes f = record { numerator = length (f .numerator); denominator = length (f .denominator); steps = f .steps }
+
+-- 6.15: what enquire makes of an ending: 10, 11 and 12 as reverse
+abbrev pub sizesOf : Ending → Outcome Sizes
+sizesOf (finished n d k r) = answered (record { numerator = length n; denominator = length d; steps = k })
+sizesOf (open-pair a b k) = refused 10 (pair-of a b)
+sizesOf (stopped s) = refused (stopNumber s) unplaced
+
+unfoldable pub enquire : List ℕ → List ℕ → ℕ → ℕ → Outcome Sizes
+enquire table program steps width =
+    readTable table >>= λ T.
+    readProgram (T .size) program >>= λ w.
+    sizesOf (reversing T steps width w)
+
+-- 6.16: whether the numbers handed in are these, each of the three
+abbrev pub agree : Sizes → Sizes → Bool
+agree z y = eqb (z .numerator) (y .numerator) && (eqb (z .denominator) (y .denominator) && eqb (z .steps) (y .steps))
+
+-- 6.16: what commit makes of an ending: as enquire; 18 where the numbers are others; then as reverse
+abbrev pub committedOf : Sizes → ℕ → Ending → Outcome Fraction
+committedOf z area e = sizesOf e >>= λ y. cond (agree z y) (fractionOf area e) (refused 18 unplaced)
+
+unfoldable pub commit : List ℕ → List ℕ → ℕ → ℕ → Sizes → ℕ → Outcome Fraction
+commit table program steps width z area =
+    readTable table >>= λ T.
+    readProgram (T .size) program >>= λ w.
+    committedOf z area (reversing T steps width w)
 
 -- REVERSE FROM THE FINISHED END (6.12)
 

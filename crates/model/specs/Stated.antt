@@ -10,7 +10,7 @@ use Rattle.model.specs.declared.answers.Stop.the-variants.{Budget, Room}
 use Rattle.model.specs.declared.answers.Ending.{Ending as EndingAnswer}
 use Rattle.model.specs.declared.answers.Ending.the-variants.{Finished, Undefined, Stopped}
 use Rattle.model.specs.declared.answers.Refusal.{Refusal}
-use Rattle.model.specs.declared.answers.Refusal.the-variants.{TableEnds, TableField, TableTail, ImageEnds, ImageField, ImageTail, BackMove, UnequalWeights, CubeFails, OpenPair, AllowanceUsed, WorkspaceShort, AnswerShort, NotBraidTable, NoMirror, MirrorFails}
+use Rattle.model.specs.declared.answers.Refusal.the-variants.{TableEnds, TableField, TableTail, ImageEnds, ImageField, ImageTail, BackMove, UnequalWeights, CubeFails, OpenPair, AllowanceUsed, WorkspaceShort, AnswerShort, NotBraidTable, NoMirror, MirrorFails, OtherNumbers}
 use Rattle.model.specs.declared.answers.Reversed.{Reversed}
 use Rattle.model.specs.declared.answers.Reversed.the-variants.{Answer, Refused as ReverseRefused}
 use Rattle.model.specs.declared.answers.Cleared.{Cleared}
@@ -31,7 +31,7 @@ use Rattle.model.specs.Word.{Positive}
 use Rattle.model.specs.Reversing.{Stop, budget, room, Ending, finished, open-pair, stopped}
 use Rattle.model.specs.Outcome.{Place, unplaced, pair-of, triple-of, mirror-triple-of, Outcome, answered, refused}
 use Rattle.model.specs.Ways.{listingBytes}
-use Rattle.model.specs.Services.{Fraction, Verdict, same-after, different-after, ChainAnswer, listed-after, unlisted-after, Remainder, moves-after, none-after, Passage, joins, breaks, ends-elsewhere}
+use Rattle.model.specs.Services.{Sizes, Verdict, same-after, different-after, ChainAnswer, listed-after, unlisted-after, Remainder, moves-after, none-after, Passage, joins, breaks, ends-elsewhere}
 
 -- 7.3: the place of 11 and 12: the triple that was under way, of the table or of its mirror, or none if the programs were
 abbrev pub placed : PlaceAnswer → Place
@@ -57,6 +57,7 @@ numbered AnswerShort = (13, unplaced)
 numbered NotBraidTable = (15, unplaced)
 numbered (NoMirror p) = (16, pair-of (p .a) (p .b))
 numbered (MirrorFails t) = (17, mirror-triple-of (t .a) (t .b) (t .c))
+numbered OtherNumbers = (18, unplaced)
 
 -- 7.1: the outcome, whatever the answer would have been
 abbrev pub refusal : {A : Type 0} → Refusal → Outcome A
@@ -67,15 +68,7 @@ abbrev pub stopRefusal : StopAnswer → Refusal
 stopRefusal Budget = AllowanceUsed Programs
 stopRefusal Room = WorkspaceShort Programs
 
--- 6.2: the answer of reverse: the lengths of N and D, and the steps
-pub record Sizes : Type 0 where
-  pub numerator : ℕ
-  pub denominator : ℕ
-  pub steps : ℕ
-
-abbrev pub sizes : Fraction → Sizes
-sizes f = record { numerator = length (f .numerator); denominator = length (f .denominator); steps = f .steps }
-
+-- 6.2, 6.15, 6.16: the answer of reverse, enquire and commit
 abbrev pub reversed : Reversed → Outcome Sizes
 reversed (Answer n d k) = answered (record { numerator = n; denominator = d; steps = k })
 reversed (ReverseRefused r) = refusal r

@@ -100,5 +100,6 @@ pub fn refusal_numbers(refusal: Refusal) -> RefusalNumbers
         Refusal::NotBraidTable => alone(15),
         Refusal::NoMirror(pair) => with_pair(16, pair),
         Refusal::MirrorFails(triple) => with_mirror_triple(17, triple),
+        Refusal::OtherNumbers => alone(18),
     }
 }

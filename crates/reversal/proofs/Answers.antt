@@ -10,9 +10,9 @@ use Rattle.model.specs.Word.{Word}
 use Rattle.model.specs.Presentation.{Presentation}
 use Rattle.model.specs.Reversing.{Ending, finished, open-pair, stopped, budget, room}
 use Rattle.model.specs.Outcome.{answered, unless, mapped}
-use Rattle.model.specs.Services.{Fraction, fractionOf}
+use Rattle.model.specs.Services.{sizes, Fraction, fractionOf}
 use Rattle.model.specs.Areas.{fractionBytes, outputAfter, workspaceAfter}
-use Rattle.model.specs.Stated.{refusal, stopRefusal, sizes, reversed}
+use Rattle.model.specs.Stated.{refusal, stopRefusal, reversed}
 use Rattle.model.specs.declared.answers.Ending.the-variants.{Finished, Undefined, Stopped}
 use Rattle.model.specs.declared.answers.Stop.{Stop}
 use Rattle.model.specs.declared.answers.Pair.{Pair}

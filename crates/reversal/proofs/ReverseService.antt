@@ -9,9 +9,9 @@ use Rattle.model.specs.Presentation.{Presentation}
 use Rattle.model.specs.Reversing.{reversing}
 use Rattle.model.specs.Outcome.{Outcome, answered, refused, _>>=_, mapped}
 use Rattle.model.specs.Images.{readTable, readProgram}
-use Rattle.model.specs.Services.{Fraction, fractionOf, reverse}
+use Rattle.model.specs.Services.{Sizes, sizes, Fraction, fractionOf, reverse}
 use Rattle.model.specs.Areas.{begins, fractionBytes, outputAfter}
-use Rattle.model.specs.Stated.{Sizes, sizes, refusal}
+use Rattle.model.specs.Stated.{refusal}
 use Rattle.model.specs.declared.answers.Refusal.{Refusal}
 use Rattle.theory.specs.Orders.{OrderMeaning}
 use Rattle.theory.proofs.Orders.{order-meaning}

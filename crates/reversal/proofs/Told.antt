@@ -3,8 +3,8 @@ use mathlib.Core.Path.{_≡_, refl, sym, ap}
 use Prim.Native.Nat.{ℕ}
 use lib.ListN.{length}
 use Rattle.model.specs.Outcome.{Outcome, answered, refused, mapped}
-use Rattle.model.specs.Services.{Fraction}
-use Rattle.model.specs.Stated.{refusal, sizes}
+use Rattle.model.specs.Services.{sizes, Fraction}
+use Rattle.model.specs.Stated.{refusal}
 use Rattle.model.specs.declared.answers.Refusal.{Refusal}
 use Rattle.model.proofs.Impossible.{impossible}
 

@@ -8,9 +8,9 @@ use Rattle.model.specs.Presentation.{Presentation}
 use Rattle.model.specs.Reversing.{reversing}
 use Rattle.model.specs.Outcome.{Outcome, answered, mapped}
 use Rattle.model.specs.Images.{readTable, readProgram}
-use Rattle.model.specs.Services.{Fraction, fractionOf}
+use Rattle.model.specs.Services.{Sizes, sizes, Fraction, fractionOf}
 use Rattle.model.specs.Areas.{fractionBytes, outputAfter}
-use Rattle.model.specs.Stated.{Sizes, sizes, reversed}
+use Rattle.model.specs.Stated.{reversed}
 use Rattle.model.specs.declared.answers.Ending.{Ending}
 use Rattle.model.specs.declared.answers.Reversed.{Reversed}
 use Rattle.theory.specs.Orders.{OrderMeaning}

@@ -2,9 +2,9 @@
 ghost use mathlib.Core.Path.{_≡_};
 ghost use lib.ListN.{length};
 ghost use Rattle.model.specs.Outcome.{mapped};
-ghost use Rattle.model.specs.Services.{reverse};
+ghost use Rattle.model.specs.Services.{sizes, reverse};
 ghost use Rattle.model.specs.Areas.{fractionBytes, outputAfter, workspaceAfter};
-ghost use Rattle.model.specs.Stated.{sizes, reversed};
+ghost use Rattle.model.specs.Stated.{reversed};
 ghost use Rattle.loading.specs.Loading.{ProgramRuns};
 ghost use Rattle.engine.specs.Run.{Finishable};
 ghost use Rattle.reversal.specs.Reverse.{AnswerOf, ProgramAnswered, ReverseMeaning};

@@ -10,9 +10,9 @@ use Rattle.model.specs.Presentation.{Presentation}
 use Rattle.model.specs.Outcome.{Outcome, answered, mapped}
 use Rattle.model.specs.Images.{readProgram}
 use Rattle.model.specs.Plain.{plainProgram}
-use Rattle.model.specs.Services.{Fraction, reverse}
+use Rattle.model.specs.Services.{sizes, Fraction, reverse}
 use Rattle.model.specs.Areas.{begins, fractionBytes, outputAfter, written}
-use Rattle.model.specs.Stated.{refusal, sizes}
+use Rattle.model.specs.Stated.{refusal}
 use Rattle.model.specs.declared.answers.Refusal.{Refusal}
 use Rattle.images.specs.Tables.{SizeOf}
 use Rattle.images.proofs.RoundTrip.{program-in-range}

@@ -9,9 +9,9 @@ use Rattle.model.specs.Word.{forward, back, Word, byte}
 use Rattle.model.specs.Presentation.{Presentation}
 use Rattle.model.specs.Outcome.{Outcome, answered, _>>=_, mapped}
 use Rattle.model.specs.Images.{readTable, readProgram}
-use Rattle.model.specs.Services.{Fraction, reverse}
+use Rattle.model.specs.Services.{sizes, Fraction, reverse}
 use Rattle.model.specs.Areas.{begins}
-use Rattle.model.specs.Stated.{refusal, sizes}
+use Rattle.model.specs.Stated.{refusal}
 use Rattle.model.specs.declared.answers.Refusal.{Refusal}
 use Rattle.model.specs.Range.{All, LetterInRange}
 use Rattle.engine.proofs.Letters.{letter-forward, letter-back}

@@ -2,11 +2,12 @@
 use mathlib.Core.Path.{_≡_, sym, ap, subst, _∙_}
 use native.Mathlib.Omega.{arith}
 use lib.ListN.{length}
+use Rattle.model.specs.Services.{sizes}
 use Rattle.model.specs.Reversing.{reversing}
 use Rattle.model.specs.Outcome.{mapped}
 use Rattle.model.specs.Images.{readTable, readProgram}
 use Rattle.model.specs.Areas.{fractionBytes, outputAfter, workspaceAfter}
-use Rattle.model.specs.Stated.{sizes, refusal}
+use Rattle.model.specs.Stated.{refusal}
 use Rattle.images.specs.Programs.{ProgramDone}
 use Rattle.images.specs.Tables.{TableDone}
 use Rattle.loading.proofs.Early.{table-early, program-early}

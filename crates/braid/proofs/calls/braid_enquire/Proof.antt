@@ -1,0 +1,29 @@
+-- `braid::calls::braid_enquire` meets its contract.
+use mathlib.Core.Path.{ap, subst, _∙_}
+use Rattle.braid.specs.Told.{told, sizesTold}
+use Rattle.braid.specs.Values.{Tells}
+use borrow.Author.Needs.{needs}
+use Rattle.braid.proofs.calls.braid_enquire.Statement.{statement}
+use Rattle.braid.proofs.calls.braid_enquire.Tie as tie
+
+enquire-requires : tie.Need-enquire-requires
+enquire-requires c κs = search needs
+
+of-reversed-requires : tie.Need-of-reversed-requires
+of-reversed-requires c κs = search needs
+
+tell-requires : tie.Need-tell-requires
+tell-requires c κs = search needs
+
+same-length : tie.Need-same-length
+same-length c = search needs
+
+returns : tie.Need-returns
+returns c =
+    let z = c .before .before .before .before .before .enquire in
+    let e = z .ensures .0 in
+    (subst (λ n. Tells n (c .tell .result) (c .tell .last .1 .0)) (c .before .before .of-reversed .ensures ∙ ap (told sizesTold) e) (c .tell .ensures), z .ensures .1)
+
+pub braid-enquire-spec : {M : Type 1} → statement M
+braid-enquire-spec =
+    tie.close (tie.spec enquire-requires of-reversed-requires tell-requires same-length returns)

@@ -1,0 +1,210 @@
+-- What commit makes of each ending, its outcome after each check, and that what it answers is what reverse answers.
+use mathlib.Core.Path.{_≡_, refl, sym, ap, ap₂, _∙_}
+use mathlib.Core.List.{List}
+use mathlib.Core.Bool.{Bool, true, false, _&&_, cond}
+use Prim.Native.Nat.{ℕ, _+_, _≤_}
+use native.Mathlib.Omega.{arith}
+use borrow.Author.Tests.{eq-eqb, ne-eqb, le-ltb}
+use lib.Dec.{eqb, ltb}
+use lib.ListN.{length, replicate}
+use Rattle.model.specs.Word.{Word}
+use Rattle.model.specs.Presentation.{Presentation}
+use Rattle.model.specs.Reversing.{Ending, finished, open-pair, stopped, reversing}
+use Rattle.model.specs.Outcome.{unplaced, Outcome, answered, refused, _>>=_, unless, mapped}
+use Rattle.model.specs.Images.{readTable, readProgram}
+use Rattle.model.specs.Services.{Fraction, fractionOf, reverse, Sizes, sizes, sizesOf, enquire, agree, committedOf, commit}
+use Rattle.model.specs.Areas.{fractionBytes, outputAfter, workspaceAfter}
+use Rattle.model.specs.Stated.{refusal, reversed}
+use Rattle.model.specs.declared.answers.Ending.{Ending as EndingAnswer}
+use Rattle.model.specs.declared.answers.Ending.the-variants.{Finished, Undefined, Stopped}
+use Rattle.model.specs.declared.answers.Refusal.{Refusal}
+use Rattle.model.specs.declared.answers.Refusal.the-variants.{OtherNumbers}
+use Rattle.model.specs.declared.answers.Reversed.{Reversed}
+use Rattle.model.specs.declared.answers.Reversed.the-variants.{Refused}
+use Rattle.model.proofs.Impossible.{impossible}
+use Rattle.images.proofs.Several.{answer-of}
+use Rattle.engine.specs.Run.{Reverses}
+use Rattle.engine.proofs.Ended.{end, done, met, halted}
+use Rattle.loading.proofs.Outcomes.{still-refused, goes-on}
+use Rattle.reversal.specs.Reverse.{Answers}
+use Rattle.reversal.proofs.Answers.{zero-after}
+use Rattle.reversal.proofs.ReverseService.{reverse-runs}
+use Rattle.committing.specs.Commit.{Commits, CommitMeaning}
+
+-- THE THREE TESTS
+
+module _ (a b c x y z : ℕ) where
+  abbrev tests : Bool
+  tests = eqb a x && (eqb b y && eqb c z)
+
+  pub first-differs : (a ≡ x → ⊥) → false ≡ tests
+  first-differs h = sym (ap (λ t. t && (eqb b y && eqb c z)) (ne-eqb a x h))
+
+  module _ (h : a ≡ x) where
+    pub second-differs : (b ≡ y → ⊥) → false ≡ tests
+    second-differs g = sym (ap₂ (λ s t. s && (t && eqb c z)) (eq-eqb a x h) (ne-eqb b y g))
+
+    pub third-tells : b ≡ y → eqb c z ≡ tests
+    third-tells g = sym (ap₂ (λ s t. s && (t && eqb c z)) (eq-eqb a x h) (eq-eqb b y g))
+
+-- AN ENDING
+
+abbrev pub NotFinished : EndingAnswer → Type 0
+NotFinished (Finished n d k r) = ⊥
+NotFinished (Undefined p k) = Unit {0}
+NotFinished (Stopped s) = Unit {0}
+
+module _ (z : Sizes) (T : Presentation) (word : Word) (steps : ℕ) (workspace before : List ℕ) where
+  abbrev whole : Outcome Fraction
+  whole = committedOf z (length before) (end T word steps workspace)
+
+  -- where commit comes to what reverse does
+  commits-as : whole ≡ fractionOf (length before) (end T word steps workspace) → {after : List ℕ} {r : Reversed}
+      → Answers T word steps (length workspace) before after r → Commits T word steps (length workspace) z before after r
+  commits-as e a =
+      record { result = a .result ∙ sym (ap (mapped sizes) e); area = a .area ∙ sym (ap (λ o. outputAfter fractionBytes o before) e) }
+
+  pub unfinished-commits : (e : EndingAnswer) → NotFinished e → Reverses T word steps workspace e → {after : List ℕ} {r : Reversed}
+      → Answers T word steps (length workspace) before after r → Commits T word steps (length workspace) z before after r
+  unfinished-commits (Finished n d k r) u p a = absurd u
+  unfinished-commits (Undefined q k) u p a =
+      let e = met T word steps workspace q k p in
+      commits-as (ap (committedOf z (length before)) e ∙ sym (ap (fractionOf (length before)) e)) a
+  unfinished-commits (Stopped s) u p a =
+      let h = halted T word steps workspace s p in
+      commits-as (ap (committedOf z (length before)) (h .is) ∙ sym (ap (fractionOf (length before)) (h .is))) a
+
+  module _ (n d k r : ℕ) (p : Reverses T word steps workspace (Finished n d k r)) where
+    abbrev own : Sizes
+    own = record { numerator = n; denominator = d; steps = k }
+
+    by-numbers : {t : Bool} → agree z own ≡ t → whole ≡ cond t (fractionOf (length before) (end T word steps workspace)) (refused 18 unplaced)
+    by-numbers {t} e =
+        let q = done T word steps workspace n d k r p in
+        let sized : sizesOf (end T word steps workspace) ≡ answered own =
+        ap sizesOf (q .is) ∙ ap₂ (λ i j. answered (record { numerator = i; denominator = j; steps = k })) (q .n-length) (q .d-length) in
+        ap (λ o. o >>= λ y. cond (agree z y) (fractionOf (length before) (end T word steps workspace)) (refused 18 unplaced)) sized
+        ∙ ap (λ t. cond t (fractionOf (length before) (end T word steps workspace)) (refused 18 unplaced)) e
+
+    pub own-commits : agree z own ≡ true → {after : List ℕ} {s : Reversed} → Answers T word steps (length workspace) before after s
+        → Commits T word steps (length workspace) z before after s
+    own-commits e = commits-as (by-numbers e)
+
+    pub others-refused : agree z own ≡ false → Commits T word steps (length workspace) z before before (Refused OtherNumbers)
+    others-refused e =
+        let o = by-numbers e in
+        record { result = sym (ap (mapped sizes) o); area = sym (ap (λ q. outputAfter fractionBytes q before) o) }
+
+-- after any of them the workspace is all zero
+pub committed-zero : (z : Sizes) (area : ℕ) (e : Ending) (workspace : List ℕ) → workspaceAfter (committedOf z area e) workspace ≡ replicate (length workspace) 0
+committed-zero z area (finished n d k r) workspace = go (agree z (record { numerator = length n; denominator = length d; steps = k }))
+  where
+    go : (t : Bool) → workspaceAfter (cond t (fractionOf area (finished n d k r)) (refused 18 unplaced)) workspace ≡ replicate (length workspace) 0
+    go true = zero-after area (finished n d k r) workspace
+    go false = refl
+committed-zero z area (open-pair a b k) workspace = zero-after area (open-pair a b k) workspace
+committed-zero z area (stopped s) workspace = zero-after area (stopped s) workspace
+
+-- THE SERVICE
+
+module _ (table program : List ℕ) (steps width : ℕ) (z : Sizes) (area : ℕ) where
+  pub commit-no-table : (r : Refusal) → readTable table ≡ refusal r → commit table program steps width z area ≡ refusal r
+  unfolding commit
+  commit-no-table r e = still-refused (readTable table) r e _
+
+  module _ (T : Presentation) (e : readTable table ≡ answered T) where
+    pub commit-no-program : (r : Refusal) → readProgram (T .size) program ≡ refusal r → commit table program steps width z area ≡ refusal r
+    unfolding commit
+    commit-no-program r f =
+        goes-on (readTable table) T e (λ T. readProgram (T .size) program >>= λ w. committedOf z area (reversing T steps width w))
+        ∙ still-refused (readProgram (T .size) program) r f (λ w. committedOf z area (reversing T steps width w))
+
+    pub commit-runs : (w : Word) → readProgram (T .size) program ≡ answered w → commit table program steps width z area ≡ committedOf z area (reversing T steps width w)
+    unfolding commit
+    commit-runs w f =
+        goes-on (readTable table) T e (λ T. readProgram (T .size) program >>= λ w. committedOf z area (reversing T steps width w))
+        ∙ goes-on (readProgram (T .size) program) w f (λ w. committedOf z area (reversing T steps width w))
+
+  -- AND ENQUIRE AND REVERSE
+
+  agreed : (t : Bool) (o : Outcome Fraction) (f : Fraction) → cond t o (refused 18 unplaced) ≡ answered f → o ≡ answered f
+  agreed true o f e = e
+  agreed false o f e = impossible (cc)
+
+  committed-reverses : (e : Ending) (f : Fraction) → committedOf z area e ≡ answered f → fractionOf area e ≡ answered f
+  committed-reverses e f h =
+      let x = answer-of (sizesOf e) (λ y. cond (agree z y) (fractionOf area e) (refused 18 unplaced)) f h in
+      agreed (agree z (x .0)) (fractionOf area e) f (x .2)
+
+  -- what commit answers, reverse answers
+  pub commit-reverses : (f : Fraction) → commit table program steps width z area ≡ answered f → reverse table program steps width area ≡ answered f
+  unfolding commit
+  commit-reverses f h =
+      let t = answer-of (readTable table) (λ T. readProgram (T .size) program >>= λ w. committedOf z area (reversing T steps width w)) f h in
+      let p = answer-of (readProgram (t .0 .size) program) (λ w. committedOf z area (reversing (t .0) steps width w)) f (t .2) in
+      reverse-runs table program steps width area (t .0) (t .1) (p .0) (p .1) ∙ committed-reverses (reversing (t .0) steps width (p .0)) f (p .2)
+
+  same-agree : (n d k : ℕ) → eqb n n && (eqb d d && eqb k k) ≡ true
+  same-agree n d k = ap₂ (λ s t. s && t) (eq-eqb n n refl) (ap₂ (λ s t. s && t) (eq-eqb d d refl) (eq-eqb k k refl))
+
+  fits-answered : (e : Ending) → sizesOf e ≡ answered z → z .numerator + z .denominator ≤ area
+      → (f : Fraction) × (committedOf z area e ≡ answered f) × (sizes f ≡ z)
+  fits-answered (finished n d k r) h l =
+      let own : record { numerator = length n; denominator = length d; steps = k } ≡ z = cc in
+      let long : length n + length d ≤ area = omega (arith, ap (λ y. y .numerator) own, ap (λ y. y .denominator) own, l) in (
+        record { numerator = n; denominator = d; steps = k },
+        ap (λ y. cond (agree y (record { numerator = length n; denominator = length d; steps = k })) (fractionOf area (finished n d k r)) (refused 18 unplaced)) (sym own)
+            ∙ (ap (λ t. cond t (fractionOf area (finished n d k r)) (refused 18 unplaced)) (same-agree (length n) (length d) k)
+            ∙ ap (λ t. unless t 13 (record { numerator = n; denominator = d; steps = k })) (le-ltb area (length n + length d) long)),
+        own,
+      )
+  fits-answered (open-pair a b k) h l = impossible (cc)
+  fits-answered (stopped s) h l = impossible (cc)
+
+  -- with the numbers of an answered enquiry commit is not refused
+  pub enquired-commits : enquire table program steps width ≡ answered z → z .numerator + z .denominator ≤ area
+      → (f : Fraction) × (commit table program steps width z area ≡ answered f) × (sizes f ≡ z)
+  unfolding enquire
+  enquired-commits h l =
+      let t = answer-of (readTable table) (λ T. readProgram (T .size) program >>= λ w. sizesOf (reversing T steps width w)) z h in
+      let p = answer-of (readProgram (t .0 .size) program) (λ w. sizesOf (reversing (t .0) steps width w)) z (t .2) in
+      let c = fits-answered (reversing (t .0) steps width (p .0)) (p .2) l in
+      (c .0, commit-runs (t .0) (t .1) (p .0) (p .1) ∙ c .1, c .2)
+
+module _ (table program : List ℕ) (steps : ℕ) (workspace : List ℕ) (z : Sizes) (before : List ℕ) where
+  abbrev outcome : Outcome Fraction
+  outcome = commit table program steps (length workspace) z (length before)
+
+  abbrev reversal : Outcome Fraction
+  reversal = reverse table program steps (length workspace) (length before)
+
+  -- the service's promise
+  abbrev pub Promised : List ℕ → List ℕ → Outcome Sizes → Type 0
+  Promised workspace′ after told =
+      (told ≡ mapped sizes outcome)
+      × ((after ≡ outputAfter fractionBytes outcome before)
+      × ((workspace′ ≡ workspaceAfter outcome workspace) × CommitMeaning table program steps (length workspace) z before after told))
+
+  pub promised : (workspace′ after : List ℕ) (told : Outcome Sizes) → told ≡ mapped sizes outcome → after ≡ outputAfter fractionBytes outcome before
+      → workspace′ ≡ workspaceAfter outcome workspace → Promised workspace′ after told
+  promised workspace′ after told t a k = (t, (a, (k, record { answers = answers; as-reverse = as-reverse })))
+    where
+      same : (f : Fraction) → outcome ≡ answered f → outcome ≡ reversal
+      same f e = e ∙ sym (commit-reverses table program steps (length workspace) z (length before) f e)
+
+      answers : enquire table program steps (length workspace) ≡ answered z → z .numerator + z .denominator ≤ length before
+          → (told ≡ answered z) × (after ≡ outputAfter fractionBytes reversal before)
+      answers h l =
+          let c = enquired-commits table program steps (length workspace) z (length before) h l in (
+            t ∙ (ap (mapped sizes) (c .1) ∙ ap answered (c .2)),
+            a ∙ ap (λ o. outputAfter fractionBytes o before) (same (c .0) (c .1)),
+          )
+
+      answered-same : (o : Outcome Fraction) (y : Sizes) → outcome ≡ o → mapped sizes o ≡ answered y → outcome ≡ reversal
+      answered-same (answered f) y e h = same f e
+      answered-same (refused n place) y e h = impossible (cc)
+
+      as-reverse : (y : Sizes) → told ≡ answered y → (mapped sizes reversal ≡ answered y) × (after ≡ outputAfter fractionBytes reversal before)
+      as-reverse y h =
+          let s = answered-same outcome y refl (sym t ∙ h) in
+          (sym (ap (mapped sizes) s) ∙ (sym t ∙ h), a ∙ ap (λ o. outputAfter fractionBytes o before) s)

@@ -1,0 +1,2 @@
+// The service commit.
+pub mod commit;

@@ -1,0 +1,47 @@
+-- What enquire makes of each ending, and its outcome after each check.
+use mathlib.Core.Path.{_≡_, refl, sym, ap, _∙_}
+use mathlib.Core.List.{List}
+use Prim.Native.Nat.{ℕ}
+use lib.ListN.{length, replicate}
+use Rattle.model.specs.Word.{Word}
+use Rattle.model.specs.Presentation.{Presentation}
+use Rattle.model.specs.Reversing.{Ending, finished, open-pair, stopped, budget, room, reversing}
+use Rattle.model.specs.Outcome.{answered, _>>=_}
+use Rattle.model.specs.Images.{readTable, readProgram}
+use Rattle.model.specs.Services.{sizesOf, enquire}
+use Rattle.model.specs.Areas.{workspaceAfter}
+use Rattle.model.specs.Stated.{refusal, reversed, endingAnswer}
+use Rattle.model.specs.declared.answers.Refusal.{Refusal}
+use Rattle.loading.proofs.Outcomes.{still-refused, goes-on}
+use Rattle.enquiring.specs.Enquire.{sizesTold}
+
+pub sizes-stated : (e : Ending) → reversed (sizesTold (endingAnswer e)) ≡ sizesOf e
+sizes-stated (finished n d k r) = refl
+sizes-stated (open-pair a b k) = refl
+sizes-stated (stopped budget) = refl
+sizes-stated (stopped room) = refl
+
+-- after any of them the workspace is all zero
+pub zero-after : (e : Ending) (workspace : List ℕ) → workspaceAfter (sizesOf e) workspace ≡ replicate (length workspace) 0
+zero-after (finished n d k r) workspace = refl
+zero-after (open-pair a b k) workspace = refl
+zero-after (stopped budget) workspace = refl
+zero-after (stopped room) workspace = refl
+
+module _ (table program : List ℕ) (steps width : ℕ) where
+  pub enquire-no-table : (r : Refusal) → readTable table ≡ refusal r → enquire table program steps width ≡ refusal r
+  unfolding enquire
+  enquire-no-table r e = still-refused (readTable table) r e _
+
+  module _ (T : Presentation) (e : readTable table ≡ answered T) where
+    pub enquire-no-program : (r : Refusal) → readProgram (T .size) program ≡ refusal r → enquire table program steps width ≡ refusal r
+    unfolding enquire
+    enquire-no-program r f =
+        goes-on (readTable table) T e (λ T. readProgram (T .size) program >>= λ w. sizesOf (reversing T steps width w))
+        ∙ still-refused (readProgram (T .size) program) r f (λ w. sizesOf (reversing T steps width w))
+
+    pub enquire-runs : (w : Word) → readProgram (T .size) program ≡ answered w → enquire table program steps width ≡ sizesOf (reversing T steps width w)
+    unfolding enquire
+    enquire-runs w f =
+        goes-on (readTable table) T e (λ T. readProgram (T .size) program >>= λ w. sizesOf (reversing T steps width w))
+        ∙ goes-on (readProgram (T .size) program) w f (λ w. sizesOf (reversing T steps width w))

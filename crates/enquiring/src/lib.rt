@@ -1,0 +1,2 @@
+// The service enquire.
+pub mod enquire;
