@@ -102,7 +102,8 @@ enum braid_result {
     /* 14 is unused */
     BRAID_NOT_BRAID_TABLE = 15,
     BRAID_NO_MIRROR = 16,
-    BRAID_MIRROR_FAILS = 17
+    BRAID_MIRROR_FAILS = 17,
+    BRAID_OTHER_NUMBERS = 18
 };
 
 /* What values[0] means follows from call and result. An answer of compare or chain: */
@@ -139,7 +140,8 @@ static inline const char *braid_text(uint8_t result)
         NULL, /* 14 is unused */
         "the table isn't the braid table of its number of moves",
         "the table has no mirror",
-        "a triple of the mirror breaks the cube rule"
+        "a triple of the mirror breaks the cube rule",
+        "the numbers handed in aren't those of this reversing"
     };
     return result < sizeof texts / sizeof *texts && texts[result] ? texts[result] : "no result of this library";
 }
@@ -167,6 +169,23 @@ static inline const char *braid_text(uint8_t result)
  */
 BRAID_CALL uint8_t braid_reverse(const uint8_t *table, size_t table_length, const uint8_t *program, size_t program_length, uint16_t allowance,
                                  uint8_t *workspace, size_t workspace_length, uint8_t *answer, size_t answer_length, uint64_t *values);
+
+/*
+ * The sizes of what braid_reverse would answer, with no answer area (6.15): a caller can reserve memory, then call braid_commit.
+ * Values: as reverse. Refusals: 1 to 6, 10, 11, 12.
+ */
+BRAID_CALL uint8_t braid_enquire(const uint8_t *table, size_t table_length, const uint8_t *program, size_t program_length, uint16_t allowance,
+                                 uint8_t *workspace, size_t workspace_length, uint64_t *values);
+
+/*
+ * As braid_reverse, for a caller who has the three numbers (6.16); any may be handed in. 18 where one of them is not that of this reversing, also where the
+ * answer area is too short. With those of an answered braid_enquire on the same images, allowance and workspace length, and an area of at least numerator +
+ * denominator bytes, it answers, and leaves in the area what braid_reverse would.
+ * Answer area and values: as reverse. Refusals: 1 to 6, then 10, 11 or 12, then 18, then 13.
+ */
+BRAID_CALL uint8_t braid_commit(const uint8_t *table, size_t table_length, const uint8_t *program, size_t program_length, uint16_t allowance,
+                                uint64_t numerator, uint64_t denominator, uint64_t steps, uint8_t *workspace, size_t workspace_length,
+                                uint8_t *answer, size_t answer_length, uint64_t *values);
 
 /*
  * Reverses a program from its finished end (3.8). A step takes the rightmost forward move that stands directly before a back one; with the relation whose sides
