@@ -12,7 +12,7 @@
 enum { PAINT = 0xA5, STACK = 65536, AREA = 200000 };
 
 static uint8_t stack[STACK], workspace[AREA], answer[AREA], plain[AREA], table[AREA], program[AREA], chain[AREA];
-static uint64_t values[BRAID_VALUES];
+static uint64_t values[BRAID_VALUES], sizes[BRAID_VALUES];
 static size_t table_length, program_length, chain_length, plain_length, answer_length;
 static uint8_t result;
 static int passed, failed;
@@ -67,6 +67,11 @@ static void unpack_table(void) { result = braid_unpack_table(table, table_length
 static void pack_program(void) { result = braid_pack_program(table, table_length, plain, plain_length, program, AREA, values); }
 static void unpack_program(void) { result = braid_unpack_program(table, table_length, program, program_length, answer, AREA, values); }
 static void reverse(void) { result = braid_reverse(table, table_length, program, program_length, 65535, workspace, AREA, answer, AREA, values); }
+static void enquire(void) { result = braid_enquire(table, table_length, program, program_length, 65535, workspace, AREA, values); }
+static void commit(void)
+{
+    result = braid_commit(table, table_length, program, program_length, 65535, sizes[0], sizes[1], sizes[2], workspace, AREA, answer, answer_length, values);
+}
 static void clear(void) { result = braid_clear(table, table_length, 65535, workspace, AREA, values); }
 static void left_reverse(void)
 {
@@ -139,12 +144,26 @@ static void longest_forms(void)
 static void engine(void)
 {
     static const uint8_t braid3[] = {0x20, 0x04, 0x90, 0x86, 0x30, 0x92, 0x92, 0x60}, one[] = {0x00, 0x30, 0x40}, two[] = {0x00, 0x32, 0x08};
-    static const uint8_t turned[] = {0x00, 0x21, 0x40};
+    static const uint8_t turned[] = {0x00, 0x21, 0x40}, signs[] = {0x00, 0x5C, 0x28, 0x20};
     size_t needed = braid_chain_bytes(3, 1);
     memcpy(table, braid3, table_length = sizeof braid3);
     memcpy(program, one, program_length = sizeof one);
     answers("clear", clear);
     answers("reverse", reverse);
+    memcpy(program, signs, program_length = sizeof signs);
+    answers("enquire", enquire);
+    hold("4, 3 and 5 steps", values[0] == 4 && values[1] == 3 && values[2] == 5);
+    memcpy(sizes, values, sizeof sizes);
+    answer_length = (size_t)(sizes[0] + sizes[1]);
+    answers("commit", commit);
+    hold("the enquiry's own numbers", memcmp(sizes, values, sizeof sizes) == 0);
+    answer_length--;
+    commit();
+    hold("an area one byte too short for them", result == BRAID_ANSWER_SHORT);
+    sizes[2]++;
+    commit();
+    hold("other numbers", result == BRAID_OTHER_NUMBERS && values[0] == BRAID_NO_PLACE);
+    program_length = sizeof one;
     answers("mirror_clear", mirror_clear);
     memcpy(program, turned, sizeof turned);
     answers("left_reverse", left_reverse);
@@ -168,7 +187,7 @@ static void engine(void)
     hold("the moves of a table", braid_table_moves(table) == 3);
     hold("a move field's bits", braid_move_bits(1) == 0 && braid_move_bits(2) == 1 && braid_move_bits(9) == 4 && braid_move_bits(16) == 4);
     hold("the largest allowance", (uint16_t)BRAID_MOST_ALLOWANCE == BRAID_MOST_ALLOWANCE && (uint16_t)(BRAID_MOST_ALLOWANCE + 1) == 0);
-    hold("the last text", strcmp(braid_text(BRAID_MIRROR_FAILS), "a triple of the mirror breaks the cube rule") == 0);
+    hold("the last text", strcmp(braid_text(BRAID_OTHER_NUMBERS), "the numbers handed in aren't those of this reversing") == 0);
     hold("texts", strcmp(braid_text(BRAID_OPEN_PAIR), "the reversing met an open pair") == 0 && strcmp(braid_text(14), braid_text(200)) == 0);
 }
 

@@ -489,6 +489,53 @@ static void ways(void)
     hold("unequal weights give 8 before 13", listed(ALL_OF(unequal), ALL_OF(image_1), 0), BRAID_UNEQUAL_WEIGHTS, "1 1 2 0", 0, nothing, 0);
 }
 
+/* Enquires about a program under the braid table, with a workspace of so many bytes. */
+static uint8_t enquired(const uint8_t *program, size_t program_length, uint16_t allowance, size_t workspace_length)
+{
+    return braid_enquire(ALL_OF(braid3), program, program_length, allowance, workspace, workspace_length, values);
+}
+
+/* Commits -3 1 -2 1 2 under the braid table with these numbers, in an area of so many bytes. */
+static uint8_t committed(uint16_t allowance, uint64_t numerator, uint64_t denominator, uint64_t steps, size_t length)
+{
+    return braid_commit(ALL_OF(braid3), ALL_OF(first_image), allowance, numerator, denominator, steps, ALL_OF(workspace), answer, length, values);
+}
+
+static void enquiring(void)
+{
+    /* 1 2 under n = 3 and -1 2 under n = 2. */
+    static const uint8_t image_12[] = {0x00, 0x20, 0x40}, pair_12[] = {0x00, 0x29};
+    static const uint8_t first_fraction[] = {1, 1, 2, 3, 1, 3, 2}, fraction_12[] = {1, 2};
+    const uint64_t above_32_bits = (uint64_t)1 << 32, highest = (uint64_t)1 << 63;
+    hold("the sizes of -3 1 -2 1 2", enquired(ALL_OF(first_image), MOST_STEPS, AREA), BRAID_ANSWER, "4 3 5 0", AREA, nothing, 0);
+    hold("within 5 steps and 9 bytes", enquired(ALL_OF(first_image), 5, 9), BRAID_ANSWER, "4 3 5 0", 9, nothing, 0);
+    hold("an enquiry of 4 steps gives 11", enquired(ALL_OF(first_image), 4, AREA), BRAID_ALLOWANCE_USED, "0 0 0 0", AREA, nothing, 0);
+    hold("one of 8 bytes gives 12", enquired(ALL_OF(first_image), MOST_STEPS, 8), BRAID_WORKSPACE_SHORT, "0 0 0 0", 8, nothing, 0);
+    hold("one with an open pair gives 10 with 1, 2", braid_enquire(ALL_OF(open_pair), ALL_OF(pair_12), MOST_STEPS, ALL_OF(workspace), values),
+         BRAID_OPEN_PAIR, "1 1 2 0", AREA, nothing, 0);
+    hold("one of a cut program gives 4", enquired(first_image, sizeof first_image - 1, MOST_STEPS, AREA), BRAID_IMAGE_ENDS, "0 0 0 0", 0, nothing, 0);
+    hold("its answer in 7 bytes", committed(MOST_STEPS, 4, 3, 5, 7), BRAID_ANSWER, "4 3 5 0", AREA, ALL_OF(first_fraction));
+    hold("in more", committed(MOST_STEPS, 4, 3, 5, AREA), BRAID_ANSWER, "4 3 5 0", AREA, ALL_OF(first_fraction));
+    hold("6 bytes give 13", committed(MOST_STEPS, 4, 3, 5, 6), BRAID_ANSWER_SHORT, "0 0 0 0", AREA, nothing, 0);
+    hold("lengths exchanged give 18", committed(MOST_STEPS, 3, 4, 5, 0), BRAID_OTHER_NUMBERS, "0 0 0 0", AREA, nothing, 0);
+    hold("so do other steps", committed(MOST_STEPS, 4, 3, 4, 0), BRAID_OTHER_NUMBERS, "0 0 0 0", AREA, nothing, 0);
+    hold("steps that are right in 32 bits", committed(MOST_STEPS, 4, 3, 5 + above_32_bits, 0), BRAID_OTHER_NUMBERS, "0 0 0 0", AREA, nothing, 0);
+    hold("lengths of the same sum", committed(MOST_STEPS, 5, 2, 5, 0), BRAID_OTHER_NUMBERS, "0 0 0 0", AREA, nothing, 0);
+    hold("also where the area suffices", committed(MOST_STEPS, 5, 2, 5, 7), BRAID_OTHER_NUMBERS, "0 0 0 0", AREA, nothing, 0);
+    hold("a numerator that is right in 63 bits", committed(MOST_STEPS, 4 + highest, 3, 5, AREA), BRAID_OTHER_NUMBERS, "0 0 0 0", AREA, nothing, 0);
+    hold("a denominator off by one", committed(MOST_STEPS, 4, 2, 5, AREA), BRAID_OTHER_NUMBERS, "0 0 0 0", AREA, nothing, 0);
+    hold("allowance 4 gives 11 before 18", committed(4, 0, 0, 0, AREA), BRAID_ALLOWANCE_USED, "0 0 0 0", AREA, nothing, 0);
+    hold("a commit with an open pair gives 10 before 18",
+         braid_commit(ALL_OF(open_pair), ALL_OF(pair_12), MOST_STEPS, 0, 0, 0, ALL_OF(workspace), ALL_OF(answer), values), BRAID_OPEN_PAIR, "1 1 2 0",
+         AREA, nothing, 0);
+    hold("a cut table gives 1 before 18",
+         braid_commit(braid3, sizeof braid3 - 1, ALL_OF(first_image), MOST_STEPS, 0, 0, 0, ALL_OF(workspace), ALL_OF(answer), values), BRAID_TABLE_ENDS,
+         "0 0 0 0", 0, nothing, 0);
+    hold("1 2 needs no step", enquired(ALL_OF(image_12), 0, 2), BRAID_ANSWER, "2 0 0 0", 2, nothing, 0);
+    hold("and is its own numerator", braid_commit(ALL_OF(braid3), ALL_OF(image_12), 0, 2, 0, 0, workspace, 2, answer, 2, values), BRAID_ANSWER, "2 0 0 0",
+         2, ALL_OF(fraction_12));
+}
+
 int main(void)
 {
     as_found();
@@ -504,6 +551,7 @@ int main(void)
     left_reversing();
     mirror_clearing();
     ways();
+    enquiring();
     printf("%d passed, %d failed\n", passed, failed);
     return failed != 0;
 }

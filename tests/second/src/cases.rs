@@ -1,6 +1,7 @@
 //! Random cases. A case is made from its seed alone: a table, words, images sound or damaged, and calls with allowances and areas of every
 //! class.
 mod bed;
+mod enquiry;
 mod mirror;
 mod ways;
 
@@ -16,6 +17,7 @@ use crate::reversing::{Ending, Most};
 use crate::table::Table;
 use crate::tables::{any, clearing, forward_word, growing, signed_word, twins, walk, word_of_weight};
 use crate::word::{bytes, undoing, Word};
+pub use enquiry::Enquired;
 pub use mirror::Mirrored;
 use std::collections::BTreeMap;
 
@@ -110,6 +112,9 @@ pub struct Tally {
     /// Left reversings held against right reversing under the mirror: answers, open pairs and stops.
     pub backward: [usize; 3],
     pub mirrored: BTreeMap<Mirrored, usize>,
+    /// Commits held against reverse in areas of the same content: answers, open pairs, stops and 18.
+    pub committed: [usize; 4],
+    pub enquired: BTreeMap<Enquired, usize>,
 }
 
 impl Tally {
@@ -124,6 +129,9 @@ impl Tally {
         for (total, more) in self.listings.iter_mut().zip(other.listings) {
             *total += more;
         }
+        for (total, more) in self.committed.iter_mut().zip(other.committed) {
+            *total += more;
+        }
         for (key, count) in &other.results {
             *self.results.entry(*key).or_default() += count;
         }
@@ -135,6 +143,9 @@ impl Tally {
         }
         for (key, count) in &other.mirrored {
             *self.mirrored.entry(*key).or_default() += count;
+        }
+        for (key, count) in &other.enquired {
+            *self.enquired.entry(*key).or_default() += count;
         }
     }
 
@@ -155,6 +166,8 @@ fn name(call: &Call) -> &'static str {
     match call {
         Call::Reverse { .. } => "reverse",
         Call::LeftReverse { .. } => "left reverse",
+        Call::Enquire { .. } => "enquire",
+        Call::Commit { .. } => "commit",
         Call::Clear { .. } => "clear",
         Call::MirrorClear { .. } => "mirror clear",
         Call::Compare { .. } => "compare",
@@ -190,7 +203,7 @@ type Held<T> = Result<T, String>;
 /// Runs the case of a seed; the error has all that is needed to see it again.
 pub fn run(seed: u64, tally: &mut Tally) -> Held<()> {
     let mut case = Case { random: Random::new(seed), tally };
-    let held = match case.random.below(94) {
+    let held = match case.random.below(100) {
         0..=15 => case.reversing(),
         16..=23 => case.clearing(),
         24..=36 => case.comparing(),
@@ -200,6 +213,7 @@ pub fn run(seed: u64, tally: &mut Tally) -> Held<()> {
         64..=71 => case.bed(),
         72..=87 => case.mirror(),
         88..=93 => case.ways(),
+        94..=99 => case.enquiry(),
         _ => match case.random.below(16) {
             0..=1 => case.many_steps(),
             2..=3 => case.given_growth(),
@@ -215,11 +229,17 @@ impl Case<'_> {
     fn held(&mut self, made: &Call, workspace: usize, answer: usize) -> Held<Left> {
         let work = self.random.bytes(workspace);
         let out = self.random.bytes(answer);
+        self.held_in(made, &work, &out)
+    }
+
+    /// The same with areas that hold these bytes.
+    fn held_in(&mut self, made: &Call, work: &[u8], out: &[u8]) -> Held<Left> {
+        let (workspace, answer) = (work.len(), out.len());
         let must = expected(made, workspace, answer, &mut Most::default());
         self.tally.calls += 1;
         let report = |what: String| format!("{what}\nworkspace of {workspace}, answer area of {answer} bytes; in hexadecimal\n{made:02x?}");
-        let left = call(made, &work, &out).map_err(report)?;
-        judge(made, &must, &work, &out, &left).map_err(report)?;
+        let left = call(made, work, out).map_err(report)?;
+        judge(made, &must, work, out, &left).map_err(report)?;
         *self.tally.results.entry((name(made), left.result, told_apart(made, &left))).or_default() += 1;
         Ok(left)
     }
@@ -296,15 +316,21 @@ impl Case<'_> {
         }
     }
 
+    /// Moves of any signs, or back ones and then forward ones.
+    fn word_to_reverse(&mut self, table: &Table) -> Word {
+        let length = self.random.pick(&[0, 1, 2, 4, 8, 16, 30, 60]);
+        let word = signed_word(&mut self.random, table.moves, length);
+        if !self.random.once_in(3) {
+            return word;
+        }
+        let u = forward_word(&mut self.random, table.moves, length / 2);
+        let v = forward_word(&mut self.random, table.moves, length / 2);
+        [undoing(&u), v].concat()
+    }
+
     fn reversing(&mut self) -> Held<()> {
         let table = any(&mut self.random);
-        let length = self.random.pick(&[0, 1, 2, 4, 8, 16, 30, 60]);
-        let mut word = signed_word(&mut self.random, table.moves, length);
-        if self.random.once_in(3) {
-            let u = forward_word(&mut self.random, table.moves, length / 2);
-            let v = forward_word(&mut self.random, table.moves, length / 2);
-            word = [undoing(&u), v].concat();
-        }
+        let word = self.word_to_reverse(&table);
         let image = table_image(&table);
         let program = program_image(table.moves, &word);
         let sound = Call::Reverse { table: image.clone(), program: program.clone(), allowance: 3_000 };

@@ -25,6 +25,31 @@ extern "C" {
         answer_length: usize,
         values: *mut u64,
     ) -> u8;
+    fn braid_enquire(
+        table: *const u8,
+        table_length: usize,
+        program: *const u8,
+        program_length: usize,
+        allowance: u16,
+        workspace: *mut u8,
+        workspace_length: usize,
+        values: *mut u64,
+    ) -> u8;
+    fn braid_commit(
+        table: *const u8,
+        table_length: usize,
+        program: *const u8,
+        program_length: usize,
+        allowance: u16,
+        numerator: u64,
+        denominator: u64,
+        steps: u64,
+        workspace: *mut u8,
+        workspace_length: usize,
+        answer: *mut u8,
+        answer_length: usize,
+        values: *mut u64,
+    ) -> u8;
     fn braid_clear(
         table: *const u8,
         table_length: usize,
@@ -173,6 +198,42 @@ pub fn left_reverse(table: &[u8], program: &[u8], allowance: u16, workspace: &mu
             program.as_ptr(),
             program.len(),
             allowance,
+            workspace.as_mut_ptr(),
+            workspace.len(),
+            answer.as_mut_ptr(),
+            answer.len(),
+            values,
+        )
+    })
+}
+
+pub fn enquire(table: &[u8], program: &[u8], allowance: u16, workspace: &mut [u8]) -> Told {
+    told(|values| unsafe {
+        braid_enquire(
+            table.as_ptr(),
+            table.len(),
+            program.as_ptr(),
+            program.len(),
+            allowance,
+            workspace.as_mut_ptr(),
+            workspace.len(),
+            values,
+        )
+    })
+}
+
+pub fn commit(table: &[u8], program: &[u8], allowance: u16, numbers: [u64; 3], workspace: &mut [u8], answer: &mut [u8]) -> Told {
+    let [numerator, denominator, steps] = numbers;
+    told(|values| unsafe {
+        braid_commit(
+            table.as_ptr(),
+            table.len(),
+            program.as_ptr(),
+            program.len(),
+            allowance,
+            numerator,
+            denominator,
+            steps,
             workspace.as_mut_ptr(),
             workspace.len(),
             answer.as_mut_ptr(),

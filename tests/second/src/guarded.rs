@@ -1,11 +1,13 @@
 //! Calls of the firmware with guard bytes around every area and image.
 use crate::firmware;
 
-/// A call, with all that it takes.
+/// A call, with all that it takes. The numbers handed to commit are the lengths of numerator and denominator, then the steps.
 #[derive(Clone, Debug)]
 pub enum Call {
     Reverse { table: Vec<u8>, program: Vec<u8>, allowance: u16 },
     LeftReverse { table: Vec<u8>, program: Vec<u8>, allowance: u16 },
+    Enquire { table: Vec<u8>, program: Vec<u8>, allowance: u16 },
+    Commit { table: Vec<u8>, program: Vec<u8>, allowance: u16, numbers: [u64; 3] },
     Clear { table: Vec<u8>, allowance: u16 },
     MirrorClear { table: Vec<u8>, allowance: u16 },
     Compare { table: Vec<u8>, first: Vec<u8>, second: Vec<u8>, allowance: u16 },
@@ -71,6 +73,7 @@ impl Call {
     fn images(&self) -> Vec<&[u8]> {
         match self {
             Call::Reverse { table, program, .. } | Call::LeftReverse { table, program, .. } => vec![table, program],
+            Call::Enquire { table, program, .. } | Call::Commit { table, program, .. } => vec![table, program],
             Call::UnpackProgram { table, program } | Call::Bed { table, program, .. } | Call::Ways { table, program } => vec![table, program],
             Call::Clear { table, .. } | Call::MirrorClear { table, .. } | Call::UnpackTable { table } => vec![table],
             Call::Compare { table, first, second, .. } | Call::Chain { table, first, second, .. } => vec![table, first, second],
@@ -91,6 +94,8 @@ pub fn call(call: &Call, workspace: &[u8], answer: &[u8]) -> Result<Left, String
     let (result, values) = match call {
         Call::Reverse { allowance, .. } => firmware::reverse(image(0), image(1), *allowance, w, o),
         Call::LeftReverse { allowance, .. } => firmware::left_reverse(image(0), image(1), *allowance, w, o),
+        Call::Enquire { allowance, .. } => firmware::enquire(image(0), image(1), *allowance, w),
+        Call::Commit { allowance, numbers, .. } => firmware::commit(image(0), image(1), *allowance, *numbers, w, o),
         Call::Clear { allowance, .. } => firmware::clear(image(0), *allowance, w),
         Call::MirrorClear { allowance, .. } => firmware::mirror_clear(image(0), *allowance, w),
         Call::Compare { allowance, .. } => firmware::compare(image(0), image(1), image(2), *allowance, w),

@@ -61,6 +61,11 @@ pub fn expected(call: &Call, workspace: usize, answer: usize, most: &mut Most) -
         Call::LeftReverse { table, program, allowance } => {
             services::left_reverse(table, program, limits(allowance), answer, most).map(Expected::fraction)
         }
+        Call::Enquire { table, program, allowance } => services::enquire(table, program, limits(allowance), most)
+            .map(|[numerator, denominator, steps]| Expected::answer([numerator as u64, denominator as u64, steps as u64, 0], Vec::new())),
+        Call::Commit { table, program, allowance, numbers } => {
+            services::commit(table, program, limits(allowance), *numbers, answer, most).map(Expected::fraction)
+        }
         Call::Clear { table, allowance } => services::clear(table, limits(allowance), most).map(|()| Expected::answer([0; 4], Vec::new())),
         Call::MirrorClear { table, allowance } => {
             services::mirror_clear(table, limits(allowance), most).map(|()| Expected::answer([0; 4], Vec::new()))

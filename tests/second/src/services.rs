@@ -25,17 +25,50 @@ pub fn reverse(table: &[u8], program: &[u8], limits: Limits, answer: usize, most
 
 /// What comes of the reversing of reverse or left_reverse.
 fn fraction(ending: Ending, answer: usize) -> Result<Fraction, Refusal> {
+    let whole = finished(ending)?;
+    if whole.numerator.len() + whole.denominator.len() > answer {
+        return Err(Refusal::plain(13));
+    }
+    Ok(whole)
+}
+
+/// The end of a reversing, before any area or number is looked at.
+fn finished(ending: Ending) -> Result<Fraction, Refusal> {
     match ending {
-        Ending::Finished { numerator, denominator, steps, .. } => {
-            if numerator.len() + denominator.len() > answer {
-                return Err(Refusal::plain(13));
-            }
-            Ok(Fraction { numerator, denominator, steps })
-        }
+        Ending::Finished { numerator, denominator, steps, .. } => Ok(Fraction { numerator, denominator, steps }),
         Ending::Open { a, b, .. } => Err(Refusal::at(10, Place::Pair(a, b))),
         Ending::AllowanceUsed => Err(Refusal::plain(11)),
         Ending::WorkspaceShort => Err(Refusal::plain(12)),
     }
+}
+
+/// The lengths of numerator and denominator, and the steps.
+pub fn enquire(table: &[u8], program: &[u8], limits: Limits, most: &mut Most) -> Result<[usize; 3], Refusal> {
+    let table = read_table(table)?;
+    let word = read_program(program, table.moves)?;
+    finished(run(&table, word, 0, limits, most)).map(|whole| [whole.numerator.len(), whole.denominator.len(), whole.steps])
+}
+
+/// The numerator and denominator for a caller who has their lengths and the steps.
+pub fn commit(
+    table: &[u8],
+    program: &[u8],
+    limits: Limits,
+    numbers: [u64; 3],
+    answer: usize,
+    most: &mut Most,
+) -> Result<Fraction, Refusal> {
+    let table = read_table(table)?;
+    let word = read_program(program, table.moves)?;
+    let Fraction { numerator, denominator, steps } = finished(run(&table, word, 0, limits, most))?;
+    let found = [numerator.len(), denominator.len(), steps].map(|number| number as u64);
+    if found != numbers {
+        return Err(Refusal::plain(18));
+    }
+    if answer < numerator.len() + denominator.len() {
+        return Err(Refusal::plain(13));
+    }
+    Ok(Fraction { numerator, denominator, steps })
 }
 
 pub fn left_reverse(table: &[u8], program: &[u8], limits: Limits, answer: usize, most: &mut Most) -> Result<Fraction, Refusal> {

@@ -6,7 +6,7 @@ use second::outcome::{Listing, Passage, Place, Refusal, Remainder, Verdict};
 use second::plain::{plain_table, read_plain_table};
 use second::random::Random;
 use second::reversing::{Ending, Limits, Most};
-use second::services::{bed, chain, check, clear, compare, left_reverse, mirror_clear, remainder, reverse, ways};
+use second::services::{bed, chain, check, clear, commit, compare, enquire, left_reverse, mirror_clear, remainder, reverse, ways};
 use second::table::Table;
 use second::tables::mirror::clears_alone;
 use second::tables::{braid, doubled, growing, twins};
@@ -347,4 +347,49 @@ fn listings() {
     let unequal = table_image(&doubled().weighing(vec![1, 1]));
     assert_eq!(ways(&unequal, &program_image(2, &[1]), 9), Err(Refusal::at(8, Place::Pair(1, 2))));
     assert_eq!(ways(&unequal, &program_image(2, &[-1]), 9), Err(Refusal::plain(7)));
+}
+
+fn enquired(table: &Table, word: &[i8], limits: Limits) -> Result<[usize; 3], Refusal> {
+    enquire(&table_image(table), &program_image(table.moves, word), limits, &mut Most::default())
+}
+
+type Committed = Result<(Vec<i8>, Vec<i8>, usize), Refusal>;
+
+fn committed(table: &Table, word: &[i8], limits: Limits, numbers: [u64; 3], answer: usize) -> Committed {
+    let program = program_image(table.moves, word);
+    commit(&table_image(table), &program, limits, numbers, answer, &mut Most::default()).map(|f| (f.numerator, f.denominator, f.steps))
+}
+
+#[test]
+fn enquiries() {
+    let word = [-3, 1, -2, 1, 2];
+    assert_eq!(enquired(&braid(3), &word, WIDE), Ok([4, 3, 5]));
+    assert_eq!(enquired(&braid(3), &word, Limits { allowance: 5, workspace: 9 }), Ok([4, 3, 5]));
+    assert_eq!(enquired(&braid(3), &word, Limits { allowance: 4, ..WIDE }), Err(Refusal::plain(11)));
+    assert_eq!(enquired(&braid(3), &word, Limits { workspace: 8, ..WIDE }), Err(Refusal::plain(12)));
+    assert_eq!(enquired(&Table::light(2, vec![None]), &[-1, 2], WIDE), Err(Refusal::at(10, Place::Pair(1, 2))));
+    assert_eq!(enquired(&braid(3), &[1, 2], Limits { allowance: 0, workspace: 2 }), Ok([2, 0, 0]));
+    assert_eq!(enquire(&[], &[], WIDE, &mut Most::default()), Err(Refusal::plain(1)));
+    assert_eq!(enquire(&table_image(&braid(3)), &[], WIDE, &mut Most::default()), Err(Refusal::plain(4)));
+}
+
+#[test]
+fn commits() {
+    let word = [-3, 1, -2, 1, 2];
+    let whole = Ok((vec![1, 1, 2, 3], vec![1, 3, 2], 5));
+    for answer in [7, 8, 32_768] {
+        assert_eq!(committed(&braid(3), &word, WIDE, [4, 3, 5], answer), whole);
+    }
+    assert_eq!(committed(&braid(3), &word, WIDE, [4, 3, 5], 6), Err(Refusal::plain(13)));
+    let near = [[3, 4, 5], [4, 3, 4], [5, 2, 5], [5, 3, 5], [4, 2, 5]];
+    let far = [[4, 3, 5 + (1 << 32)], [4, 3 + (1 << 63), 5], [4 + (1 << 16), 3, 5], [u64::MAX; 3], [0; 3]];
+    for numbers in near.into_iter().chain(far) {
+        for answer in [0, 6, 7, 32_768] {
+            assert_eq!(committed(&braid(3), &word, WIDE, numbers, answer), Err(Refusal::plain(18)), "{numbers:?}");
+        }
+    }
+    assert_eq!(committed(&braid(3), &word, Limits { allowance: 4, ..WIDE }, [0; 3], 7), Err(Refusal::plain(11)));
+    assert_eq!(committed(&braid(3), &word, Limits { workspace: 8, ..WIDE }, [4, 3, 5], 7), Err(Refusal::plain(12)));
+    assert_eq!(committed(&Table::light(2, vec![None]), &[-1, 2], WIDE, [0; 3], 7), Err(Refusal::at(10, Place::Pair(1, 2))));
+    assert_eq!(committed(&braid(3), &[1, 2], Limits { allowance: 0, workspace: 2 }, [2, 0, 0], 2), Ok((vec![1, 2], vec![], 0)));
 }

@@ -3,7 +3,7 @@
 //!     soak [--calls N | --minutes M] [--seed S] [--case SEED]
 //!
 //! Cases are numbered from the seed on. A case that fails is printed with its number and bytes; `--case` runs that one again.
-use second::cases::{run, Listed, Mirrored, Tally, Weighed};
+use second::cases::{run, Enquired, Listed, Mirrored, Tally, Weighed};
 use std::process::ExitCode;
 use std::sync::atomic::{AtomicBool, AtomicU64, AtomicUsize, Ordering};
 use std::sync::Mutex;
@@ -45,6 +45,8 @@ fn met(tally: &Tally) -> Vec<String> {
     };
     want("reverse", &[(0, 0), (1, 0), (2, 0), (3, 0), (4, 0), (5, 0), (6, 0), (10, 1), (11, 0), (12, 0), (13, 0)]);
     want("left reverse", &[(0, 0), (1, 0), (2, 0), (3, 0), (4, 0), (5, 0), (6, 0), (10, 1), (11, 0), (12, 0), (13, 0), (16, 1)]);
+    want("enquire", &[(0, 0), (1, 0), (2, 0), (3, 0), (4, 0), (5, 0), (6, 0), (10, 1), (11, 0), (12, 0)]);
+    want("commit", &[(0, 0), (1, 0), (2, 0), (3, 0), (4, 0), (5, 0), (6, 0), (10, 1), (11, 0), (12, 0), (13, 0), (18, 0)]);
     want("clear", &[(0, 0), (1, 0), (2, 0), (3, 0), (8, 1), (9, 2), (11, 2), (12, 2)]);
     want("mirror clear", &[(0, 0), (1, 0), (2, 0), (3, 0), (8, 1), (11, 3), (12, 3), (16, 1), (17, 3)]);
     let stops = [(1, 0), (2, 0), (3, 0), (4, 0), (5, 0), (6, 0), (7, 0), (8, 1), (9, 2), (11, 0), (11, 2), (12, 0), (12, 2)];
@@ -82,6 +84,12 @@ fn met(tally: &Tally) -> Vec<String> {
     }
     for what in Mirrored::ALL.iter().filter(|what| !tally.mirrored.contains_key(what)) {
         missing.push(format!("tables and mirrors never led to {what:?}"));
+    }
+    if tally.committed.contains(&0) {
+        missing.push("no answer, open pair, stop or 18 of commit was held against reverse".into());
+    }
+    for what in Enquired::ALL.iter().filter(|what| !tally.enquired.contains_key(what)) {
+        missing.push(format!("enquiries and numbers handed in never led to {what:?}"));
     }
     missing
 }
@@ -138,6 +146,9 @@ fn main() -> ExitCode {
     for (what, count) in &tally.mirrored {
         println!("{what:?} {count}");
     }
+    for (what, count) in &tally.enquired {
+        println!("{what:?} {count}");
+    }
     for failure in &failures {
         println!("DIFFERENCE in {failure}");
     }
@@ -152,6 +163,8 @@ fn main() -> ExitCode {
     println!("other orders of steps: {} that finished alike, {} beside an open pair", tally.orders.0, tally.orders.1);
     let [answers, open, stops] = tally.backward;
     println!("left reversings read backward under the mirror: {answers} answers, {open} open pairs, {stops} stops");
+    let [answers, open, stops, others] = tally.committed;
+    println!("commits beside reverse: {answers} answers, {open} open pairs, {stops} stops, {others} with other numbers");
     if failures.is_empty() && missing.is_empty() {
         ExitCode::SUCCESS
     } else {
