@@ -3,10 +3,11 @@ ghost use lib.ListN.{length};
 ghost use mathlib.Core.Path.{_≡_};
 ghost use Rattle.model.specs.Outcome.{mapped, answered};
 ghost use Rattle.model.specs.Images.{readTable};
-ghost use Rattle.model.specs.Plain.{readPlainTable};
+ghost use Rattle.model.specs.Plain.{plainProgram, readPlainTable};
 ghost use Rattle.model.specs.Services.{sizes, reverse, enquire, commit, leftReverse, clear, mirrorClear, compare, chain, remainder, check, packTable, unpackTable, packProgram, unpackProgram, listable, verdictIn, programUnder, plainProgramUnder};
 ghost use Rattle.model.specs.Bed.{bed};
 ghost use Rattle.model.specs.Ways.{ways, waysArea};
+ghost use Rattle.model.specs.Notation.{import};
 ghost use Rattle.model.specs.Areas.{outputAfter, workspaceAfter, fractionBytes, remainderBytes, ChainArea, ReadsBack};
 ghost use Rattle.model.specs.Stated.{counted, counts};
 ghost use Rattle.clearing.specs.Clear.{ClearMeaning};
@@ -20,6 +21,7 @@ ghost use Rattle.remainders.specs.Remainder.{RemainderMeaning};
 ghost use Rattle.checking.specs.Check.{CheckMeaning};
 ghost use Rattle.bed.specs.Meaning.{BedSays};
 ghost use Rattle.ways.specs.Service.{WaysSay};
+ghost use Rattle.importing.specs.Import.{ImportSays};
 ghost use Rattle.braid.specs.Told.{told, sizesTold, passedTold, verdictTold, chainTold, remainderTold, passageTold, bytesTold, countsTold};
 ghost use Rattle.braid.specs.Values.{Tells};
 use crate::numbers::Numbers;
@@ -39,6 +41,7 @@ use committing::commit::Handed;
 use committing::commit::commit;
 use comparing::compare::compare;
 use enquiring::enquire::enquire;
+use importing::import::import;
 use left_reversal::left_reverse::left_reverse;
 use mirror_clearing::mirror_clear::mirror_clear;
 use packing::pack_program;
@@ -316,4 +319,19 @@ pub extern "C" fn braid_ways(
 {
     let listed = ways(table, program, answer);
     tell(of_ways(listed), values)
+}
+
+#[no_mangle]
+pub extern "C" fn braid_import(
+    table: &[u8],
+    text: &[u8],
+    answer: &mut [u8],
+    values: &mut [u64; 4],
+) -> u8
+    ensures told { λ r. ⌜ Tells (told bytesTold (mapped length (import (now (table .entry)) (now (text .entry)) (length (now (answer .entry)))))) r (now (values .exit)) ⌝ }
+    ensures answer { λ r. ⌜ now (answer .exit) ≡ outputAfter plainProgram (import (now (table .entry)) (now (text .entry)) (length (now (answer .entry)))) (now (answer .entry)) ⌝ }
+    ensures meaning { λ r. ⌜ ImportSays (now (text .entry)) (mapped length (import (now (table .entry)) (now (text .entry)) (length (now (answer .entry))))) (now (answer .exit)) ⌝ }
+{
+    let imported = import(table, text, answer);
+    tell(of_packed(imported), values)
 }

@@ -26,3 +26,4 @@ pub mod BedCases
 pub mod MirrorCases
 pub mod WaysCases
 pub mod EnquiryCases
+pub mod NotationCases

@@ -14,5 +14,6 @@ pub mod Services
 pub mod Bed
 pub mod Areas
 pub mod Ways
+pub mod Notation
 pub mod Stated
 pub mod Refusals

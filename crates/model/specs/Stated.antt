@@ -10,7 +10,7 @@ use Rattle.model.specs.declared.answers.Stop.the-variants.{Budget, Room}
 use Rattle.model.specs.declared.answers.Ending.{Ending as EndingAnswer}
 use Rattle.model.specs.declared.answers.Ending.the-variants.{Finished, Undefined, Stopped}
 use Rattle.model.specs.declared.answers.Refusal.{Refusal}
-use Rattle.model.specs.declared.answers.Refusal.the-variants.{TableEnds, TableField, TableTail, ImageEnds, ImageField, ImageTail, BackMove, UnequalWeights, CubeFails, OpenPair, AllowanceUsed, WorkspaceShort, AnswerShort, NotBraidTable, NoMirror, MirrorFails, OtherNumbers}
+use Rattle.model.specs.declared.answers.Refusal.the-variants.{TableEnds, TableField, TableTail, ImageEnds, ImageField, ImageTail, BackMove, UnequalWeights, CubeFails, OpenPair, AllowanceUsed, WorkspaceShort, AnswerShort, NotBraidTable, NoMirror, MirrorFails, OtherNumbers, NotPattern, TooManyMoves}
 use Rattle.model.specs.declared.answers.Reversed.{Reversed}
 use Rattle.model.specs.declared.answers.Reversed.the-variants.{Answer, Refused as ReverseRefused}
 use Rattle.model.specs.declared.answers.Cleared.{Cleared}
@@ -58,6 +58,8 @@ numbered NotBraidTable = (15, unplaced)
 numbered (NoMirror p) = (16, pair-of (p .a) (p .b))
 numbered (MirrorFails t) = (17, mirror-triple-of (t .a) (t .b) (t .c))
 numbered OtherNumbers = (18, unplaced)
+numbered NotPattern = (19, unplaced)
+numbered TooManyMoves = (20, unplaced)
 
 -- 7.1: the outcome, whatever the answer would have been
 abbrev pub refusal : {A : Type 0} → Refusal → Outcome A
@@ -107,7 +109,7 @@ checked (Breaks k) = answered (breaks k)
 checked EndsElsewhere = answered ends-elsewhere
 checked (CheckRefused r) = refusal r
 
--- 6.8, 6.11: packing, unpacking and bed: the number of bytes written
+-- 6.8, 6.11, 6.17: packing, unpacking, bed and import: the number of bytes written
 abbrev pub packedAs : Packed → Outcome ℕ
 packedAs (Written k) = answered k
 packedAs (PackRefused r) = refusal r

@@ -101,5 +101,7 @@ pub fn refusal_numbers(refusal: Refusal) -> RefusalNumbers
         Refusal::NoMirror(pair) => with_pair(16, pair),
         Refusal::MirrorFails(triple) => with_mirror_triple(17, triple),
         Refusal::OtherNumbers => alone(18),
+        Refusal::NotPattern => alone(19),
+        Refusal::TooManyMoves => alone(20),
     }
 }

@@ -23,3 +23,4 @@ pub mod Verdicts
 pub mod Remainders
 pub mod MirrorClearing
 pub mod Ways
+pub mod Notation

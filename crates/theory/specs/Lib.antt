@@ -2,6 +2,7 @@ pub mod Balance
 pub mod Beds
 pub mod Cube
 pub mod Mirrors
+pub mod Notation
 pub mod Orders
 pub mod Passages
 pub mod Remainders

@@ -1,0 +1,26 @@
+-- `importing::reading::joined` meets its contract.
+use mathlib.Core.Path.{_≡_, refl, sym, ap, _∙_}
+use mathlib.Core.Logic.{⊎-elim}
+use mathlib.Core.Bool.{cond}
+use borrow.Author.Tests.{lt-ltb, le-ltb}
+use Rattle.model.specs.Notation.{larger}
+use borrow.Author.Needs.{needs}
+use Rattle.importing.proofs.reading.joined.Statement.{statement}
+use Rattle.importing.proofs.reading.joined.Tie as tie
+
+returns : tie.Need-returns
+returns c =
+    let s = c .before .before .before .before .before in
+    let h = s .args .sum .highest in
+    let i = s .args .item .highest in
+    record {
+      next = refl;
+      moves = c .cap .ensures;
+      highest = ⊎-elim
+          (λ p. p .1 ∙ sym (ap (λ b. cond b i h) (lt-ltb h i (p .0 .taken))))
+          (λ p. p .1 ∙ sym (ap (λ b. cond b i h) (le-ltb h i (p .0 .left))))
+          (c .before .before .before .if1 .came);
+    }
+
+pub joined-spec : {M : Type 1} → statement M
+joined-spec = tie.close (tie.spec (λ c. search needs) (λ c. search needs) (λ c. search needs) (λ c. search needs) returns)
