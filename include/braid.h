@@ -3,8 +3,8 @@
  * bit; section numbers below are its.
  *
  * What a caller must keep (8.2). Each pointer is not null, also where its length is 0 (as an empty vector's may be), and points to memory of that
- * length which may be read, that of areas and values also written; values points to four aligned numbers. No two images, areas or values of one call
- * overlap: first and second are two places, also for equal programs. During the call no other thread writes to the images, or touches areas and values.
+ * length which may be read, that of areas and values also written; values points to four aligned numbers. No two images, texts, areas or values of one call
+ * overlap: first and second are two places, also for equal programs. During the call no other thread writes to images or texts, or touches areas and values.
  * Nothing is promised where this is broken, and no call checks it. A call writes the workspace, the answer area and the four values, each only as
  * said below, and no other memory; it keeps nothing, so calls with different areas and values may run at the same time, also on the same images.
  *
@@ -103,7 +103,9 @@ enum braid_result {
     BRAID_NOT_BRAID_TABLE = 15,
     BRAID_NO_MIRROR = 16,
     BRAID_MIRROR_FAILS = 17,
-    BRAID_OTHER_NUMBERS = 18
+    BRAID_OTHER_NUMBERS = 18,
+    BRAID_NOT_PATTERN = 19,
+    BRAID_TOO_MANY_MOVES = 20
 };
 
 /* What values[0] means follows from call and result. An answer of compare or chain: */
@@ -128,7 +130,7 @@ static inline const char *braid_text(uint8_t result)
         "a field of the table stands for no move, or a number of its plain form is out of range",
         "after the last field of the table comes a bit that is set, or a byte",
         "the bytes of a program or chain end too early, or a plain program has too many moves",
-        "a field of a program or chain, or a byte of a plain program, stands for no move",
+        "a field of a program or chain, a byte of a plain program, or a number in a text, stands for no move",
         "after the last field of a program or chain comes a bit that is set, or a byte",
         "there is a back move in a program where none may be",
         "the two sides of a relation have different weights",
@@ -141,7 +143,9 @@ static inline const char *braid_text(uint8_t result)
         "the table isn't the braid table of its number of moves",
         "the table has no mirror",
         "a triple of the mirror breaks the cube rule",
-        "the numbers handed in aren't those of this reversing"
+        "the numbers handed in aren't those of this reversing",
+        "the text is no pattern",
+        "the pattern means more than 4,095 moves"
     };
     return result < sizeof texts / sizeof *texts && texts[result] ? texts[result] : "no result of this library";
 }
@@ -152,6 +156,7 @@ static inline const char *braid_text(uint8_t result)
  *   table, program, first, second, done,   images (5.4 to 5.6); only read
  *   pattern, chain
  *   plain                                  a plain table or program (5.7, 5.8); only read
+ *   text                                   a pattern as it is written (6.17); only read
  *   allowance                              the most steps of one reversing
  *   workspace                              a byte holds a move; what it holds on entry plays no part. After refusals 1 to 8 and 16 it is as found,
  *                                          after every other outcome all its bytes are zero
@@ -287,6 +292,16 @@ BRAID_CALL uint8_t braid_bed(const uint8_t *table, size_t table_length, const ui
  */
 BRAID_CALL uint8_t braid_ways(const uint8_t *table, size_t table_length, const uint8_t *program, size_t program_length, uint8_t *answer,
                               size_t answer_length, uint64_t *values);
+
+/*
+ * The moves that a pattern means, from its text (6.17): items with one space between; an item is a move number of 1 to 99 or a bracket that holds a pattern, with at
+ * most one minus before it and at most one ^ and a count of 0 to 99 after it; the count acts first, then the minus undoes the whole. Brackets nest at most 8 deep. Exactly
+ * these texts are read, each in one way; the empty text is one. Answer area: the moves as a plain program, a byte each, 128 more for a back move; BRAID_MOST_MOVES bytes
+ * always suffice. 5 is a move number above n, also under a count of 0. There is neither allowance nor workspace.
+ * Values: moves written, 0, 0, 0. Refusals: 1 to 3, 19, 5, 20, 13, in this order.
+ */
+BRAID_CALL uint8_t braid_import(const uint8_t *table, size_t table_length, const uint8_t *text, size_t text_length, uint8_t *answer,
+                                size_t answer_length, uint64_t *values);
 
 #ifdef __cplusplus
 }
