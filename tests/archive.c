@@ -1,19 +1,23 @@
 /*
  * What the header says of sizes and of stack, held against the library: each call runs on a stack of its own that is painted before, and the
- * longest forms are packed. The last line is 'N passed, M failed'.
+ * longest forms are packed. Then texts of some megabytes are imported, whose time must be in proportion to their bytes. The last line is
+ * 'N passed, M failed'.
  */
 #define _XOPEN_SOURCE 700
 #include "braid.h"
 
 #include <stdio.h>
 #include <string.h>
+#include <time.h>
 #include <ucontext.h>
+#include <unistd.h>
 
-enum { PAINT = 0xA5, STACK = 65536, AREA = 200000 };
+enum { PAINT = 0xA5, STACK = 65536, AREA = 200000, TEXT = 4194304, SLOWER = 20, MOST_SECONDS = 300 };
 
 static uint8_t stack[STACK], workspace[AREA], answer[AREA], plain[AREA], table[AREA], program[AREA], chain[AREA];
+static uint8_t text[TEXT];
 static uint64_t values[BRAID_VALUES], sizes[BRAID_VALUES];
-static size_t table_length, program_length, chain_length, plain_length, answer_length;
+static size_t table_length, program_length, chain_length, plain_length, answer_length, text_length;
 static uint8_t result;
 static int passed, failed;
 static ucontext_t here, there;
@@ -98,6 +102,8 @@ static void check(void)
 static void show(void) { result = braid_bed(table, table_length, program, program_length, UINT64_MAX, answer, answer_length, values); }
 
 static void ways(void) { result = braid_ways(table, table_length, program, program_length, answer, answer_length, values); }
+
+static void import(void) { result = braid_import(table, table_length, text, text_length, answer, answer_length, values); }
 
 /* The call answers, and its stack suffices. */
 static void answers(const char *name, void (*call)(void))
@@ -187,7 +193,7 @@ static void engine(void)
     hold("the moves of a table", braid_table_moves(table) == 3);
     hold("a move field's bits", braid_move_bits(1) == 0 && braid_move_bits(2) == 1 && braid_move_bits(9) == 4 && braid_move_bits(16) == 4);
     hold("the largest allowance", (uint16_t)BRAID_MOST_ALLOWANCE == BRAID_MOST_ALLOWANCE && (uint16_t)(BRAID_MOST_ALLOWANCE + 1) == 0);
-    hold("the last text", strcmp(braid_text(BRAID_OTHER_NUMBERS), "the numbers handed in aren't those of this reversing") == 0);
+    hold("the last text", strcmp(braid_text(BRAID_TOO_MANY_MOVES), "the pattern means more than 4,095 moves") == 0);
     hold("texts", strcmp(braid_text(BRAID_OPEN_PAIR), "the reversing met an open pair") == 0 && strcmp(braid_text(14), braid_text(200)) == 0);
 }
 
@@ -254,12 +260,109 @@ static void long_listing(void)
     hold("an area one byte too short for a listing", result == BRAID_ANSWER_SHORT && answer[0] == 0);
 }
 
+/* A text of one item again and again, with a space between, as often as it fits between a beginning and an end. */
+static void fill_text(const char *beginning, const char *item, const char *end)
+{
+    size_t first = strlen(beginning), length = strlen(item), last = strlen(end);
+    memcpy(text, beginning, first);
+    for (text_length = first; text_length + length + 1 + last <= TEXT; text_length += length + 1) {
+        memcpy(text + text_length, item, length);
+        text[text_length + length] = ' ';
+    }
+    memcpy(text + text_length, end, last);
+    text_length += last;
+}
+
+/* A text is answered with so many moves, each this byte, and its stack suffices. */
+static void means(const char *name, size_t moves, uint8_t byte)
+{
+    size_t i = 0;
+    memset(answer, PAINT, BRAID_MOST_MOVES + 1);
+    answer_length = BRAID_MOST_MOVES;
+    answers(name, import);
+    while (i < moves && answer[i] == byte) {
+        i++;
+    }
+    hold(name, values[0] == moves && i == moves && answer[moves] == PAINT);
+}
+
+static void refused(const char *name, enum braid_result expected)
+{
+    size_t used = depth(import);
+    hold(name, result == expected && values[0] == BRAID_NO_PLACE && used <= BRAID_STACK);
+}
+
+/* The least of three times of importing the text, in nanoseconds a byte. */
+static double time_a_byte(void)
+{
+    double least = 0;
+    int i;
+    for (i = 0; i < 3; i++) {
+        clock_t began = clock();
+        double taken;
+        import();
+        taken = (double)(clock() - began) / CLOCKS_PER_SEC * 1e9 / (double)text_length;
+        least = i == 0 || taken < least ? taken : least;
+    }
+    return least;
+}
+
+/* No text takes much longer a byte than a flat one does. */
+static void in_proportion(const char *name, double flat, const char *beginning, const char *item, const char *end, size_t moves, uint8_t byte)
+{
+    double taken;
+    fill_text(beginning, item, end);
+    means(name, moves, byte);
+    taken = time_a_byte();
+    printf("%s: %.2f times as long a byte as a flat text\n", name, taken / flat);
+    hold(name, taken <= SLOWER * flat);
+}
+
+static void long_texts(void)
+{
+    static const char deepest[] = "-(-(-(-(-(-(-(-(1^2)^2)^2)^2)^2)^2)^2)^2)^2";
+    static const char zero_tower[] = "((((((((1^99)^99)^99)^99)^99)^99)^99)^99)^0", empty_tower[] = "(((((((()^9)^9)^9)^9)^9)^9)^9)^9";
+    static const char once_tower[] = "-(-(-(-(-(-(-(-(1^0)^1)^1)^1)^1)^1)^1)^1)^1";
+    double flat;
+    fill_braid_table(3);
+    pack_table();
+    table_length = (size_t)values[0];
+    memcpy(text, deepest, text_length = sizeof deepest - 1);
+    means("import the deepest text", 512, 1);
+    fill_text("(((((((((", "1^0", "1)))))))))");
+    refused("a long text inside nine brackets", BRAID_NOT_PATTERN);
+    fill_text("", "1^0", "1^0");
+    means("import a long text", 0, 0);
+    flat = time_a_byte();
+    printf("a flat text: %.2f nanoseconds a byte\n", flat);
+    fill_text("", "1^0", "(1^99)^41 -1^0 1^36");
+    means("a long text with its moves at the end", BRAID_MOST_MOVES, 1);
+    fill_text("", "1^0", "4^0");
+    refused("a long text with a number too high at the end", BRAID_IMAGE_FIELD);
+    fill_text("", "1^0", "1^0 ");
+    refused("a long text with a space at the end", BRAID_NOT_PATTERN);
+    fill_text("", "1^99", "1");
+    refused("a long text of too many moves", BRAID_TOO_MANY_MOVES);
+    in_proportion("brackets and minuses", flat, "", "(1)^0 -2^0", "(1)^0", 0, 0);
+    in_proportion("brackets that a 0 empties", flat, "", "((1^99)^41)^0", "()", 0, 0);
+    in_proportion("towers that a 0 empties", flat, "", zero_tower, "()", 0, 0);
+    in_proportion("towers of empty brackets", flat, "", empty_tower, "()", 0, 0);
+    in_proportion("brackets eight deep, each once", flat, "", once_tower, "()", 0, 0);
+    in_proportion("a long text inside eight brackets", flat, "-(-(-(-(-(-(-(-(", "1^0", "1)^2)^2)^2)^2)^2)^2)^2)^2", 256, 1);
+    in_proportion("a long text many times", flat, "(-(", "1^0", "1)^63)^65", BRAID_MOST_MOVES, 1 + BRAID_BACK);
+    in_proportion("a long text that means nothing, many times", flat, "((((((((", "1^0", "1^0)^99)^99)^99)^99)^99)^99)^99)^99", 0, 0);
+}
+
 int main(void)
 {
+    /* A call that goes on for ever is ended, and what was found before is told. */
+    alarm(MOST_SECONDS);
+    setvbuf(stdout, NULL, _IOLBF, 0);
     longest_forms();
     engine();
     longest_bed();
     long_listing();
+    long_texts();
     printf("%d passed, %d failed\n", passed, failed);
     return failed != 0;
 }

@@ -1,6 +1,6 @@
 #!/bin/sh
-# The C interface: what the archive wants of a linker, the example of README and a program that joins two programs, the header's sizes and stack, then
-# the sheet of cases as C and as C++, all compiled with the strictest warnings as errors. The last line is 'N passed, M failed' over all of it.
+# The C interface: what the archive wants of a linker, the example of README and a program that joins two programs, the header's sizes and stack, long texts,
+# then the sheet of cases as C and as C++, all compiled with the strictest warnings as errors. The last line is 'N passed, M failed' over all of it.
 cd "$(dirname "$0")/.." || exit 1
 sh tests/library.sh || exit 1
 strict="-Wall -Wextra -Werror -pedantic -Iinclude"
@@ -51,7 +51,7 @@ grep -o 'uint8_t braid_[a-z_]*(' include/braid.h | sed 's/uint8_t //; s/(//' | g
 cmp target/defined target/declared
 one "the calls that the header declares" $?
 gcc -std=c11 $strict -Wl,-z,now tests/archive.c $library -o target/archive || exit 1
-sheet "sizes and stack" target/archive
+sheet "sizes, stack and long texts" target/archive
 gcc -std=c11 $strict tests/sheet.c $library -o target/sheet_c || exit 1
 g++ -std=c++17 $strict -x c++ tests/sheet.c -x none $library -o target/sheet_cpp || exit 1
 sheet "the sheet as C" target/sheet_c

@@ -536,6 +536,60 @@ static void enquiring(void)
          2, ALL_OF(fraction_12));
 }
 
+/* Imports a text under the braid table into an area of so many bytes. */
+static uint8_t imported(const char *text, size_t length)
+{
+    return braid_import(ALL_OF(braid3), (const uint8_t *)text, strlen(text), answer, length, values);
+}
+
+/* Texts that all give the same refusal, or none of which means a move. */
+static void hold_each(const char *const *texts, size_t count, enum braid_result expected_result)
+{
+    char label[80];
+    size_t i;
+    for (i = 0; i < count; i++) {
+        snprintf(label, sizeof label, "the text '%s'", texts[i]);
+        hold(label, imported(texts[i], AREA), expected_result, "0 0 0 0", 0, nothing, 0);
+    }
+}
+
+static void importing(void)
+{
+    static const char *const no_moves[] = {"", "()", "(1 2)^0", "()^99 -()"};
+    static const char *const no_patterns[] = {" 1", "1 ", "1  2", "01", "0", "1^", "--1", "^2", "( 1)", "1)", "100", "1^100", "4^0 x", "(((((((((1)))))))))"};
+    static const char *const no_such_moves[] = {"4", "4^0", "(1 99)^0", "(1^99)^41 1^37 4"};
+    static const char *const too_many[] = {"(1^99)^41 1^37", "((((((((1^99)^99)^99)^99)^99)^99)^99)^99)^99"};
+    static const uint8_t twice_undone[] = {130, 129, 130, 129}, two_back[] = {129, 129, 3}, undone[] = {131, 2, 2, 2, 129}, one[] = {1};
+    static const uint8_t bits_set[] = {0x20, 0x04, 0x90, 0x86, 0x30, 0x92, 0x92, 0x61}, no_move[] = {0x20, 0x04, 0xB0};
+    uint8_t ones[BRAID_MOST_MOVES];
+    memset(ones, 1, sizeof ones);
+    hold("-(1 2)^2 in 4 bytes", imported("-(1 2)^2", 4), BRAID_ANSWER, "4 0 0 0", 0, ALL_OF(twice_undone));
+    hold("in more", imported("-(1 2)^2", AREA), BRAID_ANSWER, "4 0 0 0", 0, ALL_OF(twice_undone));
+    hold("3 bytes give 13 to a text", imported("-(1 2)^2", 3), BRAID_ANSWER_SHORT, "0 0 0 0", 0, nothing, 0);
+    hold("the empty text needs no byte", imported("", 0), BRAID_ANSWER, "0 0 0 0", 0, nothing, 0);
+    hold_each(no_moves, sizeof no_moves / sizeof *no_moves, BRAID_ANSWER);
+    hold("-1^2 3", imported("-1^2 3", AREA), BRAID_ANSWER, "3 0 0 0", 0, ALL_OF(two_back));
+    hold("(-1)^2", imported("(-1)^2", AREA), BRAID_ANSWER, "2 0 0 0", 0, two_back, 2);
+    hold("-(1 -2^3 (3))", imported("-(1 -2^3 (3))", AREA), BRAID_ANSWER, "5 0 0 0", 0, ALL_OF(undone));
+    hold_each(no_patterns, sizeof no_patterns / sizeof *no_patterns, BRAID_NOT_PATTERN);
+    hold("eight brackets", imported("((((((((1))))))))", 1), BRAID_ANSWER, "1 0 0 0", 0, ALL_OF(one));
+    hold_each(no_such_moves, sizeof no_such_moves / sizeof *no_such_moves, BRAID_IMAGE_FIELD);
+    hold("4,095 moves", imported("(1^99)^41 1^36", BRAID_MOST_MOVES), BRAID_ANSWER, "4095 0 0 0", 0, ALL_OF(ones));
+    hold("a byte less gives 13", imported("(1^99)^41 1^36", BRAID_MOST_MOVES - 1), BRAID_ANSWER_SHORT, "0 0 0 0", 0, nothing, 0);
+    hold_each(too_many, sizeof too_many / sizeof *too_many, BRAID_TOO_MANY_MOVES);
+    hold("a move too many gives 20 before 13", imported("(1^99)^41 1^37", 0), BRAID_TOO_MANY_MOVES, "0 0 0 0", 0, nothing, 0);
+    hold("99 to the ninth moves under a 0", imported("((((((((1^99)^99)^99)^99)^99)^99)^99)^99)^0", 0), BRAID_ANSWER, "0 0 0 0", 0, nothing, 0);
+    hold("no move above 3 gives 5 before 13", imported("1 4", 0), BRAID_IMAGE_FIELD, "0 0 0 0", 0, nothing, 0);
+    hold("a cut table gives 1 before 19", braid_import(braid3, sizeof braid3 - 1, (const uint8_t *)"x", 1, ALL_OF(answer), values), BRAID_TABLE_ENDS,
+         "0 0 0 0", 0, nothing, 0);
+    hold("a field that is no move gives 2", braid_import(ALL_OF(no_move), (const uint8_t *)"x", 1, ALL_OF(answer), values), BRAID_TABLE_FIELD, "0 0 0 0",
+         0, nothing, 0);
+    hold("a set bit behind a table gives 3", braid_import(ALL_OF(bits_set), (const uint8_t *)"x", 1, ALL_OF(answer), values), BRAID_TABLE_TAIL, "0 0 0 0",
+         0, nothing, 0);
+    hold("a byte of zero in a text", braid_import(ALL_OF(braid3), (const uint8_t *)"1\0", 2, ALL_OF(answer), values), BRAID_NOT_PATTERN, "0 0 0 0", 0,
+         nothing, 0);
+}
+
 int main(void)
 {
     as_found();
@@ -552,6 +606,7 @@ int main(void)
     mirror_clearing();
     ways();
     enquiring();
+    importing();
     printf("%d passed, %d failed\n", passed, failed);
     return failed != 0;
 }

@@ -2,6 +2,7 @@
 //! class.
 mod bed;
 mod enquiry;
+mod import;
 mod mirror;
 mod ways;
 
@@ -18,6 +19,7 @@ use crate::table::Table;
 use crate::tables::{any, clearing, forward_word, growing, signed_word, twins, walk, word_of_weight};
 use crate::word::{bytes, undoing, Word};
 pub use enquiry::Enquired;
+pub use import::Imported;
 pub use mirror::Mirrored;
 use std::collections::BTreeMap;
 
@@ -115,6 +117,9 @@ pub struct Tally {
     /// Commits held against reverse in areas of the same content: answers, open pairs, stops and 18.
     pub committed: [usize; 4],
     pub enquired: BTreeMap<Enquired, usize>,
+    /// Answers of import held against those of their moves one by one, and of their text under a minus.
+    pub imports: [usize; 2],
+    pub imported: BTreeMap<Imported, usize>,
 }
 
 impl Tally {
@@ -132,6 +137,9 @@ impl Tally {
         for (total, more) in self.committed.iter_mut().zip(other.committed) {
             *total += more;
         }
+        for (total, more) in self.imports.iter_mut().zip(other.imports) {
+            *total += more;
+        }
         for (key, count) in &other.results {
             *self.results.entry(*key).or_default() += count;
         }
@@ -146,6 +154,9 @@ impl Tally {
         }
         for (key, count) in &other.enquired {
             *self.enquired.entry(*key).or_default() += count;
+        }
+        for (key, count) in &other.imported {
+            *self.imported.entry(*key).or_default() += count;
         }
     }
 
@@ -180,6 +191,7 @@ fn name(call: &Call) -> &'static str {
         Call::UnpackProgram { .. } => "unpack program",
         Call::Bed { .. } => "bed",
         Call::Ways { .. } => "ways",
+        Call::Import { .. } => "import",
     }
 }
 
@@ -203,7 +215,7 @@ type Held<T> = Result<T, String>;
 /// Runs the case of a seed; the error has all that is needed to see it again.
 pub fn run(seed: u64, tally: &mut Tally) -> Held<()> {
     let mut case = Case { random: Random::new(seed), tally };
-    let held = match case.random.below(100) {
+    let held = match case.random.below(110) {
         0..=15 => case.reversing(),
         16..=23 => case.clearing(),
         24..=36 => case.comparing(),
@@ -214,6 +226,7 @@ pub fn run(seed: u64, tally: &mut Tally) -> Held<()> {
         72..=87 => case.mirror(),
         88..=93 => case.ways(),
         94..=99 => case.enquiry(),
+        100..=109 => case.import(),
         _ => match case.random.below(16) {
             0..=1 => case.many_steps(),
             2..=3 => case.given_growth(),

@@ -158,6 +158,15 @@ extern "C" {
         answer_length: usize,
         values: *mut u64,
     ) -> u8;
+    fn braid_import(
+        table: *const u8,
+        table_length: usize,
+        text: *const u8,
+        text_length: usize,
+        answer: *mut u8,
+        answer_length: usize,
+        values: *mut u64,
+    ) -> u8;
 }
 
 /// What a call gives: the result and the four values.
@@ -352,4 +361,10 @@ pub fn bed(table: &[u8], program: &[u8], moves: u64, answer: &mut [u8]) -> Told 
 
 pub fn ways(table: &[u8], program: &[u8], answer: &mut [u8]) -> Told {
     told(|values| unsafe { braid_ways(table.as_ptr(), table.len(), program.as_ptr(), program.len(), answer.as_mut_ptr(), answer.len(), values) })
+}
+
+pub fn import(table: &[u8], text: &[u8], answer: &mut [u8]) -> Told {
+    told(|values| unsafe {
+        braid_import(table.as_ptr(), table.len(), text.as_ptr(), text.len(), answer.as_mut_ptr(), answer.len(), values)
+    })
 }

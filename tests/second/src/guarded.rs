@@ -20,6 +20,7 @@ pub enum Call {
     UnpackProgram { table: Vec<u8>, program: Vec<u8> },
     Bed { table: Vec<u8>, program: Vec<u8>, moves: u64 },
     Ways { table: Vec<u8>, program: Vec<u8> },
+    Import { table: Vec<u8>, text: Vec<u8> },
 }
 
 /// What a call left behind.
@@ -81,6 +82,7 @@ impl Call {
             Call::Check { table, first, second, entries } => vec![table, first, second, entries],
             Call::PackTable { plain } => vec![plain],
             Call::PackProgram { table, plain } => vec![table, plain],
+            Call::Import { table, text } => vec![table, text],
         }
     }
 }
@@ -108,6 +110,7 @@ pub fn call(call: &Call, workspace: &[u8], answer: &[u8]) -> Result<Left, String
         Call::UnpackProgram { .. } => firmware::unpack_program(image(0), image(1), o),
         Call::Bed { moves, .. } => firmware::bed(image(0), image(1), *moves, o),
         Call::Ways { .. } => firmware::ways(image(0), image(1), o),
+        Call::Import { .. } => firmware::import(image(0), image(1), o),
     };
     if !images.iter().all(Guarded::unchanged) {
         return Err("an image, or bytes around it, changed".into());

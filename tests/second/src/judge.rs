@@ -99,6 +99,7 @@ pub fn expected(call: &Call, workspace: usize, answer: usize, most: &mut Most) -
         Call::Ways { table, program } => {
             services::ways(table, program, answer).map(|(words, listing)| Expected::answer([words as u64, listing.len() as u64, 0, 0], listing))
         }
+        Call::Import { table, text } => services::import(table, text, answer).map(|moves| packed(bytes(&moves))),
     };
     let must = outcome.unwrap_or_else(Expected::refused);
     match call {
@@ -109,7 +110,8 @@ pub fn expected(call: &Call, workspace: usize, answer: usize, most: &mut Most) -
 
 fn has_workspace(call: &Call) -> bool {
     use Call::*;
-    !matches!(call, PackTable { .. } | UnpackTable { .. } | PackProgram { .. } | UnpackProgram { .. } | Bed { .. })
+    let packing = matches!(call, PackTable { .. } | UnpackTable { .. } | PackProgram { .. } | UnpackProgram { .. });
+    !packing && !matches!(call, Bed { .. } | Ways { .. } | Import { .. })
 }
 
 /// The first `bytes` bytes of an answer area, where they are the image of a chain of exactly `entries` entries that joins the programs.

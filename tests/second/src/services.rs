@@ -3,6 +3,7 @@ use crate::bed::Bed;
 use crate::chain::{follow, side, swapped};
 use crate::image::*;
 use crate::mirror::{left_reverse as run_left, mirror, offending};
+use crate::notation::{highest, meaning, read, size};
 use crate::outcome::{Listing, Passage, Place, Refusal, Remainder, Verdict};
 use crate::plain::{plain_table, read_plain_program, read_plain_table};
 use crate::reversing::{reverse as run, Ending, Limits, Most};
@@ -320,4 +321,21 @@ pub fn ways(table: &[u8], program: &[u8], answer: usize) -> Result<(usize, Vec<u
         return Err(Refusal::plain(13));
     }
     Ok((listed.len(), listed.iter().flat_map(|word| [bytes(word), vec![0]].concat()).collect()))
+}
+
+/// The moves that a pattern means, from its text. Whether they fit is known from their number, so that none are laid out where they do not.
+pub fn import(table: &[u8], text: &[u8], answer: usize) -> Result<Word, Refusal> {
+    let table = read_table(table)?;
+    let pattern = read(text).ok_or(Refusal::plain(19))?;
+    let moves = size(&pattern);
+    if highest(&pattern) > table.moves {
+        return Err(Refusal::plain(5));
+    }
+    if moves > 4095 {
+        return Err(Refusal::plain(20));
+    }
+    if moves > answer as u128 {
+        return Err(Refusal::plain(13));
+    }
+    Ok(meaning(&pattern))
 }

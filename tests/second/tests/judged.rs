@@ -63,6 +63,15 @@ fn calls() -> Vec<(Call, bool)> {
         (Call::PackProgram { table: t.clone(), plain: vec![131, 1, 130, 1, 2] }, true),
         (Call::Bed { table: t.clone(), program: program.clone(), moves: 5 }, true),
         (Call::Bed { table: vec![0x10, 0x00], program: program.clone(), moves: 5 }, true),
+        (Call::Ways { table: t.clone(), program: program_image(3, &[1, 2, 1]) }, true),
+        (Call::Ways { table: t.clone(), program: program.clone() }, true),
+        (Call::Import { table: t.clone(), text: b"-(1 2)^2".to_vec() }, true),
+        (Call::Import { table: t.clone(), text: b"(1 2)^0".to_vec() }, true),
+        (Call::Import { table: t.clone(), text: b"(1 2)^33".to_vec() }, true),
+        (Call::Import { table: t.clone(), text: b"(1 2)^99 (1^99)^99".to_vec() }, true),
+        (Call::Import { table: t.clone(), text: b"4^0".to_vec() }, true),
+        (Call::Import { table: t.clone(), text: b"1 ".to_vec() }, true),
+        (Call::Import { table: vec![], text: b"1".to_vec() }, true),
         (Call::UnpackProgram { table: t, program }, true),
     ]
 }

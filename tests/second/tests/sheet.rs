@@ -6,7 +6,7 @@ use second::outcome::{Listing, Passage, Place, Refusal, Remainder, Verdict};
 use second::plain::{plain_table, read_plain_table};
 use second::random::Random;
 use second::reversing::{Ending, Limits, Most};
-use second::services::{bed, chain, check, clear, commit, compare, enquire, left_reverse, mirror_clear, remainder, reverse, ways};
+use second::services::{bed, chain, check, clear, commit, compare, enquire, import, left_reverse, mirror_clear, remainder, reverse, ways};
 use second::table::Table;
 use second::tables::mirror::clears_alone;
 use second::tables::{braid, doubled, growing, twins};
@@ -392,4 +392,29 @@ fn commits() {
     assert_eq!(committed(&braid(3), &word, Limits { workspace: 8, ..WIDE }, [4, 3, 5], 7), Err(Refusal::plain(12)));
     assert_eq!(committed(&Table::light(2, vec![None]), &[-1, 2], WIDE, [0; 3], 7), Err(Refusal::at(10, Place::Pair(1, 2))));
     assert_eq!(committed(&braid(3), &[1, 2], Limits { allowance: 0, workspace: 2 }, [2, 0, 0], 2), Ok((vec![1, 2], vec![], 0)));
+}
+
+#[test]
+fn imports() {
+    let of = |text: &str, area: usize| import(&table_image(&braid(3)), text.as_bytes(), area);
+    let refused = |number| Err(Refusal::plain(number));
+    assert_eq!([4, 3].map(|area| of("-(1 2)^2", area)), [Ok(vec![-2, -1, -2, -1]), refused(13)]);
+    for text in ["", "()", "(1 2)^0", "()^99 -()"] {
+        assert_eq!(of(text, 0), Ok(vec![]), "{text:?}");
+    }
+    assert_eq!(of("-1^2 3", 3), Ok(vec![-1, -1, 3]));
+    assert_eq!(of("(-1)^2", 2), Ok(vec![-1, -1]));
+    assert_eq!(of("-(1 -2^3 (3))", 5), Ok(vec![-3, 2, 2, 2, -1]));
+    for text in [" 1", "1 ", "1  2", "01", "0", "1^", "--1", "^2", "( 1)", "1)", "100", "1^100", "(((((((((1)))))))))", "4^0 x"] {
+        assert_eq!(of(text, 9), refused(19), "{text:?}");
+    }
+    assert_eq!(of("((((((((1))))))))", 1), Ok(vec![1]));
+    for text in ["4", "4^0", "(1 99)^0", "(1^99)^41 1^37 4"] {
+        assert_eq!(of(text, 9), refused(5), "{text:?}");
+    }
+    assert_eq!(of("(1^99)^41 1^36", 4_095), Ok(vec![1; 4_095]));
+    assert_eq!(of("(1^99)^41 1^37", 9), refused(20));
+    assert_eq!(of("((((((((1^99)^99)^99)^99)^99)^99)^99)^99)^99", 9), refused(20));
+    assert_eq!(of("((((((((1^99)^99)^99)^99)^99)^99)^99)^99)^0", 0), Ok(vec![]));
+    assert_eq!(import(&[], b"x", 9), refused(1));
 }

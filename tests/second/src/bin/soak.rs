@@ -3,7 +3,7 @@
 //!     soak [--calls N | --minutes M] [--seed S] [--case SEED]
 //!
 //! Cases are numbered from the seed on. A case that fails is printed with its number and bytes; `--case` runs that one again.
-use second::cases::{run, Enquired, Listed, Mirrored, Tally, Weighed};
+use second::cases::{run, Enquired, Imported, Listed, Mirrored, Tally, Weighed};
 use std::process::ExitCode;
 use std::sync::atomic::{AtomicBool, AtomicU64, AtomicUsize, Ordering};
 use std::sync::Mutex;
@@ -64,6 +64,7 @@ fn met(tally: &Tally) -> Vec<String> {
     want("unpack program", &[(0, 0), (1, 0), (2, 0), (3, 0), (4, 0), (5, 0), (6, 0), (13, 0)]);
     want("bed", &[(0, 0), (1, 0), (2, 0), (3, 0), (4, 0), (5, 0), (6, 0), (13, 0), (15, 0)]);
     want("ways", &[(0, 0), (1, 0), (2, 0), (3, 0), (4, 0), (5, 0), (6, 0), (7, 0), (8, 1), (13, 0)]);
+    want("import", &[(0, 0), (1, 0), (2, 0), (3, 0), (5, 0), (13, 0), (19, 0), (20, 0)]);
     if tally.listings.contains(&0) {
         missing.push("no listing was held against that of a joined word, or none had words of different lengths".into());
     }
@@ -90,6 +91,12 @@ fn met(tally: &Tally) -> Vec<String> {
     }
     for what in Enquired::ALL.iter().filter(|what| !tally.enquired.contains_key(what)) {
         missing.push(format!("enquiries and numbers handed in never led to {what:?}"));
+    }
+    if tally.imports.contains(&0) {
+        missing.push("no import was held against that of its moves one by one, or of its text under a minus".into());
+    }
+    for what in Imported::ALL.iter().filter(|what| !tally.imported.contains_key(what)) {
+        missing.push(format!("texts never led to {what:?}"));
     }
     missing
 }
@@ -149,6 +156,9 @@ fn main() -> ExitCode {
     for (what, count) in &tally.enquired {
         println!("{what:?} {count}");
     }
+    for (what, count) in &tally.imported {
+        println!("{what:?} {count}");
+    }
     for failure in &failures {
         println!("DIFFERENCE in {failure}");
     }
@@ -165,6 +175,7 @@ fn main() -> ExitCode {
     println!("left reversings read backward under the mirror: {answers} answers, {open} open pairs, {stops} stops");
     let [answers, open, stops, others] = tally.committed;
     println!("commits beside reverse: {answers} answers, {open} open pairs, {stops} stops, {others} with other numbers");
+    println!("imports: {} beside their moves one by one, {} beside their undoing", tally.imports[0], tally.imports[1]);
     if failures.is_empty() && missing.is_empty() {
         ExitCode::SUCCESS
     } else {
