@@ -4,6 +4,7 @@ use Rattle.model.specs.Outcome.{Outcome, answered, refused}
 use Rattle.model.specs.Stated.{Counts}
 use Rattle.model.specs.Refusals.{numbersTold}
 use Rattle.model.specs.Services.{Sizes, Verdict, same-after, different-after, ChainAnswer, listed-after, unlisted-after, Remainder, moves-after, none-after, Passage, joins, breaks, ends-elsewhere}
+use Rattle.model.specs.Signed.{SignedVerdict, same-after-both, different-after-both}
 use Rattle.model.specs.declared.refusals.RefusalNumbers.{RefusalNumbers}
 use Rattle.braid.specs.declared.numbers.Numbers.{Numbers}
 
@@ -31,7 +32,12 @@ abbrev pub verdictTold : Verdict → Numbers
 verdictTold (same-after k r) = numbers 0 0 k 0 0
 verdictTold (different-after k) = numbers 0 1 k 0 0
 
--- chain: the same, and after same how many entries are listed, and in how many bytes
+-- compare_signed: the same, with the steps of each of the two reversings
+abbrev pub signedTold : SignedVerdict → Numbers
+signedTold (same-after-both k j) = numbers 0 0 k j 0
+signedTold (different-after-both k j) = numbers 0 1 k j 0
+
+-- chain: as compare, and after same how many entries are listed, and in how many bytes
 abbrev pub chainTold : ChainAnswer → Numbers
 chainTold (listed-after k entries bytes) = numbers 0 0 k entries bytes
 chainTold (unlisted-after k) = numbers 0 1 k 0 0
@@ -47,7 +53,7 @@ passageTold joins = numbers 0 0 0 0 0
 passageTold (breaks k) = numbers 0 1 k 0 0
 passageTold ends-elsewhere = numbers 0 2 0 0 0
 
--- packing, unpacking and bed: the bytes written
+-- packing, unpacking, bed and import: the bytes written
 abbrev pub bytesTold : ℕ → Numbers
 bytesTold k = numbers 0 k 0 0 0
 

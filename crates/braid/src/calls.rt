@@ -8,6 +8,7 @@ ghost use Rattle.model.specs.Services.{sizes, reverse, enquire, commit, leftRev
 ghost use Rattle.model.specs.Bed.{bed};
 ghost use Rattle.model.specs.Ways.{ways, waysArea};
 ghost use Rattle.model.specs.Notation.{import};
+ghost use Rattle.model.specs.Signed.{compareSigned};
 ghost use Rattle.model.specs.Areas.{outputAfter, workspaceAfter, fractionBytes, remainderBytes, ChainArea, ReadsBack};
 ghost use Rattle.model.specs.Stated.{counted, counts};
 ghost use Rattle.clearing.specs.Clear.{ClearMeaning};
@@ -22,13 +23,15 @@ ghost use Rattle.checking.specs.Check.{CheckMeaning};
 ghost use Rattle.bed.specs.Meaning.{BedSays};
 ghost use Rattle.ways.specs.Service.{WaysSay};
 ghost use Rattle.importing.specs.Import.{ImportSays};
-ghost use Rattle.braid.specs.Told.{told, sizesTold, passedTold, verdictTold, chainTold, remainderTold, passageTold, bytesTold, countsTold};
+ghost use Rattle.signed_comparing.specs.Service.{SignedSays};
+ghost use Rattle.braid.specs.Told.{told, sizesTold, passedTold, verdictTold, signedTold, chainTold, remainderTold, passageTold, bytesTold, countsTold};
 ghost use Rattle.braid.specs.Values.{Tells};
 use crate::numbers::Numbers;
 use crate::numbers::of_chained;
 use crate::numbers::of_checked;
 use crate::numbers::of_cleared;
 use crate::numbers::of_compared;
+use crate::numbers::of_compared_signed;
 use crate::numbers::of_packed;
 use crate::numbers::of_remaining;
 use crate::numbers::of_reversed;
@@ -50,6 +53,7 @@ use packing::unpack_program;
 use packing::unpack_table;
 use remainders::remainder::remainder;
 use reversal::reverse::reverse;
+use signed_comparing::compare_signed::compare_signed;
 use ways::ways::ways;
 
 // Sets all four values and gives the result.
@@ -182,6 +186,23 @@ pub extern "C" fn braid_compare(
 {
     let compared = compare(table, first, second, allowance, workspace);
     tell(of_compared(compared), values)
+}
+
+#[no_mangle]
+pub extern "C" fn braid_compare_signed(
+    table: &[u8],
+    first: &[u8],
+    second: &[u8],
+    allowance: u16,
+    workspace: &mut [u8],
+    values: &mut [u64; 4],
+) -> u8
+    ensures told { λ r. ⌜ Tells (told signedTold (compareSigned (now (table .entry)) (now (first .entry)) (now (second .entry)) allowance (length (now (workspace .entry))))) r (now (values .exit)) ⌝ }
+    ensures workspace { λ r. ⌜ now (workspace .exit) ≡ workspaceAfter (compareSigned (now (table .entry)) (now (first .entry)) (now (second .entry)) allowance (length (now (workspace .entry)))) (now (workspace .entry)) ⌝ }
+    ensures meaning { λ r. ⌜ SignedSays (now (table .entry)) (now (first .entry)) (now (second .entry)) allowance (length (now (workspace .entry))) (compareSigned (now (table .entry)) (now (first .entry)) (now (second .entry)) allowance (length (now (workspace .entry)))) ⌝ }
+{
+    let compared = compare_signed(table, first, second, allowance, workspace);
+    tell(of_compared_signed(compared), values)
 }
 
 #[no_mangle]

@@ -1,11 +1,12 @@
 // How an answer is told in numbers: 0 or the refusal's number, then four values.
 ghost use mathlib.Core.Path.{_≡_};
-ghost use Rattle.model.specs.Stated.{refusal, reversed, clearedAs, compared, chained, remaining, checked, packedAs, listedAs};
-ghost use Rattle.braid.specs.Told.{told, sizesTold, passedTold, verdictTold, chainTold, remainderTold, passageTold, bytesTold, countsTold};
+ghost use Rattle.model.specs.Stated.{refusal, reversed, clearedAs, compared, comparedSigned, chained, remaining, checked, packedAs, listedAs};
+ghost use Rattle.braid.specs.Told.{told, sizesTold, passedTold, verdictTold, signedTold, chainTold, remainderTold, passageTold, bytesTold, countsTold};
 use model::answers::Chained;
 use model::answers::Checked;
 use model::answers::Cleared;
 use model::answers::Compared;
+use model::answers::ComparedSigned;
 use model::answers::Packed;
 use model::answers::Refusal;
 use model::answers::Remaining;
@@ -87,6 +88,18 @@ pub(crate) fn counted(first: u64, second: u64) -> Numbers
     }
 }
 
+pub(crate) fn counted_twice(first: u64, second: u64, third: u64) -> Numbers
+    ensures { λ r. ⌜ r ≡ record { code = 0; first = first; second = second; third = third; fourth = 0 } ⌝ }
+{
+    Numbers {
+        code: 0,
+        first,
+        second,
+        third,
+        fourth: 0,
+    }
+}
+
 pub(crate) fn of_compared(answer: Compared) -> Numbers
     ensures { λ r. ⌜ r ≡ told verdictTold (compared answer) ⌝ }
 {
@@ -97,6 +110,18 @@ pub(crate) fn of_compared(answer: Compared) -> Numbers
             relations: _,
         } => counted(0, steps as u64),
         Compared::Different { steps } => counted(1, steps as u64),
+    }
+}
+
+pub(crate) fn of_compared_signed(answer: ComparedSigned) -> Numbers
+    ensures { λ r. ⌜ r ≡ told signedTold (comparedSigned answer) ⌝ }
+{
+    match answer {
+        ComparedSigned::Refused(refusal) => of_refusal(refusal),
+        ComparedSigned::Same { first, second } => counted_twice(0, first as u64, second as u64),
+        ComparedSigned::Different { first, second } => {
+            counted_twice(1, first as u64, second as u64)
+        }
     }
 }
 

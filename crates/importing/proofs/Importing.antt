@@ -6,11 +6,11 @@ use Prim.Native.Nat.{ℕ, _+_, _≤_, _<_}
 use native.Mathlib.Omega.{arith}
 use native.Mathlib.Decide.{decLt}
 use lib.Dec.{ltb}
-use lib.ListN.{length, take, drop, length-map, length-drop, drop-of-length-le}
+use lib.ListN.{length, take, drop, length-map, length-drop}
 use lib.Seq.{take-at}
 use borrow.Author.Tests.{lt-ltb, le-ltb}
 use Rattle.model.specs.declared.answers.Refusal.{Refusal}
-use Rattle.model.specs.declared.answers.Refusal.the-variants.{ImageField, AnswerShort, NotPattern as TextRefused, TooManyMoves}
+use Rattle.model.specs.declared.answers.Refusal.the-variants.{ImageField, AnswerShort, TooManyMoves}
 use Rattle.model.specs.declared.answers.Packed.the-variants.{Written, Refused}
 use Rattle.model.specs.declared.answers.Packed.{Packed}
 use Rattle.model.specs.Word.{Word, byte, letter}
@@ -19,18 +19,17 @@ use Rattle.model.specs.Outcome.{Place, unplaced, Outcome, answered, refused, _>
 use Rattle.model.specs.Bits.{Read}
 use Rattle.model.specs.Images.{readTable}
 use Rattle.model.specs.Plain.{plainProgram}
-use Rattle.model.specs.Areas.{written, begins, outputAfter}
+use Rattle.model.specs.Areas.{begins, outputAfter}
 use Rattle.model.specs.Stated.{refusal, packedAs}
 use Rattle.model.specs.Notation.{Pattern, mostNested, PatternInRange, meaning, moves, highest, patternText, noPattern, readPattern, readText, imported, import}
 use Rattle.model.proofs.Impossible.{impossible}
-use Rattle.model.proofs.Numbers.{below-or}
 use Rattle.theory.proofs.Notation.{notation-meaning}
 use Rattle.images.proofs.Refusals.{refused-on}
 use Rattle.loading.proofs.Early.{Early, table-early}
 use Rattle.engine.specs.Gap.{letters}
 use Rattle.engine.proofs.Letters.{letter-forward, letter-back}
 use Rattle.importing.specs.declared.reading.Span.{Span}
-use Rattle.importing.specs.Reading.{capped, Kept, keptPattern}
+use Rattle.importing.specs.Reading.{capped, keptPattern}
 use Rattle.importing.specs.Laying.{Lays, PatternFits, PatternLaid}
 use Rattle.importing.specs.Import.{TextOf, textOutcome, Answers, ImportSays}
 use Rattle.importing.proofs.Keeping.{Answered, kept-answered, kept-refused, capped-low, capped-high}

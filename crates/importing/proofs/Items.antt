@@ -1,7 +1,7 @@
 -- What is kept of an item and of a pattern, by what stands at their beginning and behind an item.
 use mathlib.Core.Path.{_≡_, refl, sym, ap, subst, _∙_}
 use mathlib.Core.List.{List, [], _∷_}
-use mathlib.Core.Bool.{Bool, true, false}
+use mathlib.Core.Bool.{true, false}
 use Prim.Native.Nat.{ℕ, zero, suc, _+_, _-_, _≤_, _<_}
 use native.Mathlib.Nat.{pos-of-ne-zero}
 use native.Mathlib.Numerals.{sub-one}
@@ -9,11 +9,11 @@ use native.Mathlib.Omega.{arith}
 use lib.ListN.{length, drop}
 use Rattle.model.specs.Outcome.{Outcome, answered, _>>=_}
 use Rattle.model.specs.Bits.{Read}
-use Rattle.model.specs.Notation.{Pattern, larger, Item, itemMoves, itemHighest, spaceByte, openingByte, noPattern, readMinus, readMove, readBody, readItem, readOn, readPattern}
+use Rattle.model.specs.Notation.{larger, Item, itemMoves, itemHighest, spaceByte, openingByte, noPattern, readMinus, readMove, readBody, readItem, readOn, readPattern}
 use Rattle.importing.specs.Reading.{standsFirst, endsFirst, capped, Kept, keptBody, keptItem, keptPattern, closing, counting, within}
 use Rattle.model.proofs.Impossible.{impossible}
 use Rattle.importing.proofs.Texts.{tail-at}
-use Rattle.importing.proofs.Readers.{closeAfter, body-bracket, body-move, before, on-space, on-end, allItems, in-nothing, in-items, pattern-in}
+use Rattle.importing.proofs.Readers.{body-bracket, body-move, on-space, on-end, allItems, in-nothing, in-items, pattern-in}
 use Rattle.importing.proofs.Shorter.{Leaves, item-shortens, within-shortens, all-step}
 use Rattle.importing.proofs.Keeping.{bracket-kept, item-kept, onto, onto-nothing, onto-last, onto-more, Answered, kept-answered, kept-refused}
 

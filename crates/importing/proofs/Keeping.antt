@@ -8,11 +8,10 @@ use Prim.Native.Nat.{ℕ, zero, suc, _+_, _*_, _≤_, _<_}
 use native.Mathlib.Nat.{one-mul, zero-mul, suc-mul, zero-add, add-zero}
 use native.Mathlib.Omega.{arith}
 use lib.Dec.{ltb, eqb}
-use lib.ListN.{length, drop}
+use lib.ListN.{drop}
 use borrow.Author.Tests.{ltb-true, ltb-false, eq-eqb, ne-eqb}
 use Rattle.model.specs.Outcome.{Outcome, answered, refused, _>>=_, unless, mapped}
 use Rattle.model.specs.Bits.{Read}
-use Rattle.model.specs.Plain.{mostLetters}
 use Rattle.model.specs.Notation.{Pattern, nothing, _then_, Item, item, Body, move, bracket, times, moves, itemMoves, bodyMoves, larger, highest, itemHighest, bodyHighest, closingByte, countByte, noPattern, readNumber, readMinus, readCount, readMove, readClose, readBody, readItem}
 use Rattle.model.proofs.Impossible.{impossible}
 use Rattle.model.proofs.Numbers.{below-or}

@@ -1,14 +1,14 @@
 -- The model's readers, by the first byte of the text.
-use mathlib.Core.Path.{_≡_, refl, sym, ap, _∙_}
+use mathlib.Core.Path.{_≡_, refl, ap, _∙_}
 use mathlib.Core.List.{List, [], _∷_}
-use mathlib.Core.Bool.{Bool, true, false, cond}
+use mathlib.Core.Bool.{true, false, cond}
 use mathlib.Core.Option.{Option, none, some}
 use Prim.Native.Nat.{ℕ, zero, suc, _+_, _-_, _*_}
 use lib.Dec.{eqb}
 use lib.ListN.{length, drop}
 use Rattle.model.specs.Outcome.{Outcome, answered, _>>=_}
 use Rattle.model.specs.Bits.{Read}
-use Rattle.model.specs.Notation.{Pattern, nothing, _then_, Item, Body, bracket, spaceByte, openingByte, closingByte, minusByte, zeroByte, countByte, noPattern, isDigit, secondDigit, readNumber, readMinus, readCount, readMove, readClose, readBody, readOn, readItems, readIn, readPattern}
+use Rattle.model.specs.Notation.{Pattern, nothing, _then_, Item, Body, spaceByte, openingByte, minusByte, zeroByte, countByte, noPattern, isDigit, secondDigit, readNumber, readMinus, readCount, readMove, readClose, readBody, readOn, readItems, readIn, readPattern}
 use Rattle.model.proofs.Impossible.{impossible}
 use Rattle.importing.specs.Reading.{standsFirst, digitFirst, endsFirst, within}
 

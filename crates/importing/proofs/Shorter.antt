@@ -1,18 +1,18 @@
 -- A reader leaves no more text than it was given, so that as many items as the text has bytes are all items, and each is followed by fewer.
-use mathlib.Core.Path.{_≡_, refl, sym, ap, _∙_}
+use mathlib.Core.Path.{_≡_, refl, sym, ap}
 use mathlib.Core.List.{List, [], _∷_}
 use mathlib.Core.Bool.{Bool, true, false, cond}
-use mathlib.Core.Option.{Option, none, some}
-use Prim.Native.Nat.{ℕ, zero, suc, _+_, _-_, _*_, _≤_, _<_}
+use mathlib.Core.Option.{none}
+use Prim.Native.Nat.{ℕ, zero, suc, _+_, _-_, _*_, _≤_}
 use native.Mathlib.Nat.{le-refl, le-trans, not-suc-le-zero}
 use native.Mathlib.Omega.{arith}
 use lib.Dec.{eqb}
 use lib.ListN.{length}
 use Rattle.model.specs.Outcome.{Outcome, answered, refused, _>>=_, unless}
 use Rattle.model.specs.Bits.{Read}
-use Rattle.model.specs.Notation.{Pattern, nothing, _then_, Item, Body, move, bracket, spaceByte, openingByte, closingByte, minusByte, zeroByte, countByte, noPattern, isDigit, secondDigit, readNumber, readMinus, readCount, readMove, readClose, readBody, readItem, readOn, readItems, readIn, readPattern}
+use Rattle.model.specs.Notation.{Pattern, nothing, _then_, Item, move, bracket, spaceByte, openingByte, closingByte, minusByte, zeroByte, countByte, noPattern, isDigit, secondDigit, readNumber, readMinus, readCount, readMove, readClose, readBody, readItem, readOn, readItems, readIn, readPattern}
 use Rattle.importing.specs.Reading.{within}
-use Rattle.importing.proofs.Readers.{withCount, closeAfter, before, allItems, pattern-in}
+use Rattle.importing.proofs.Readers.{withCount, closeAfter, before, allItems}
 
 -- after an answer at most n bytes are left
 abbrev pub Leaves : {A : Type 0} → ℕ → Outcome (Read A) → Type 0

@@ -1,31 +1,30 @@
 -- What the two writers meet on their way: the parts of an item that is read, and the items of a pattern that are still to come.
 use mathlib.Core.Path.{_≡_, refl, sym, ap, subst, _∙_}
-use mathlib.Core.List.{List, [], _∷_, _++_, append-assoc, append-nil}
+use mathlib.Core.List.{List, [], _∷_, append-nil}
 use mathlib.Core.Bool.{Bool, true, false, cond}
 use mathlib.Core.Option.{Option}
 use Prim.Native.Nat.{ℕ, zero, suc, _+_, _-_, _*_, _≤_, _<_}
-use native.Mathlib.Nat.{le-refl, zero-mul, mul-zero, suc-mul}
+use native.Mathlib.Nat.{zero-mul, mul-zero, suc-mul}
 use native.Mathlib.Omega.{arith}
 use lib.Dec.{leb, eqb}
-use lib.ListN.{length, take, drop, length-append}
+use lib.ListN.{length, take, drop}
 use borrow.Author.Tests.{leb-true}
 use Rattle.model.specs.Word.{forward, Word}
 use Rattle.model.specs.Outcome.{Outcome, answered, refused, _>>=_, unless}
 use Rattle.model.specs.Bits.{Read}
-use Rattle.model.specs.Notation.{Pattern, nothing, _then_, Item, item, Body, move, bracket, repeated, times, undone, meaning, itemMeaning, bodyMeaning, moves, itemMoves, bodyMoves, bodyHighest, itemHighest, zeroByte, spaceByte, openingByte, closingByte, minusByte, noPattern, isDigit, secondDigit, readNumber, readMinus, readCount, readMove, readClose, readBody, readItem, readOn, readPattern}
+use Rattle.model.specs.Notation.{Pattern, nothing, _then_, Item, item, Body, move, bracket, repeated, times, undone, meaning, itemMeaning, bodyMeaning, moves, itemMoves, bodyMoves, bodyHighest, itemHighest, zeroByte, openingByte, closingByte, minusByte, noPattern, isDigit, secondDigit, readNumber, readMinus, readCount, readClose, readBody, readItem, readPattern}
 use Rattle.model.proofs.Impossible.{impossible}
 use Rattle.model.proofs.Booleans.{both-true}
 use Rattle.theory.proofs.Notation.{notation-meaning}
 use Rattle.engine.specs.Gap.{letters}
 use Rattle.importing.specs.declared.writing.Laid.{Laid}
-use Rattle.importing.specs.Reading.{standsFirst, endsFirst, capped, Kept, keptItem, within}
+use Rattle.importing.specs.Reading.{standsFirst, Kept, keptItem, within}
 use Rattle.importing.specs.Laying.{Lays, Repeatable, Finishes, ItemFits, ItemLaid, PatternFits, PatternLaid}
 use Rattle.importing.proofs.Texts.{tail-at}
-use Rattle.importing.proofs.Readers.{closeAfter, body-bracket, body-move, before, on-space, on-end, allItems, in-nothing, in-items, pattern-in, minus-there, minus-none}
-use Rattle.importing.proofs.Shorter.{Leaves, item-shortens, within-shortens, all-step}
+use Rattle.importing.proofs.Readers.{closeAfter, body-bracket, body-move, minus-there, minus-none}
 use Rattle.importing.proofs.Keeping.{Answered, kept-answered, capped-low}
 use Rattle.importing.proofs.Items.{within-less}
-use Rattle.importing.proofs.Laying.{lays-nothing, lays-long, lays-kept, lays-append, lays-over, lays-stands}
+use Rattle.importing.proofs.Laying.{lays-nothing, lays-over, lays-stands}
 
 -- HOW MANY MOVES
 

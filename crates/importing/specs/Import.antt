@@ -6,7 +6,6 @@ use lib.ListN.{length, take}
 use Rattle.model.specs.declared.answers.Packed.{Packed}
 use Rattle.model.specs.Word.{Word}
 use Rattle.model.specs.Outcome.{unplaced, Outcome, answered, refused, _>>=_, mapped}
-use Rattle.model.specs.Bits.{Read}
 use Rattle.model.specs.Plain.{plainProgram}
 use Rattle.model.specs.Areas.{outputAfter}
 use Rattle.model.specs.Stated.{packedAs}

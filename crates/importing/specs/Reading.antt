@@ -5,7 +5,7 @@ use mathlib.Core.Option.{Option, none, some}
 use mathlib.Core.Path.{_≡_}
 use Prim.Native.Nat.{ℕ, zero, suc, _+_, _*_}
 use lib.Dec.{ltb, eqb}
-use lib.ListN.{length, drop}
+use lib.ListN.{drop}
 use Rattle.model.specs.Outcome.{Outcome, answered, _>>=_, mapped}
 use Rattle.model.specs.Bits.{Read}
 use Rattle.model.specs.Plain.{mostLetters}

@@ -28,7 +28,7 @@ use Rattle.loading.proofs.Outcomes.{still-refused, goes-on}
 use Rattle.mirror_clearing.specs.MirrorClear.{mirrorRefusal, MirrorMeans, MirrorClearMeaning}
 
 -- what is said of the mirror's triples is what is answered
-mirror-stated : (f : Triples) → clearedAs (mirrorRefusal f) ≡ ofMirror (triplesAs f)
+pub mirror-stated : (f : Triples) → clearedAs (mirrorRefusal f) ≡ ofMirror (triplesAs f)
 mirror-stated Hold = refl
 mirror-stated (Fail t) = refl
 mirror-stated (Halt Budget t) = refl

@@ -27,3 +27,4 @@ pub mod MirrorCases
 pub mod WaysCases
 pub mod EnquiryCases
 pub mod NotationCases
+pub mod SignedCases

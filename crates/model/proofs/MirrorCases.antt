@@ -13,7 +13,7 @@ use Rattle.model.specs.Services.{leftFraction, leftReverse, clear, mirro
 use Rattle.model.specs.Areas.{workspaceAfter}
 use Rattle.model.specs.Mirror.{mirror, mirrorCheck, leftComplete, leftNext, leftRun, leftReversing}
 use Rattle.model.proofs.Case.{Case, _gives_, All}
-use Rattle.model.proofs.Samples.{braid3, braid1, open2, three, broken3, unequal2, heavy2, endless3, image, log, braidBytes}
+use Rattle.model.proofs.Samples.{braid3, braid1, open2, three, broken3, unequal2, heavy2, endless3, mirrorFails3, image, log, braidBytes}
 
 -- two letters and their pair
 abbrev pairOf : Complement → Presentation
@@ -86,10 +86,6 @@ leftReverses =
     (leftReverse [] [] 0 0 0 gives refused 1 unplaced) ∷
     (workspaceAfter (leftReverse (image broken3) (log 3 []) 0 2 0) (7 ∷ 8 ∷ []) gives 7 ∷ 8 ∷ []) ∷
     (workspaceAfter (leftReverse braidBytes (log 3 (forward 1 ∷ back 2 ∷ [])) 0 2 0) (7 ∷ 8 ∷ []) gives 0 ∷ 0 ∷ []) ∷ []
-
--- three letters with 1 3 = 2 1 and 1 2 = 3 3, and the pair 2, 3 open: this table clears, and its mirror does not
-abbrev mirrorFails3 : Presentation
-mirrorFails3 = three (complement (3 ∷ []) (1 ∷ [])) (complement (2 ∷ []) (3 ∷ [])) undefined
 
 abbrev pub mirrorClears : List {1} Case
 mirrorClears =

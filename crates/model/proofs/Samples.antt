@@ -25,6 +25,10 @@ braid3 =
 abbrev pub braid1 : Presentation
 braid1 = record { size = 1; excess = even 1; rows = [] ∷ [] }
 
+-- the braid table of 2 letters
+abbrev pub braid2 : Presentation
+braid2 = record { size = 2; excess = even 2; rows = (complement (2 ∷ 1 ∷ []) (1 ∷ 2 ∷ []) ∷ []) ∷ [] ∷ [] }
+
 -- table O
 abbrev pub open2 : Presentation
 open2 = record { size = 2; excess = even 2; rows = (undefined ∷ []) ∷ [] ∷ [] }
@@ -52,6 +56,10 @@ heavy2 = two 0 1
 abbrev pub endless3 : Presentation
 endless3 =
     three (complement (2 ∷ 1 ∷ []) (1 ∷ 2 ∷ [])) (complement (3 ∷ 1 ∷ []) (1 ∷ 3 ∷ [])) (complement (3 ∷ 2 ∷ []) (2 ∷ 3 ∷ []))
+
+-- three letters with 1 3 = 2 1 and 1 2 = 3 3, and the pair 2, 3 open: this table clears, and its mirror does not
+abbrev pub mirrorFails3 : Presentation
+mirrorFails3 = three (complement (3 ∷ []) (1 ∷ [])) (complement (2 ∷ []) (3 ∷ [])) undefined
 
 abbrev pub image : Presentation → List ℕ
 image T = tableImage T

@@ -15,5 +15,6 @@ pub mod Bed
 pub mod Areas
 pub mod Ways
 pub mod Notation
+pub mod Signed
 pub mod Stated
 pub mod Refusals

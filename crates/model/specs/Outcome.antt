@@ -3,12 +3,13 @@ use mathlib.Core.List.{List, [], _∷_}
 use mathlib.Core.Bool.{Bool, true, false}
 use Prim.Native.Nat.{ℕ}
 
--- 7.3: what a refusal names: nothing, or the programs; a pair of letters; a triple of the table; a triple of its mirror
+-- 7.3: what a refusal names: nothing, or the programs; a pair of letters; a triple of the table; a triple of its mirror; the set of 6.18
 pub data Place : Type 0 where
   unplaced : Place
   pair-of : ℕ → ℕ → Place
   triple-of : ℕ → ℕ → ℕ → Place
   mirror-triple-of : ℕ → ℕ → ℕ → Place
+  the-set : Place
 
 -- 7.3: its numbers
 abbrev pub placeNumbers : Place → List ℕ
@@ -16,6 +17,7 @@ placeNumbers unplaced = []
 placeNumbers (pair-of a b) = a ∷ b ∷ []
 placeNumbers (triple-of a b c) = a ∷ b ∷ c ∷ []
 placeNumbers (mirror-triple-of a b c) = a ∷ b ∷ c ∷ []
+placeNumbers the-set = []
 
 pub data Outcome (A : Type 0) : Type 0 where
   answered : A → Outcome A

@@ -12,7 +12,7 @@ use Rattle.model.specs.Equivalence.{Entry, applied, equal}
 use Rattle.model.specs.Enumeration.{pairs, triples}
 use Rattle.model.specs.Checks.{weightCheck, stopNumber, cubeCheck, cleared}
 use Rattle.model.specs.Mirror.{mirror, mirrorCheck, leftReversing}
-use Rattle.model.specs.Outcome.{Place, unplaced, pair-of, triple-of, mirror-triple-of, Outcome, answered, refused, _>>=_, unless, mapped}
+use Rattle.model.specs.Outcome.{Place, unplaced, pair-of, triple-of, mirror-triple-of, the-set, Outcome, answered, refused, _>>=_, unless, mapped}
 use Rattle.model.specs.Bits.{bytesFor}
 use Rattle.model.specs.Images.{entryPosition, readTable, readProgram, readChain, tableImage, programImage}
 use Rattle.model.specs.Plain.{plainTable, plainProgram, readPlainTable, readPlainProgram}
@@ -98,6 +98,7 @@ abbrev pub inMirror : Place → Place
 inMirror (triple-of a b c) = mirror-triple-of a b c
 inMirror (mirror-triple-of a b c) = mirror-triple-of a b c
 inMirror (pair-of a b) = pair-of a b
+inMirror the-set = the-set
 inMirror unplaced = unplaced
 
 -- 6.13: the cube check of the mirror: 17 in place of 9, and every triple is one of the mirror
@@ -143,11 +144,16 @@ verdictOf (finished n d k r) = answered (judged n d k r)
 verdictOf (open-pair a b k) = answered (different-after k)
 verdictOf (stopped s) = refused (stopNumber s) unplaced
 
--- 6.4: two positive words under a table that was read and must clear; if their weights differ, different after 0 steps; else they are reversed
+-- 6.4: two positive words under a table that has cleared; if their weights differ, different after 0 steps; else they are reversed
+abbrev pub forwardVerdict : Presentation → Positive → Positive → ℕ → ℕ → Outcome Verdict
+forwardVerdict T u v steps width =
+    cond (eqb (weigh T u) (weigh T v)) (verdictOf (reversing T steps width (negative u ++ positive v))) (answered (different-after 0))
+
+-- 6.4: two positive words under a table that was read and must clear
 unfoldable pub comparison : Presentation → Positive → Positive → ℕ → ℕ → Outcome Verdict
 comparison T u v steps width =
     cleared T steps width >>= λ ok.
-    cond (eqb (weigh T u) (weigh T v)) (verdictOf (reversing T steps width (negative u ++ positive v))) (answered (different-after 0))
+    forwardVerdict T u v steps width
 
 -- 6.4: all tests of the first program come before those of the second
 unfoldable pub compare : List ℕ → List ℕ → List ℕ → ℕ → ℕ → Outcome Verdict

@@ -4,19 +4,21 @@ use mathlib.Core.List.{List}
 use Prim.Native.Nat.{ℕ}
 use lib.ListN.{length}
 use Rattle.model.specs.declared.answers.Place.{Place as PlaceAnswer}
-use Rattle.model.specs.declared.answers.Place.the-variants.{Triple, MirrorTriple, Programs}
+use Rattle.model.specs.declared.answers.Place.the-variants.{Triple, MirrorTriple, Set, Programs}
 use Rattle.model.specs.declared.answers.Stop.{Stop as StopAnswer}
 use Rattle.model.specs.declared.answers.Stop.the-variants.{Budget, Room}
 use Rattle.model.specs.declared.answers.Ending.{Ending as EndingAnswer}
 use Rattle.model.specs.declared.answers.Ending.the-variants.{Finished, Undefined, Stopped}
 use Rattle.model.specs.declared.answers.Refusal.{Refusal}
-use Rattle.model.specs.declared.answers.Refusal.the-variants.{TableEnds, TableField, TableTail, ImageEnds, ImageField, ImageTail, BackMove, UnequalWeights, CubeFails, OpenPair, AllowanceUsed, WorkspaceShort, AnswerShort, NotBraidTable, NoMirror, MirrorFails, OtherNumbers, NotPattern, TooManyMoves}
+use Rattle.model.specs.declared.answers.Refusal.the-variants.{TableEnds, TableField, TableTail, ImageEnds, ImageField, ImageTail, BackMove, UnequalWeights, CubeFails, OpenPair, AllowanceUsed, WorkspaceShort, AnswerShort, NotBraidTable, NoMirror, MirrorFails, OtherNumbers, NotPattern, TooManyMoves, SetOpenPair, SetTooLarge}
 use Rattle.model.specs.declared.answers.Reversed.{Reversed}
 use Rattle.model.specs.declared.answers.Reversed.the-variants.{Answer, Refused as ReverseRefused}
 use Rattle.model.specs.declared.answers.Cleared.{Cleared}
 use Rattle.model.specs.declared.answers.Cleared.the-variants.{Passed, Refused as ClearRefused}
 use Rattle.model.specs.declared.answers.Compared.{Compared}
 use Rattle.model.specs.declared.answers.Compared.the-variants.{Same, Different, Refused as CompareRefused}
+use Rattle.model.specs.declared.answers.ComparedSigned.{ComparedSigned}
+use Rattle.model.specs.declared.answers.ComparedSigned.the-variants.{Same as SignedSame, Different as SignedDifferent, Refused as SignedRefused}
 use Rattle.model.specs.declared.answers.Chained.{Chained}
 use Rattle.model.specs.declared.answers.Chained.the-variants.{Listed, Unlisted, Refused as ChainRefused}
 use Rattle.model.specs.declared.answers.Checked.{Checked}
@@ -29,14 +31,16 @@ use Rattle.model.specs.declared.answers.Ways.{Ways}
 use Rattle.model.specs.declared.answers.Ways.the-variants.{Listed as WordsListed, Refused as WaysRefused}
 use Rattle.model.specs.Word.{Positive}
 use Rattle.model.specs.Reversing.{Stop, budget, room, Ending, finished, open-pair, stopped}
-use Rattle.model.specs.Outcome.{Place, unplaced, pair-of, triple-of, mirror-triple-of, Outcome, answered, refused}
+use Rattle.model.specs.Outcome.{Place, unplaced, pair-of, triple-of, mirror-triple-of, the-set, Outcome, answered, refused}
 use Rattle.model.specs.Ways.{listingBytes}
+use Rattle.model.specs.Signed.{SignedVerdict, same-after-both, different-after-both}
 use Rattle.model.specs.Services.{Sizes, Verdict, same-after, different-after, ChainAnswer, listed-after, unlisted-after, Remainder, moves-after, none-after, Passage, joins, breaks, ends-elsewhere}
 
--- 7.3: the place of 11 and 12: the triple that was under way, of the table or of its mirror, or none if the programs were
+-- 7.3: the place of 11 and 12: the triple that was under way, of the table or of its mirror, or the set, or none if the programs were
 abbrev pub placed : PlaceAnswer → Place
 placed (Triple t) = triple-of (t .a) (t .b) (t .c)
 placed (MirrorTriple t) = mirror-triple-of (t .a) (t .b) (t .c)
+placed Set = the-set
 placed Programs = unplaced
 
 -- 7.1, 7.3: a refusal's number and place; of 10, `a` is the back letter's. 14 is no refusal's number
@@ -60,6 +64,8 @@ numbered (MirrorFails t) = (17, mirror-triple-of (t .a) (t .b) (t .c))
 numbered OtherNumbers = (18, unplaced)
 numbered NotPattern = (19, unplaced)
 numbered TooManyMoves = (20, unplaced)
+numbered (SetOpenPair p) = (21, pair-of (p .a) (p .b))
+numbered SetTooLarge = (22, unplaced)
 
 -- 7.1: the outcome, whatever the answer would have been
 abbrev pub refusal : {A : Type 0} → Refusal → Outcome A
@@ -85,6 +91,12 @@ abbrev pub compared : Compared → Outcome Verdict
 compared (Same k r) = answered (same-after k r)
 compared (Different k) = answered (different-after k)
 compared (CompareRefused r) = refusal r
+
+-- 6.18: compare_signed
+abbrev pub comparedSigned : ComparedSigned → Outcome SignedVerdict
+comparedSigned (SignedSame k j) = answered (same-after-both k j)
+comparedSigned (SignedDifferent k j) = answered (different-after-both k j)
+comparedSigned (SignedRefused r) = refusal r
 
 -- 6.6: chain
 abbrev pub chained : Chained → Outcome ChainAnswer

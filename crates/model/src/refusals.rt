@@ -1,5 +1,5 @@
 // A refusal in numbers, as the bench reader and C are told it.
-ghost use Rattle.model.specs.Outcome.{unplaced, pair-of, triple-of, mirror-triple-of};
+ghost use Rattle.model.specs.Outcome.{unplaced, pair-of, triple-of, mirror-triple-of, the-set};
 ghost use Rattle.model.specs.Stated.{numbered, placed};
 ghost use Rattle.model.specs.Refusals.{RefusalTold};
 use crate::answers::Pair;
@@ -7,7 +7,7 @@ use crate::answers::Place;
 use crate::answers::Refusal;
 use crate::answers::Triple;
 
-// `place` is what the place is: 0 none or the programs, 1 a pair, 2 a triple of the table, 3 a triple of the mirror. `count` of `number`, `a`, `b` and `c` are the numbers to tell; the
+// `place` is what the place is: 0 none or the programs, 1 a pair, 2 a triple of the table, 3 a triple of the mirror, 4 the set. `count` of `number`, `a`, `b` and `c` are the numbers to tell; the
 // others are 0.
 pub struct RefusalNumbers {
     pub number: u8,
@@ -70,11 +70,25 @@ pub(crate) fn with_mirror_triple(number: u8, triple: Triple) -> RefusalNumbers
     }
 }
 
+pub(crate) fn of_set(number: u8) -> RefusalNumbers
+    ensures { λ r. ⌜ RefusalTold r number the-set ⌝ }
+{
+    RefusalNumbers {
+        number,
+        place: 4,
+        a: 0,
+        b: 0,
+        c: 0,
+        count: 1,
+    }
+}
+
 pub(crate) fn with_place(number: u8, place: Place) -> RefusalNumbers
     ensures { λ r. ⌜ RefusalTold r number (placed place) ⌝ }
 {
     match place {
         Place::Programs => alone(number),
+        Place::Set => of_set(number),
         Place::Triple(triple) => with_triple(number, triple),
         Place::MirrorTriple(triple) => with_mirror_triple(number, triple),
     }
@@ -103,5 +117,7 @@ pub fn refusal_numbers(refusal: Refusal) -> RefusalNumbers
         Refusal::OtherNumbers => alone(18),
         Refusal::NotPattern => alone(19),
         Refusal::TooManyMoves => alone(20),
+        Refusal::SetOpenPair(pair) => with_pair(21, pair),
+        Refusal::SetTooLarge => alone(22),
     }
 }

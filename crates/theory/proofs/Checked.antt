@@ -19,6 +19,7 @@ use Rattle.model.proofs.Impossible.{impossible}
 use Rattle.model.proofs.Leftmost.{open-unfinished}
 use Rattle.model.proofs.Endings.{Ends, reversing-ends}
 use Rattle.model.proofs.Residues.{same-residual, under-residue, under-missing}
+use Rattle.theory.proofs.Letters.{all-have}
 use Rattle.theory.proofs.Residuals.{same-side, open-rule}
 use Rattle.theory.proofs.Enumerated.{pairs-have, triples-have}
 
@@ -175,6 +176,11 @@ pub both-pass : (o p : Outcome (Unit {0})) → (o >>= λ ok. p) ≡ answered tt 
 both-pass (answered x) p h = (refl, h)
 both-pass (refused n ps) p h = impossible (cc)
 
+-- an outcome that goes on to an answer was one
+pub went-on : {A B : Type 0} (o : Outcome A) (f : A → Outcome B) {y : B} → (o >>= f) ≡ answered y → (x : A) × (o ≡ answered x) × (f x ≡ answered y)
+went-on (answered x) f e = (x, refl, e)
+went-on (refused n place) f e = impossible (cc)
+
 weight-each : (T : Presentation) {ps : List Two} {p : Two} → weightCheck T ps ≡ answered tt → List·Memᴰ p ps → balanced T (p .a) (p .b) (complete T (p .a) (p .b)) ≡ true
 weight-each T {p} h (List·Memᴰ·head {x} {xs} e) = rw e (passes x (balanced T (x .a) (x .b) (complete T (x .a) (x .b))) (weightCheck T xs) h .0)
 weight-each T {p} h (List·Memᴰ·tail {x} {xs} m) = weight-each T (passes x (balanced T (x .a) (x .b) (complete T (x .a) (x .b))) (weightCheck T xs) h .1) m
@@ -187,10 +193,6 @@ weight-only T (p ∷ ps) n place h = go (balanced T (p .a) (p .b) (complete T (p
     go : (t : Bool) → (weightCheck T ps ≡ refused n place → n ≡ 8) → cond t (weightCheck T ps) (refused 8 (pair-of (p .a) (p .b))) ≡ refused n place → n ≡ 8
     go true rest e = rest e
     go false rest e = cc
-
-obeyed-at : (T : Presentation) {ts : List Three} {t : Three} → All (Obeys T) ts → List·Memᴰ t ts → Obeys T t
-obeyed-at T h (List·Memᴰ·head e) = rw e (h .0)
-obeyed-at T h (List·Memᴰ·tail m) = obeyed-at T (h .1) m
 
 -- the weight check, of letters in order
 pub checked-weight : (T : Presentation) → weightCheck T (pairs (T .size)) ≡ answered tt → {a b : ℕ} → 1 ≤ a → a < b → b ≤ T .size → balanced T a b (complete T a b) ≡ true
@@ -210,7 +212,7 @@ module _ (T : Presentation) (steps width : ℕ) (clear : cleared T steps width �
   -- the cube check, of a triple whose first two letters are in order
   pub checked-rule : {a b c : ℕ} → 1 ≤ a → a < b → b ≤ T .size → 1 ≤ c → c ≤ T .size → a ≢ c → b ≢ c → CubeRule T a b c
   checked-rule {a} {b} {c} low h high low-c high-c p q =
-      obeyed-at T checked-triples (triples-have (T .size) a b c low h high low-c high-c p q)
+      all-have (Obeys T) checked-triples (triples-have (T .size) a b c low h high low-c high-c p q)
 
 module _ (T : Presentation) (steps width : ℕ) where
   -- where clearing does not refuse with 8, the weight check was passed

@@ -6,7 +6,6 @@ use mathlib.Core.List.{[], _∷_, _++_}
 use mathlib.Core.Bool.{cond}
 use Prim.Native.Nat.{ℕ}
 use native.Mathlib.Decide.{ℕ-discrete}
-use lib.Dec.{eqb}
 use borrow.Author.Tests.{eq-eqb, ne-eqb}
 use Rattle.model.specs.Word.{Positive, positive, negative}
 use Rattle.model.specs.Presentation.{Presentation, weightOf, weigh}
@@ -14,7 +13,7 @@ use Rattle.model.specs.Reversing.{Stop, budget, room, Ending, finished, open-pa
 use Rattle.model.specs.Equivalence.{Joined}
 use Rattle.model.specs.Outcome.{unplaced, Outcome, answered, refused, _>>=_}
 use Rattle.model.specs.Checks.{stopNumber, cleared}
-use Rattle.model.specs.Services.{Verdict, same-after, different-after, judged, verdictOf, comparison}
+use Rattle.model.specs.Services.{Verdict, same-after, different-after, judged, verdictOf, forwardVerdict, comparison}
 use Rattle.model.proofs.Impossible.{impossible}
 use Rattle.model.proofs.Leftmost.{open-unfinished}
 use Rattle.model.proofs.Endings.{Ends, reversing-ends, ends-reversing}
@@ -38,28 +37,25 @@ module _ (T : Presentation) (u v : Positive) (steps width : ℕ) where
   unfolding comparison
   answered-clear {verdict} h = go (cleared T steps width) h
     where
-      compared : Outcome Verdict
-      compared =
-          cond (eqb (weigh T u) (weigh T v)) (verdictOf (reversing T steps width (negative u ++ positive v))) (answered (different-after 0))
-
-      go : (o : Outcome (Unit {0})) → (o >>= λ ok. compared) ≡ answered verdict → o ≡ answered tt
+      go : (o : Outcome (Unit {0})) → (o >>= λ ok. forwardVerdict T u v steps width) ≡ answered verdict → o ≡ answered tt
       go (answered x) e = refl
       go (refused n ps) e = impossible (cc)
 
   module _ (clear : cleared T steps width ≡ answered tt) where
-    compared-equal : weigh T u ≡ weigh T v → comparison T u v steps width ≡ verdictOf (reversing T steps width (negative u ++ positive v))
+    -- what is left of it
+    pub compared-forward : comparison T u v steps width ≡ forwardVerdict T u v steps width
     unfolding comparison
+    compared-forward = ap (λ o. o >>= λ ok. forwardVerdict T u v steps width) clear
+
+    compared-equal : weigh T u ≡ weigh T v → comparison T u v steps width ≡ verdictOf (reversing T steps width (negative u ++ positive v))
     compared-equal h =
         let after = verdictOf (reversing T steps width (negative u ++ positive v)) in
-        ap (λ o. o >>= λ ok. cond (eqb (weigh T u) (weigh T v)) after (answered (different-after 0))) clear
-        ∙ ap (λ t. cond t after (answered (different-after 0))) (eq-eqb (weigh T u) (weigh T v) h)
+        compared-forward ∙ ap (λ t. cond t after (answered (different-after 0))) (eq-eqb (weigh T u) (weigh T v) h)
 
     compared-unequal : weigh T u ≢ weigh T v → comparison T u v steps width ≡ answered (different-after 0)
-    unfolding comparison
     compared-unequal h =
         let after = verdictOf (reversing T steps width (negative u ++ positive v)) in
-        ap (λ o. o >>= λ ok. cond (eqb (weigh T u) (weigh T v)) after (answered (different-after 0))) clear
-        ∙ ap (λ t. cond t after (answered (different-after 0))) (ne-eqb (weigh T u) (weigh T v) h)
+        compared-forward ∙ ap (λ t. cond t after (answered (different-after 0))) (ne-eqb (weigh T u) (weigh T v) h)
 
     -- JOINED WORDS AND THE EMPTY WORD
 
@@ -76,7 +72,7 @@ module _ (T : Presentation) (u v : Positive) (steps width : ℕ) where
         (ends-reversing T steps width (negative u ++ positive v) (finished [] [] k (differing run))
         (record { run = run; within = within; fits = fits; differ = refl }))
 
-    empties-joined : {k : ℕ} → Finishes T (negative u ++ positive v) [] [] k → Joined T u v
+    pub empties-joined : {k : ℕ} → Finishes T (negative u ++ positive v) [] [] k → Joined T u v
     empties-joined f = equiv-joined T (derives-empty (draw u v [] [] f) .path)
 
     not-empty : (n d : Positive) {k : ℕ} → Finishes T (negative u ++ positive v) n d k → Joined T u v → (n ≡ []) × (d ≡ [])

@@ -1,3 +1,4 @@
+pub mod Letters
 pub mod Reduction
 pub mod Descent
 pub mod Orders
@@ -24,3 +25,9 @@ pub mod Remainders
 pub mod MirrorClearing
 pub mod Ways
 pub mod Notation
+pub mod Linking
+pub mod Acting
+pub mod Paving
+pub mod GrownSet
+pub mod Signed
+pub mod SignedComparison

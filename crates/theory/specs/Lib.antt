@@ -6,5 +6,6 @@ pub mod Notation
 pub mod Orders
 pub mod Passages
 pub mod Remainders
+pub mod Signed
 pub mod Verdicts
 pub mod Ways

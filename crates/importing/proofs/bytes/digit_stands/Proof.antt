@@ -1,5 +1,5 @@
 -- `importing::bytes::digit_stands` meets its contract.
-use mathlib.Core.Path.{_≡_, sym, ap, _∙_}
+use mathlib.Core.Path.{sym, ap, _∙_}
 use mathlib.Core.Bool.{false, _&&_}
 use lib.Dec.{leb}
 use lib.ListN.{getD}

@@ -1,5 +1,5 @@
 -- `importing::import::import` meets its contract.
-use mathlib.Core.Path.{_≡_, sym, ap, subst, _∙_}
+use mathlib.Core.Path.{sym, ap, subst}
 use lib.ListN.{length}
 use Rattle.model.specs.declared.answers.Packed.the-variants.{Refused}
 use Rattle.model.specs.Outcome.{mapped}

@@ -1,14 +1,14 @@
 -- `importing::numbers::read_number` meets its contract.
-use mathlib.Core.Path.{_≡_, refl, sym, ap, _∙_}
+use mathlib.Core.Path.{_≡_, sym, ap, _∙_}
 use mathlib.Core.Bool.{true, false}
 use mathlib.Core.List.{_∷_}
 use Prim.Native.Nat.{ℕ, _+_, _-_, _*_}
 use native.Mathlib.Omega.{arith}
 use lib.Dec.{eqb}
-use lib.ListN.{length, getD, drop}
+use lib.ListN.{getD, drop}
 use borrow.Author.Tests.{not-true, not-false, eq-eqb, ne-eqb}
 use Rattle.model.specs.Outcome.{answered}
-use Rattle.model.specs.Notation.{isDigit, readNumber}
+use Rattle.model.specs.Notation.{readNumber}
 use Rattle.importing.specs.Reading.{digitFirst}
 use Rattle.importing.proofs.Texts.{text-from, next-fits, digit-inside, digit-is, digit-low, digit-high}
 use Rattle.importing.proofs.Readers.{number-none, number-zero, number-one, number-two}

@@ -1,6 +1,6 @@
 -- The proof of the cycle of calls {read_item, read_pattern}. An item's bracket is read one level deeper, and a pattern's items at its own level, so that the measure is twice the depth, and one more for a pattern.
 use mathlib.Core.Path.{_≡_, sym, ap, subst, _∙_}
-use mathlib.Core.Bool.{true, false}
+use mathlib.Core.Bool.{true}
 use Prim.Native.Nat.{ℕ, _+_, _-_, _<_}
 use native.Mathlib.Nat.{pos-of-ne-zero}
 use native.Mathlib.Omega.{arith}
@@ -12,7 +12,7 @@ use borrow.Fn.Kinds.{In}
 use borrow.Fn.PlainCycle.{Measures, is, falls, and}
 use Rattle.model.specs.Outcome.{answered}
 use Rattle.model.specs.Notation.{larger, readItem, readPattern}
-use Rattle.importing.specs.Reading.{Kept, standsFirst, capped, spanned, keptItem, keptPattern, closing, counting, within}
+use Rattle.importing.specs.Reading.{Kept, standsFirst, spanned, keptItem, keptPattern, closing, counting, within}
 use Rattle.importing.proofs.Texts.{tail-at, first-there, next-fits}
 use Rattle.importing.proofs.Readers.{allItems}
 use Rattle.importing.proofs.Keeping.{onto}

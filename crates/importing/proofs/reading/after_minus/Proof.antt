@@ -1,5 +1,5 @@
 -- `importing::reading::after_minus` meets its contract.
-use mathlib.Core.Path.{_≡_, sym, ap, _∙_}
+use mathlib.Core.Path.{sym, ap, _∙_}
 use lib.Dec.{eqb}
 use lib.ListN.{drop}
 use Rattle.model.specs.Bits.{Read}

@@ -1,9 +1,8 @@
 -- `importing::reading::joined` meets its contract.
-use mathlib.Core.Path.{_≡_, refl, sym, ap, _∙_}
+use mathlib.Core.Path.{refl, sym, ap, _∙_}
 use mathlib.Core.Logic.{⊎-elim}
 use mathlib.Core.Bool.{cond}
 use borrow.Author.Tests.{lt-ltb, le-ltb}
-use Rattle.model.specs.Notation.{larger}
 use borrow.Author.Needs.{needs}
 use Rattle.importing.proofs.reading.joined.Statement.{statement}
 use Rattle.importing.proofs.reading.joined.Tie as tie

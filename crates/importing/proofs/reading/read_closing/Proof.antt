@@ -1,9 +1,7 @@
 -- `importing::reading::read_closing` meets its contract.
-use mathlib.Core.Path.{_≡_, sym, ap, _∙_}
-use Prim.Native.Nat.{ℕ}
+use mathlib.Core.Path.{sym, ap, _∙_}
 use lib.Dec.{eqb}
 use lib.ListN.{drop}
-use mathlib.Core.List.{List}
 use borrow.Author.Tests.{not-true, not-false}
 use Rattle.model.specs.Outcome.{answered}
 use Rattle.importing.specs.Reading.{Kept, spanned, closing}

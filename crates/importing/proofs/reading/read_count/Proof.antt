@@ -1,7 +1,6 @@
 -- `importing::reading::read_count` meets its contract.
 use mathlib.Core.Path.{_≡_, sym, ap, _∙_}
-use Prim.Native.Nat.{_+_, _*_}
-use native.Mathlib.Omega.{arith}
+use Prim.Native.Nat.{_*_}
 use lib.Dec.{eqb}
 use mathlib.Core.Bool.{true}
 use lib.ListN.{drop}

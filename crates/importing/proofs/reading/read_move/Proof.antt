@@ -1,5 +1,5 @@
 -- `importing::reading::read_move` meets its contract.
-use mathlib.Core.Path.{_≡_, sym, ap, _∙_}
+use mathlib.Core.Path.{sym, ap, _∙_}
 use lib.ListN.{drop}
 use Rattle.importing.specs.Reading.{numberStated, keptBody}
 use Rattle.importing.proofs.Keeping.{move-zero, move-some, move-none}

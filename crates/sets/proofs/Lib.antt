@@ -1,0 +1,11 @@
+pub mod Ends
+pub mod Copies
+pub mod Spelling
+pub mod Lookup
+pub mod FirstWords
+pub mod Rooms
+pub mod Adding
+pub mod Pairing
+pub mod Taking
+pub mod PlacePairs
+pub mod Closing

@@ -1,0 +1,116 @@
+-- N and D as a finished reversing leaves them, and as they are compared.
+use mathlib.Core.Path.{_≡_, refl, sym, ap, subst, _∙_}
+use mathlib.Core.List.{List, _++_}
+use mathlib.Core.Bool.{true, false, cond}
+use Prim.Native.Nat.{ℕ, _+_, _-_}
+use native.Mathlib.Omega.{arith}
+use lib.Dec.{eqb}
+use lib.ListN.{length, take, drop, length-append, length-drop}
+use lib.Seq.{take-at, drop-at, take-add, length-take-le}
+use Rattle.model.specs.Word.{Word, Positive, positive, negative, inverse}
+use Rattle.model.specs.Presentation.{Presentation, weigh}
+use Rattle.model.specs.Range.{LetterInRange, Lettered}
+use Rattle.model.specs.Reversing.{reversing}
+use Rattle.model.specs.Outcome.{answered}
+use Rattle.model.specs.Services.{different-after, verdictOf, forwardVerdict}
+use Rattle.model.specs.Stated.{compared, endingAnswer}
+use Rattle.model.specs.declared.answers.Ending.{Ending}
+use Rattle.model.specs.declared.answers.Compared.{Compared}
+use Rattle.model.specs.declared.answers.Compared.the-variants.{Different}
+use Rattle.theory.proofs.Letters.{all-first, all-second, lettered-positive, inverse-lettered}
+use Rattle.comparing.specs.Compare.{judgement}
+use Rattle.comparing.proofs.Comparing.{judgement-states}
+use Rattle.engine.specs.Gap.{letters}
+use Rattle.engine.specs.Words.{Inverted, Moved}
+use Rattle.engine.specs.Run.{Reverses}
+use Rattle.engine.proofs.Letters.{letters-append, letters-forward, length-letters}
+use Rattle.engine.proofs.Lettering.{length-positive}
+use Rattle.reversal.proofs.Fractions.{inverse-inverse}
+use Rattle.sets.specs.Room.{Lays}
+use Rattle.signed_comparing.specs.Weight.{Stand}
+use Rattle.signed_comparing.specs.Fraction.{Left}
+
+-- two words whose first parts are equally long, one after the other
+split : (x y u v : Word) → x ++ y ≡ u ++ v → length x ≡ length u → (x ≡ u) × (y ≡ v)
+split x y u v e h = (
+  sym (take-at x y (length u) h) ∙ ap (take (length u)) e ∙ take-at u v (length u) refl,
+  sym (drop-at x y (length u) h) ∙ ap (drop (length u)) e ∙ drop-at u v (length u) refl,
+)
+
+-- N stands first, and D behind it once its inverse was inverted
+module _ (cells before : List ℕ) (numerator denominator : ℕ) (T : Presentation) (n d : Positive) (l : Left cells before numerator denominator T n d)
+    (part after : List ℕ) (i : Inverted (drop numerator before) denominator part) (put : after ≡ take numerator before ++ part) where
+  front-long : length (take numerator before) ≡ numerator
+  front-long = length-take-le numerator before (omega (arith, l .inside))
+
+  both : letters (take numerator before) ++ letters (take denominator (drop numerator before)) ≡ positive n ++ negative d
+  both = sym (letters-append (take numerator before) (take denominator (drop numerator before))) ∙ ap letters (sym (take-add numerator denominator before)) ∙ l .word
+
+  parts : (letters (take numerator before) ≡ positive n) × (letters (take denominator (drop numerator before)) ≡ negative d)
+  parts = split (letters (take numerator before)) (letters (take denominator (drop numerator before))) (positive n) (negative d) both (length-letters (take numerator before) ∙ front-long ∙ sym (length-positive n ∙ l .n-long))
+
+  first-bytes : take numerator before ≡ n
+  first-bytes = letters-forward (take numerator before) n (parts .0)
+
+  part-long : length part ≡ length before - numerator
+  part-long = i .same-length ∙ length-drop numerator before
+
+  second-bytes : take denominator part ≡ d
+  second-bytes = letters-forward (take denominator part) d (i .inverted ∙ ap inverse (parts .1) ∙ inverse-inverse (positive d))
+
+  pub after-long : length after ≡ length before
+  after-long = ap length put ∙ length-append (take numerator before) part ∙ omega (arith, front-long, part-long, l .inside)
+
+  behind : drop numerator after ≡ part
+  behind = ap (drop numerator) put ∙ drop-at (take numerator before) part numerator front-long
+
+  first-after : take numerator after ≡ n
+  first-after = ap (take numerator) put ∙ take-at (take numerator before) part numerator front-long ∙ first-bytes
+
+  second-after : take denominator (drop numerator after) ≡ d
+  second-after = ap (take denominator) behind ∙ second-bytes
+
+  n-lettered : Lettered (T .size) (positive n)
+  n-lettered = all-first (LetterInRange (T .size)) (positive n) (negative d) (l .named)
+
+  d-lettered : Lettered (T .size) (positive d)
+  d-lettered = subst (Lettered (T .size)) (inverse-inverse (positive d)) (inverse-lettered (T .size) (negative d) (all-second (LetterInRange (T .size)) (positive n) (negative d) (l .named)))
+
+  pub two-words : Stand cells after numerator (numerator + denominator) T n d
+  two-words = record {
+    stands = l .stands;
+    ordered = omega arith;
+    inside = omega (arith, l .inside, after-long);
+    u-is = first-after;
+    v-is = ap (λ k. take k (drop numerator after)) {x = numerator + denominator - numerator} {y = denominator} (omega arith) ∙ second-after;
+    u-named = lettered-positive (T .size) n n-lettered;
+    v-named = lettered-positive (T .size) d d-lettered;
+  }
+
+  -- D moved to the workspace's end
+  module _ (moved : List ℕ) (m : Moved after numerator denominator moved) where
+    pub laid : Lays cells moved numerator denominator T n d
+    laid = record {
+      stands = l .stands;
+      fit = omega (arith, l .inside, after-long, m .same-length);
+      u-is = m .kept ∙ first-after;
+      v-is = letters-forward (drop (length moved - denominator) moved) d (m .moved ∙ ap letters second-after ∙ positive-letters);
+      u-named = n-lettered;
+      v-named = d-lettered;
+    }
+      where
+        positive-letters : letters d ≡ positive d
+        positive-letters = ap letters (sym second-bytes) ∙ i .inverted ∙ ap inverse (parts .1) ∙ inverse-inverse (positive d)
+
+-- THE VERDICT
+
+module _ (T : Presentation) (n d : Positive) (steps width : ℕ) where
+  pub weights-differ : false ≡ eqb (weigh T n) (weigh T d) → compared (Different 0) ≡ forwardVerdict T n d steps width
+  weights-differ e = ap (λ b. cond b (verdictOf (reversing T steps width (negative n ++ positive d))) (answered (different-after 0))) e
+
+  pub weights-agree : true ≡ eqb (weigh T n) (weigh T d) → (ending : Ending) (bytes : List ℕ) → length bytes ≡ width → Reverses T (negative n ++ positive d) steps bytes ending
+      → (r : Compared) → r ≡ judgement ending → compared r ≡ forwardVerdict T n d steps width
+  weights-agree e ending bytes long v r j =
+      ap compared (j ∙ ap judgement (v .answer ∙ ap (λ k. endingAnswer (reversing T steps k (negative n ++ positive d))) long))
+      ∙ judgement-states (reversing T steps width (negative n ++ positive d))
+      ∙ ap (λ b. cond b (verdictOf (reversing T steps width (negative n ++ positive d))) (answered (different-after 0))) e

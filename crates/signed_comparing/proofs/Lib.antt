@@ -1,0 +1,5 @@
+pub mod Weighing
+pub mod Loading
+pub mod Prepared
+pub mod Fractions
+pub mod Service

@@ -1,0 +1,78 @@
+-- What comes before the two reversings, step by step.
+use mathlib.Core.Path.{_≡_, refl, sym, ap, _∙_}
+use mathlib.Core.List.{List}
+use Prim.Native.Nat.{ℕ}
+use lib.ListN.{length, replicate}
+use Rattle.model.specs.Presentation.{Presentation}
+use Rattle.model.specs.Enumeration.{triples}
+use Rattle.model.specs.Outcome.{answered, _>>=_, mapped}
+use Rattle.model.specs.Checks.{cubeCheck, cleared}
+use Rattle.model.specs.Mirror.{mirror, mirrorCheck}
+use Rattle.model.specs.Services.{ofMirror}
+use Rattle.model.specs.Signed.{grownSet}
+use Rattle.model.specs.Areas.{workspaceAfter}
+use Rattle.model.specs.Stated.{refusal, clearedAs}
+use Rattle.model.specs.declared.answers.Pair.{Pair}
+use Rattle.model.specs.declared.answers.Stop.the-variants.{Budget, Room}
+use Rattle.model.specs.declared.answers.Refusal.{Refusal}
+use Rattle.model.specs.declared.answers.Refusal.the-variants.{NoMirror}
+use Rattle.model.specs.declared.answers.Cleared.the-variants.{Passed, Refused}
+use Rattle.cells.specs.Stands.{Of}
+use Rattle.checks.specs.Table.{TriplesMean}
+use Rattle.checks.specs.declared.table.Triples.{Triples}
+use Rattle.loading.proofs.Outcomes.{still-refused, goes-on}
+use Rattle.mirror_clearing.specs.MirrorClear.{mirrorRefusal}
+use Rattle.mirror_clearing.proofs.MirrorService.{mirror-stated, mirror-wipe}
+use Rattle.sets.specs.Growing.{grownAs}
+use Rattle.sets.specs.Set.{SetMeans}
+use Rattle.sets.specs.declared.growing.Grown.{Grown}
+use Rattle.sets.specs.declared.growing.Grown.the-variants.{Closed, OpenPair, TooLarge, Stopped}
+use Rattle.signed_comparing.specs.Preparing.{grownRefusal, mirrorThenSet, prepared, MirrorThenSet}
+
+-- what is said of the set is what is answered, after the work has begun
+grown-stated : (g : Grown) → clearedAs (grownRefusal g) ≡ grownAs g
+grown-stated Closed = refl
+grown-stated (OpenPair p) = refl
+grown-stated TooLarge = refl
+grown-stated (Stopped Budget) = refl
+grown-stated (Stopped Room) = refl
+
+grown-late : (g : Grown) (area : List ℕ) → workspaceAfter (clearedAs (grownRefusal g)) area ≡ replicate (length area) 0
+grown-late Closed area = refl
+grown-late (OpenPair p) area = refl
+grown-late TooLarge area = refl
+grown-late (Stopped Budget) area = refl
+grown-late (Stopped Room) area = refl
+
+module _ (cells mirrored : List ℕ) (size budget width : ℕ) (f : Triples) (t : TriplesMean mirrored size width budget f) where
+  -- what the check of the mirror's triples comes to
+  cube-is : (T : Presentation) → Of cells size T → Of mirrored size (mirror T) → ofMirror (cubeCheck (mirror T) budget width (triples (T .size))) ≡ clearedAs (mirrorRefusal f)
+  cube-is T o u = sym (mirror-stated f ∙ ap ofMirror (t (mirror T) u ∙ ap (λ n. cubeCheck (mirror T) budget width (triples n)) (sym (o .sized))))
+
+  pub mirror-refused : (r : Refusal) → mirrorRefusal f ≡ Refused r → MirrorThenSet cells mirrored size budget width (Refused r)
+  mirror-refused r e = record {
+    states = λ T o u. sym (still-refused (ofMirror (cubeCheck (mirror T) budget width (triples (T .size)))) r (cube-is T o u ∙ ap clearedAs e) (λ ok. mapped (λ vs. tt) (grownSet T budget width)));
+    late = λ area. ap (λ c. workspaceAfter (clearedAs c) area) (sym e) ∙ mirror-wipe f area;
+  }
+
+  pub set-grown : mirrorRefusal f ≡ Passed → (g : Grown) → SetMeans cells size width budget g → MirrorThenSet cells mirrored size budget width (grownRefusal g)
+  set-grown e g s = record {
+    states = λ T o u. grown-stated g ∙ s T o ∙ sym (goes-on (ofMirror (cubeCheck (mirror T) budget width (triples (T .size)))) tt (cube-is T o u ∙ ap clearedAs e) (λ ok. mapped (λ vs. tt) (grownSet T budget width)));
+    late = grown-late g;
+  }
+
+module _ (T : Presentation) (budget width : ℕ) where
+  pub mirror-offends : (p : Pair) → mirrorCheck T ≡ refusal (NoMirror p) → prepared T budget width ≡ refusal (NoMirror p)
+  unfolding prepared
+  mirror-offends p e = still-refused (mirrorCheck T) (NoMirror p) e (λ ok. cleared T budget width >>= λ ok. mirrorThenSet T budget width)
+
+  module _ (has : mirrorCheck T ≡ answered tt) where
+    table-checked : prepared T budget width ≡ (cleared T budget width >>= λ ok. mirrorThenSet T budget width)
+    unfolding prepared
+    table-checked = goes-on (mirrorCheck T) tt has (λ ok. cleared T budget width >>= λ ok. mirrorThenSet T budget width)
+
+    pub table-refused : (r : Refusal) → clearedAs (Refused r) ≡ cleared T budget width → clearedAs (Refused r) ≡ prepared T budget width
+    table-refused r e = sym (table-checked ∙ still-refused (cleared T budget width) r (sym e) (λ ok. mirrorThenSet T budget width))
+
+    pub table-clears : answered tt ≡ cleared T budget width → prepared T budget width ≡ mirrorThenSet T budget width
+    table-clears e = table-checked ∙ goes-on (cleared T budget width) tt (sym e) (λ ok. mirrorThenSet T budget width)

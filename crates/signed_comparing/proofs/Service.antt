@@ -1,0 +1,185 @@
+-- The comparison after what comes before it, and the outcome of compare_signed after its reading.
+use mathlib.Core.Path.{_≡_, refl, sym, ap, subst, _∙_}
+use mathlib.Core.List.{List, [], _∷_, _++_}
+use mathlib.Core.Bool.{Bool, true, false, cond}
+use Prim.Native.Nat.{ℕ, _+_, _≤_}
+use native.Mathlib.Omega.{arith}
+use lib.Dec.{eqb}
+use lib.ListN.{length, replicate}
+use Rattle.model.specs.Word.{Word, positive, negative, inverse}
+use Rattle.model.specs.Presentation.{Presentation, weigh}
+use Rattle.model.specs.Enumeration.{triples}
+use Rattle.model.specs.Reversing.{Ending, finished, open-pair, stopped, budget, room, reversing}
+use Rattle.model.specs.Outcome.{Outcome, answered, refused, _>>=_, mapped}
+use Rattle.model.specs.Checks.{cubeCheck, cleared}
+use Rattle.model.specs.Mirror.{mirror, mirrorCheck}
+use Rattle.model.specs.Images.{readTable, readProgram}
+use Rattle.model.specs.Services.{ofMirror, Verdict, same-after, different-after, verdictOf, forwardVerdict}
+use Rattle.model.specs.Signed.{SignedVerdict, grownSet, afterFirst, signedOf, signedComparison, compareSigned}
+use Rattle.model.specs.Areas.{workspaceAfter}
+use Rattle.model.specs.Stated.{refusal, stopRefusal, compared, comparedSigned}
+use Rattle.model.specs.declared.answers.Stop.{Stop as StopAnswer}
+use Rattle.model.specs.declared.answers.Pair.{Pair}
+use Rattle.model.specs.declared.answers.Ending.the-variants.{Finished, Undefined, Stopped}
+use Rattle.model.specs.declared.answers.Refusal.{Refusal}
+use Rattle.model.specs.declared.answers.Refusal.the-variants.{OpenPair}
+use Rattle.model.specs.declared.answers.Compared.{Compared}
+use Rattle.model.specs.declared.answers.Compared.the-variants.{Same, Different, Refused}
+use Rattle.model.specs.declared.answers.ComparedSigned.the-variants.{Refused as SignedRefused}
+use Rattle.theory.specs.Signed.{ComparisonSigned}
+use Rattle.theory.proofs.SignedComparison.{comparison-signed}
+use Rattle.images.proofs.RoundTrip.{table-in-range, program-in-range}
+use Rattle.engine.specs.Run.{LeavesLetters, Reverses}
+use Rattle.engine.proofs.Ended.{done, finishable, met, halted, stop-numbered}
+use Rattle.cells.specs.Stands.{Stands}
+use Rattle.loading.proofs.Early.{Early, table-early, program-early}
+use Rattle.loading.proofs.Outcomes.{AsFound, still-refused, goes-on, reading-refused}
+use Rattle.signed_comparing.specs.Running.{SignedImages, readSigned}
+use Rattle.signed_comparing.specs.Preparing.{prepared}
+use Rattle.signed_comparing.specs.Fraction.{Left}
+use Rattle.signed_comparing.specs.Service.{afterFirstAs, SignedSays}
+
+-- THE SECOND REVERSING
+
+pub after-stated : (k : ℕ) (c : Compared) → comparedSigned (afterFirstAs k c) ≡ mapped (afterFirst k) (compared c)
+after-stated k (Same j r) = refl
+after-stated k (Different j) = refl
+after-stated k (Refused r) = refl
+
+module _ (cells : List ℕ) (T : Presentation) (s : Stands cells T) (word : Word) (steps : ℕ) (workspace : List ℕ) where
+  -- what a finished reversing left
+  pub left-of : (n d k r : ℕ) (p : Reverses T word steps workspace (Finished n d k r)) → Left cells workspace n d T (done T word steps workspace n d k r p .N) (done T word steps workspace n d k r p .D)
+  left-of n d k r p =
+      let q = done T word steps workspace n d k r p in
+      record {
+        stands = s;
+        inside = finishable T word steps workspace (Finished n d k r) p;
+        n-long = q .n-length;
+        d-long = q .d-length;
+        word = q .stands;
+        named = subst (LeavesLetters (T .size)) (q .is) (p .named);
+      }
+
+module _ (T : Presentation) (word : Word) (steps : ℕ) (workspace : List ℕ) where
+  pub settled-finished : (n d k r : ℕ) (p : Reverses T word steps workspace (Finished n d k r)) (c : Compared)
+      → compared c ≡ forwardVerdict T (done T word steps workspace n d k r p .N) (done T word steps workspace n d k r p .D) steps (length workspace)
+      → comparedSigned (afterFirstAs k c) ≡ signedOf T steps (length workspace) (reversing T steps (length workspace) word)
+  settled-finished n d k r p c e =
+      let q = done T word steps workspace n d k r p in
+      after-stated k c ∙ ap (mapped (afterFirst k)) e ∙ ap (signedOf T steps (length workspace)) (sym (q .is))
+
+  pub settled-open : (p : Pair) (k : ℕ) → Reverses T word steps workspace (Undefined p k) → comparedSigned (SignedRefused (OpenPair p)) ≡ signedOf T steps (length workspace) (reversing T steps (length workspace) word)
+  settled-open p k q = sym (ap (signedOf T steps (length workspace)) (met T word steps workspace p k q))
+
+  pub settled-stopped : (s : StopAnswer) → Reverses T word steps workspace (Stopped s) → comparedSigned (SignedRefused (stopRefusal s)) ≡ signedOf T steps (length workspace) (reversing T steps (length workspace) word)
+  settled-stopped s q =
+      let h = halted T word steps workspace s q in
+      ap (λ x. comparedSigned (SignedRefused (stopRefusal x))) (sym (h .told)) ∙ stop-numbered (h .stop) ∙ ap (signedOf T steps (length workspace)) (sym (h .is))
+
+-- THE WORKSPACE
+
+-- whatever comes of the reversings, the work has begun
+pub signed-late : (T : Presentation) (steps width : ℕ) (e : Ending) (area : List ℕ) → workspaceAfter (signedOf T steps width e) area ≡ replicate (length area) 0
+signed-late T steps width (open-pair a b k) area = refl
+signed-late T steps width (stopped budget) area = refl
+signed-late T steps width (stopped room) area = refl
+signed-late T steps width (finished n d k r) area = weights (eqb (weigh T n) (weigh T d))
+  where
+    verdict : (v : Verdict) → workspaceAfter (mapped (afterFirst k) (answered v)) area ≡ replicate (length area) 0
+    verdict (same-after j i) = refl
+    verdict (different-after j) = refl
+
+    second : (e : Ending) → workspaceAfter (mapped (afterFirst k) (verdictOf e)) area ≡ replicate (length area) 0
+    second (finished [] [] j i) = refl
+    second (finished [] (x ∷ y) j i) = refl
+    second (finished (x ∷ y) z j i) = refl
+    second (open-pair a b j) = refl
+    second (stopped budget) = refl
+    second (stopped room) = refl
+
+    weights : (b : Bool) → workspaceAfter (mapped (afterFirst k) (cond b (verdictOf (reversing T steps width (negative n ++ positive d))) (answered (different-after 0)))) area ≡ replicate (length area) 0
+    weights true = second (reversing T steps width (negative n ++ positive d))
+    weights false = refl
+
+-- THE WHOLE COMPARISON
+
+-- the checks and the set in a row, then the rest
+regrouped : {A B C D E : Type 0} (a : Outcome A) (b : Outcome B) (c : Outcome C) (g : Outcome D) (rest : Outcome E)
+    → ((a >>= λ x. b >>= λ y. c >>= λ z. mapped (λ (v : D). tt {0}) g) >>= λ ok. rest) ≡ (a >>= λ x. b >>= λ y. c >>= λ z. g >>= λ v. rest)
+regrouped (answered x) (answered y) (answered z) (answered v) rest = refl
+regrouped (answered x) (answered y) (answered z) (refused n p) rest = refl
+regrouped (answered x) (answered y) (refused n p) g rest = refl
+regrouped (answered x) (refused n p) c g rest = refl
+regrouped (refused n p) b c g rest = refl
+
+module _ (T : Presentation) (w v : Word) (steps width : ℕ) where
+  abbrev rest : Outcome SignedVerdict
+  rest = signedOf T steps width (reversing T steps width (inverse w ++ v))
+
+  begins-prepared : signedComparison T w v steps width ≡ (prepared T steps width >>= λ ok. rest)
+  unfolding signedComparison prepared
+  begins-prepared = sym (regrouped (mirrorCheck T) (cleared T steps width) (ofMirror (cubeCheck (mirror T) steps width (triples (T .size)))) (grownSet T steps width) rest)
+
+  pub signed-refused : (r : Refusal) → refusal r ≡ prepared T steps width → refusal r ≡ signedComparison T w v steps width
+  signed-refused r e = sym (begins-prepared ∙ still-refused (prepared T steps width) r (sym e) (λ ok. rest))
+
+  pub signed-runs : answered tt ≡ prepared T steps width → signedComparison T w v steps width ≡ rest
+  signed-runs e = begins-prepared ∙ goes-on (prepared T steps width) tt (sym e) (λ ok. rest)
+
+-- THE SERVICE
+
+-- a reading that refuses early, and another after it
+early-then : {A B : Type 0} (k : ℕ) (o : Outcome A) (f : A → Outcome B) → Early k o → ((x : A) → Early k (f x)) → Early k (o >>= f)
+early-then k (answered x) f e g = g x
+early-then k (refused n place) f e g = e
+
+earlier : {A : Type 0} (j k : ℕ) (o : Outcome A) → j ≤ k → Early j o → Early k o
+earlier j k (answered x) h e = tt
+earlier j k (refused n place) h e = omega (arith, h, e)
+
+module _ (table first second : List ℕ) where
+  read-early : Early 6 (readSigned table first second)
+  unfolding readSigned
+  read-early =
+      early-then 6 (readTable table) _ (earlier 3 6 (readTable table) (omega arith) (table-early table))
+      (λ T. early-then 6 (readProgram (T .size) first) _ (program-early (T .size) first) (λ w. early-then 6 (readProgram (T .size) second) _ (program-early (T .size) second) (λ v. tt)))
+
+  module _ (steps width : ℕ) where
+    abbrev judges : SignedImages → Outcome SignedVerdict
+    judges p = signedComparison (p .table) (p .first) (p .second) steps width
+
+    -- reading, then comparing
+    reads-first : compareSigned table first second steps width ≡ (readSigned table first second >>= judges)
+    unfolding compareSigned readSigned
+    reads-first = by-table (readTable table)
+      where
+        by-second : (T : Presentation) (w : Word) (o : Outcome Word) → (o >>= λ v. signedComparison T w v steps width) ≡ ((o >>= λ v. answered (record { table = T; first = w; second = v })) >>= judges)
+        by-second T w (answered v) = refl
+        by-second T w (refused n p) = refl
+
+        by-first : (T : Presentation) (o : Outcome Word)
+            → (o >>= λ w. readProgram (T .size) second >>= λ v. signedComparison T w v steps width)
+            ≡ ((o >>= λ w. readProgram (T .size) second >>= λ v. answered (record { table = T; first = w; second = v })) >>= judges)
+        by-first T (answered w) = by-second T w (readProgram (T .size) second)
+        by-first T (refused n p) = refl
+
+        by-table : (o : Outcome Presentation)
+            → (o >>= λ T. readProgram (T .size) first >>= λ w. readProgram (T .size) second >>= λ v. signedComparison T w v steps width)
+            ≡ ((o >>= λ T. readProgram (T .size) first >>= λ w. readProgram (T .size) second >>= λ v. answered (record { table = T; first = w; second = v })) >>= judges)
+        by-table (answered T) = by-first T (readProgram (T .size) first)
+        by-table (refused n p) = refl
+
+    pub read-refused : (r : Refusal) → readSigned table first second ≡ refusal r → AsFound (compareSigned table first second steps width) r
+    read-refused r e = reading-refused (compareSigned table first second steps width) (readSigned table first second) judges reads-first r e 6 read-early (omega arith)
+
+    module _ (T : Presentation) (t : readTable table ≡ answered T) (w v : Word) (ew : readProgram (T .size) first ≡ answered w) (ev : readProgram (T .size) second ≡ answered v) where
+      pub compare-runs : compareSigned table first second steps width ≡ signedComparison T w v steps width
+      unfolding compareSigned
+      compare-runs = goes-on (readTable table) T t _ ∙ goes-on (readProgram (T .size) first) w ew _ ∙ goes-on (readProgram (T .size) second) v ev _
+
+    -- what the answer says
+    pub says : (o : Outcome SignedVerdict) → o ≡ compareSigned table first second steps width → SignedSays table first second steps width o
+    says o e T t w v ew ev =
+        let r = table-in-range table T t in
+        subst (ComparisonSigned T w v steps width) (sym (e ∙ compare-runs T t w v ew ev))
+        (comparison-signed T r steps width w v (program-in-range (T .size) (r .few) first w ew .letters) (program-in-range (T .size) (r .few) second v ev .letters))

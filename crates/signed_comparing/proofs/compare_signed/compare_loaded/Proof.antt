@@ -1,0 +1,95 @@
+-- `signed_comparing::compare_signed::compare_loaded` meets its contract.
+use mathlib.Core.Path.{_≡_, sym, ap, subst, _∙_}
+use mathlib.Core.List.{_++_}
+use lib.ListN.{length, replicate, length-replicate}
+use Rattle.model.specs.Word.{Word, inverse}
+use Rattle.model.specs.Presentation.{Presentation}
+use Rattle.model.specs.Reversing.{reversing}
+use Rattle.model.specs.Outcome.{answered}
+use Rattle.model.specs.Images.{readProgram}
+use Rattle.model.specs.Signed.{signedOf}
+use Rattle.model.specs.Areas.{workspaceAfter}
+use Rattle.model.specs.Stated.{clearedAs, comparedSigned}
+use Rattle.cells.specs.Stands.{Of}
+use Rattle.signed_comparing.specs.Preparing.{prepared}
+use Rattle.signed_comparing.proofs.Service.{signed-late, signed-refused, signed-runs}
+use borrow.Author.Needs.{needs}
+use Rattle.signed_comparing.proofs.compare_signed.compare_loaded.Statement.{statement}
+use Rattle.signed_comparing.proofs.compare_signed.compare_loaded.Tie as tie
+
+settle-requires : tie.Need-settle-requires
+settle-requires c κs =
+    let s = c .before .before .before .before .before .before .before .before .before .before .before .before .before .before .before in
+    let p = s .pre in
+    let one = p .programs .one .program in
+    let two = p .programs .two .program in
+    record {
+      table = p .table;
+      stands = p .of .stands;
+      word = inverse (one .word) ++ two .word;
+      steps = s .args .budget;
+      reverses = c .before .before .before .run-signed .ensures .1 (p .table) (p .of) (one .word) (two .word) (one .read) (two .read);
+    }
+
+returns : tie.Need-returns
+returns c =
+    let s = c .before .before .before .before .before .before .before .before .before .before .before in
+    let z = c .before .before .before .before .before .prepare in
+    let g = c .before .clear .given in
+    let area = s .args .workspace .now in
+    record {
+      workspace = z .ensures .1 ∙ ap (λ x. workspaceAfter (clearedAs x) area) (g .1);
+      states = λ T o w v ew ev. signed-refused T w v (s .args .budget) (length area) (g .0 .0) (subst (λ x. clearedAs x ≡ prepared T (s .args .budget) (length area)) (g .1) (z .ensures .0 T o));
+    }
+
+-- the workspace is as long when the programs have been reversed
+long : (c : tie.After-run-signed) → length (c .run-signed .last .1 .1 .1 .1 .1 .1 .1 .0) ≡ length (c .before .before .before .before .before .before .before .before .before .before .before .before .args .workspace .now)
+long c =
+    let s = c .before .before .before .before .before .before .before .before .before .before .before .before in
+    let z = c .before .before .before .before .before .before .prepare in
+    let area = s .args .workspace .now in
+    c .run-signed .ensures .0 ∙ ap length (z .ensures .1 ∙ ap (λ x. workspaceAfter (clearedAs x) area) (c .before .before .enum-told .given .1)) ∙ length-replicate (length area) 0
+
+-- what the reversings come to
+verdict : (c : tie.After-settle) → (T : Presentation) → Of (c .before .before .before .before .before .before .before .before .before .before .before .before .before .before .before .before .args .cells .now) (c .before .before .before .before .before .before .before .before .before .before .before .before .before .before .before .before .args .size) T → (w v : Word) → readProgram (c .before .before .before .before .before .before .before .before .before .before .before .before .before .before .before .before .args .size) (c .before .before .before .before .before .before .before .before .before .before .before .before .before .before .before .before .args .first .now) ≡ answered w
+    → readProgram (c .before .before .before .before .before .before .before .before .before .before .before .before .before .before .before .before .args .size) (c .before .before .before .before .before .before .before .before .before .before .before .before .before .before .before .before .args .second .now) ≡ answered v
+    → comparedSigned (c .settle .result) ≡ signedOf T (c .before .before .before .before .before .before .before .before .before .before .before .before .before .before .before .before .args .budget) (length (c .before .before .before .before .before .before .before .before .before .before .before .before .before .before .before .before .args .workspace .now)) (reversing T (c .before .before .before .before .before .before .before .before .before .before .before .before .before .before .before .before .args .budget) (length (c .before .before .before .before .before .before .before .before .before .before .before .before .before .before .before .before .args .workspace .now)) (inverse w ++ v))
+verdict c T o w v ew ev =
+    let s = c .before .before .before .before .before .before .before .before .before .before .before .before .before .before .before .before in
+    c .settle .ensures .1 T (o .stands) (inverse w ++ v) (c .before .before .before .before .run-signed .ensures .1 T o w v ew ev)
+    ∙ ap (λ n. signedOf T (s .args .budget) n (reversing T (s .args .budget) n (inverse w ++ v))) (long (c .before .before .before .before))
+
+returns-2 : tie.Need-returns-2
+returns-2 c =
+    let s = c .before .before .before .before .before .before .before .before .before .before .before .before .before .before .before .before .before .before .before .before .before .before in
+    let p = s .pre in
+    let one = p .programs .one .program in
+    let two = p .programs .two .program in
+    let z = c .before .before .before .before .before .before .before .before .before .before .before .before .before .before .before .before .prepare in
+    let k = c .before .before .before .before .before .before in
+    let area = s .args .workspace .now in
+    let width = length area in
+    record {
+      workspace =
+          c .before .before .wipe .ensures ∙ ap (λ n. replicate n 0) (k .settle .ensures .0 ∙ long (k .before .before .before .before))
+          ∙ sym (ap (λ o. workspaceAfter o area) (verdict k (p .table) (p .of) (one .word) (two .word) (one .read) (two .read))
+          ∙ signed-late (p .table) (s .args .budget) width (reversing (p .table) (s .args .budget) width (inverse (one .word) ++ two .word)) area);
+      states = λ T o w v ew ev.
+          verdict k T o w v ew ev
+          ∙ sym (signed-runs T w v (s .args .budget) width (subst (λ x. clearedAs x ≡ prepared T (s .args .budget) width) (c .before .before .before .before .before .before .before .before .before .before .before .before .enum-told .given .1) (z .ensures .0 T o)));
+    }
+
+pub compare-loaded-spec : {M : Type 1} → statement M
+compare-loaded-spec =
+    tie.close
+    (tie.spec
+    (λ c κs. search needs)
+    (λ c. search needs)
+    (λ c. search needs)
+    (λ c κs. search needs)
+    settle-requires
+    (λ c κs. search needs)
+    (λ c. search needs)
+    returns
+    (λ c. search needs)
+    returns-2)

@@ -1,0 +1,54 @@
+-- `signed_comparing::compare_signed::compare_signed` meets its contract.
+use mathlib.Core.Path.{sym, ap, subst, _∙_}
+use lib.ListN.{length}
+use Rattle.model.specs.Areas.{workspaceAfter}
+use Rattle.model.specs.Images.{readProgram}
+use Rattle.cells.proofs.Rules.{blank-zeros}
+use Rattle.signed_comparing.specs.Running.{SignedDone}
+use Rattle.signed_comparing.proofs.Service.{read-refused, compare-runs, says}
+use borrow.Author.Needs.{needs}
+use Rattle.signed_comparing.proofs.compare_signed.compare_signed.Statement.{statement}
+use Rattle.signed_comparing.proofs.compare_signed.compare_signed.Tie as tie
+
+compare-loaded-requires : tie.Need-compare-loaded-requires
+compare-loaded-requires c κs =
+    let a = c .before .before .before .before .before .before .before .before .before .before .before .before .args in
+    let v = c .before .before .before .before .before .before .read-signed in
+    subst (SignedDone (a .table .now) (a .first .now) (a .second .now) (v .last .1 .1 .1 .0)) (c .before .before .before .read2 .given .1) (v .ensures) .runs
+
+returns : tie.Need-returns
+returns c =
+    let a = c .before .before .before .before .before .before .before .before .before .before .args in
+    let v = c .before .before .before .before .read-signed in
+    let e = subst (SignedDone (a .table .now) (a .first .now) (a .second .now) (v .last .1 .1 .1 .0)) (c .before .read .given .1) (v .ensures) in
+    let o = read-refused (a .table .now) (a .first .now) (a .second .now) (a .allowance) (length (a .workspace .now)) (c .before .read .given .0 .0) e in
+    (o .stated, (o .workspace (a .workspace .now), says (a .table .now) (a .first .now) (a .second .now) (a .allowance) (length (a .workspace .now)) _ (o .stated)))
+
+returns-2 : tie.Need-returns-2
+returns-2 c =
+    let a = c .before .before .before .before .before .before .before .before .before .before .before .before .before .before .before .args in
+    let v = c .before .before .before .before .before .before .before .before .before .read-signed in
+    let t = subst (SignedDone (a .table .now) (a .first .now) (a .second .now) (v .last .1 .1 .1 .0)) (c .before .before .before .before .before .before .read2 .given .1) (v .ensures) in
+    let T = t .runs .table in
+    let one = t .runs .programs .one .program in
+    let two = t .runs .programs .two .program in
+    let z = c .before .before .compare-loaded in
+    let sized = t .runs .of .sized in
+    let o =
+    z .ensures .states T (t .runs .of) (one .word) (two .word) (one .read) (two .read)
+    ∙ sym (compare-runs (a .table .now) (a .first .now) (a .second .now) (a .allowance) (length (a .workspace .now)) T (t .table-read) (one .word) (two .word) (ap (λ n. readProgram n (a .first .now)) sized ∙ one .read) (ap (λ n. readProgram n (a .second .now)) sized ∙ two .read)) in
+    (o, (z .ensures .workspace ∙ ap (λ x. workspaceAfter x (a .workspace .now)) o, says (a .table .now) (a .first .now) (a .second .now) (a .allowance) (length (a .workspace .now)) _ o))
+
+pub compare-signed-spec : {M : Type 1} → statement M
+compare-signed-spec =
+    tie.close
+    (tie.spec
+    (λ c. search needs)
+    (λ c κs. blank-zeros)
+    (λ c. search needs)
+    (λ c. search needs)
+    (λ c. search needs)
+    compare-loaded-requires
+    returns
+    (λ c. search needs)
+    returns-2)

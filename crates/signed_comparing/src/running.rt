@@ -1,0 +1,92 @@
+// Two programs of any signs, read and reversed: the first one's inverse, then the second.
+ghost use mathlib.Core.Path.{_≡_};
+ghost use Prim.Native.Nat.{_+_};
+ghost use lib.ListN.{length};
+ghost use Rattle.cells.specs.Stands.{Blank};
+ghost use Rattle.signed_comparing.specs.Running.{TwoAccepted, LoadsSigned, SignedRuns, SignedReverses, SignedDone};
+use engine::gap::Gap;
+use engine::run::reversing;
+use engine::words::invert;
+use images::programs::ProgramRead;
+use images::programs::read_program;
+use images::programs::unpack_letters;
+use images::tables::TableRead;
+use images::tables::read_table;
+use model::answers::Ending;
+use model::answers::Refusal;
+use model::answers::Stop;
+
+// A table of so many letters, and two programs of m and n letters.
+pub enum SignedRead {
+    Programs { size: u8, m: u16, n: u16 },
+    Refused(Refusal),
+}
+
+// Reads a table image into cells, then the images of two programs.
+pub fn read_signed(table: &[u8], first: &[u8], second: &[u8], cells: &mut [u8]) -> SignedRead
+    requires { ⌜ Blank (now cells) ⌝ }
+    ensures { λ r. ⌜ SignedDone (now (table .entry)) (now (first .entry)) (now (second .entry)) (now (cells .exit)) r ⌝ }
+{
+    let read = read_table(table, cells);
+    match read {
+        TableRead::Refused(refusal) => SignedRead::Refused(refusal),
+        TableRead::Table { size } => {
+            let one = read_program(first, size);
+            match one {
+                ProgramRead::Refused(refusal) => SignedRead::Refused(refusal),
+                ProgramRead::Program { count: m } => {
+                    let two = read_program(second, size);
+                    match two {
+                        ProgramRead::Refused(refusal) => SignedRead::Refused(refusal),
+                        ProgramRead::Program { count: n } => SignedRead::Programs { size, m, n },
+                    }
+                }
+            }
+        }
+    }
+}
+
+// The inverse of the first program, then the second, at the workspace's end, from `right` on: a site may begin in either.
+pub fn load_signed(
+    size: u8,
+    first: &[u8],
+    m: u16,
+    second: &[u8],
+    n: u16,
+    right: usize,
+    workspace: &mut [u8],
+)
+    requires programs { ⌜ TwoAccepted size (now first) m (now second) n ⌝ }
+    requires room { ⌜ right + (m + n) ≡ length (now workspace) ⌝ }
+    ensures { λ r. ⌜ LoadsSigned size (now (first .entry)) (now (second .entry)) right (now (workspace .entry)) (now (workspace .exit)) ⌝ }
+{
+    let left = m as usize;
+    unpack_letters(first, size, m, workspace, right);
+    invert(&mut workspace[right..], left);
+    unpack_letters(second, size, n, workspace, right + left);
+}
+
+// Reverses the first program's inverse, then the second program.
+pub fn run_signed(
+    cells: &[u8],
+    size: u8,
+    first: &[u8],
+    m: u16,
+    second: &[u8],
+    n: u16,
+    budget: u16,
+    workspace: &mut [u8],
+) -> Ending
+    requires { ⌜ SignedRuns (now cells) size (now first) m (now second) n ⌝ }
+    ensures length { λ r. ⌜ length (now (workspace .exit)) ≡ length (now (workspace .entry)) ⌝ }
+    ensures runs { λ r. ⌜ SignedReverses (now (cells .entry)) size (now (first .entry)) (now (second .entry)) budget (now (workspace .exit)) r ⌝ }
+{
+    let end = workspace.len();
+    let letters = m as usize + n as usize;
+    if end < letters {
+        return Ending::Stopped(Stop::Room);
+    }
+    let right = end - letters;
+    load_signed(size, first, m, second, n, right, workspace);
+    reversing(cells, workspace, Gap { left: 0, right }, budget)
+}
