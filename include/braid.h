@@ -42,6 +42,7 @@ enum {
     BRAID_MOST_COMPLETION = 15,     /* moves of a completion */
     BRAID_MOST_MOVES = 4095,        /* moves of a program in an image or in plain form */
     BRAID_MOST_ENTRIES = 65535,     /* entries of a chain */
+    BRAID_MOST_SET = 256,           /* words of the set that braid_compare_signed grows */
     BRAID_MOST_ALLOWANCE = 65535,   /* the largest allowance */
     BRAID_MOST_TABLE_BYTES = 1942,  /* the longest table image */
     BRAID_MOST_PLAIN_BYTES = 3857,  /* the longest plain table */
@@ -105,10 +106,12 @@ enum braid_result {
     BRAID_MIRROR_FAILS = 17,
     BRAID_OTHER_NUMBERS = 18,
     BRAID_NOT_PATTERN = 19,
-    BRAID_TOO_MANY_MOVES = 20
+    BRAID_TOO_MANY_MOVES = 20,
+    BRAID_SET_OPEN_PAIR = 21,
+    BRAID_SET_TOO_LARGE = 22
 };
 
-/* What values[0] means follows from call and result. An answer of compare or chain: */
+/* What values[0] means follows from call and result. An answer of compare, compare_signed or chain: */
 enum braid_verdict { BRAID_SAME = 0, BRAID_DIFFERENT = 1 };
 
 /* An answer of remainder: */
@@ -118,8 +121,8 @@ enum braid_remaining { BRAID_MOVES = 0, BRAID_NONE = 1 };
 enum braid_passage { BRAID_JOINS = 0, BRAID_BREAKS = 1, BRAID_ENDS_ELSEWHERE = 2 };
 
 /* A refusal: whether it names no place, a pair (its numbers in values[1] and values[2]), a triple of the table or one of its mirror (in values[1] to
- * values[3]); the others are 0 */
-enum braid_place { BRAID_NO_PLACE = 0, BRAID_PAIR = 1, BRAID_TRIPLE = 2, BRAID_MIRROR_TRIPLE = 3 };
+ * values[3]), or the set of braid_compare_signed; the others are 0 */
+enum braid_place { BRAID_NO_PLACE = 0, BRAID_PAIR = 1, BRAID_TRIPLE = 2, BRAID_MIRROR_TRIPLE = 3, BRAID_SET = 4 };
 
 /* A result for people. */
 static inline const char *braid_text(uint8_t result)
@@ -145,7 +148,9 @@ static inline const char *braid_text(uint8_t result)
         "a triple of the mirror breaks the cube rule",
         "the numbers handed in aren't those of this reversing",
         "the text is no pattern",
-        "the pattern means more than 4,095 moves"
+        "the pattern means more than 4,095 moves",
+        "growing the set met an open pair",
+        "the set would have more than 256 words"
     };
     return result < sizeof texts / sizeof *texts && texts[result] ? texts[result] : "no result of this library";
 }
@@ -224,6 +229,16 @@ BRAID_CALL uint8_t braid_mirror_clear(const uint8_t *table, size_t table_length,
  */
 BRAID_CALL uint8_t braid_compare(const uint8_t *table, size_t table_length, const uint8_t *first, size_t first_length, const uint8_t *second,
                                  size_t second_length, uint16_t allowance, uint8_t *workspace, size_t workspace_length, uint64_t *values);
+
+/*
+ * Compares two programs of any signs (6.18). They are the same exactly if a chain of swaps on forward moves that stand together, and of a move beside its undoing put in or taken
+ * out, leads from one to the other; a verdict is right. The table must have a mirror (16), and it and its mirror must clear (8, 9, 17). Then a set of words is grown in the workspace, from the
+ * empty word and the single moves, by adding each u\v of two of its words: 21 where an open pair is met, 22 where it passes BRAID_MOST_SET words; 11 and 12 meanwhile name the set, with
+ * BRAID_SET as their place. Once it is closed, two reversings decide, and meet no open pair.
+ * Values: BRAID_SAME or BRAID_DIFFERENT, steps of the first reversing, steps of the second, 0. Refusals: 1 to 6, 16, 8, 9, 17, 21, 22, 11, 12.
+ */
+BRAID_CALL uint8_t braid_compare_signed(const uint8_t *table, size_t table_length, const uint8_t *first, size_t first_length, const uint8_t *second,
+                                        size_t second_length, uint16_t allowance, uint8_t *workspace, size_t workspace_length, uint64_t *values);
 
 /*
  * As compare. After 'same' the answer area begins with the image of a chain that turns the first program into the second. It has an entry for each step of
