@@ -86,6 +86,10 @@ static void compare(void)
 {
     result = braid_compare(table, table_length, program, program_length, answer, program_length, 65535, workspace, AREA, values);
 }
+static void compare_signed(void)
+{
+    result = braid_compare_signed(table, table_length, program, program_length, answer, program_length, 65535, workspace, AREA, values);
+}
 static void list(void)
 {
     result = braid_chain(table, table_length, program, program_length, answer, program_length, 65535, workspace, AREA, chain, chain_length, values);
@@ -151,6 +155,7 @@ static void engine(void)
 {
     static const uint8_t braid3[] = {0x20, 0x04, 0x90, 0x86, 0x30, 0x92, 0x92, 0x60}, one[] = {0x00, 0x30, 0x40}, two[] = {0x00, 0x32, 0x08};
     static const uint8_t turned[] = {0x00, 0x21, 0x40}, signs[] = {0x00, 0x5C, 0x28, 0x20};
+    static const uint8_t back_last[] = {0x00, 0x30, 0x60}, back_first[] = {0x00, 0x3A, 0x08};
     size_t needed = braid_chain_bytes(3, 1);
     memcpy(table, braid3, table_length = sizeof braid3);
     memcpy(program, one, program_length = sizeof one);
@@ -174,6 +179,10 @@ static void engine(void)
     memcpy(program, turned, sizeof turned);
     answers("left_reverse", left_reverse);
     hold("1 -2 from the end after 1 step", values[0] == 2 && values[1] == 2 && values[2] == 1);
+    memcpy(program, back_last, sizeof back_last);
+    memcpy(answer, back_first, sizeof back_first);
+    answers("compare_signed", compare_signed);
+    hold("1 2 -1 and -2 1 2 are the same after 4 steps and 1", values[0] == BRAID_SAME && values[1] == 4 && values[2] == 1);
     memcpy(program, one, sizeof one);
     memcpy(answer, two, sizeof two);
     answers("compare", compare);
@@ -193,7 +202,7 @@ static void engine(void)
     hold("the moves of a table", braid_table_moves(table) == 3);
     hold("a move field's bits", braid_move_bits(1) == 0 && braid_move_bits(2) == 1 && braid_move_bits(9) == 4 && braid_move_bits(16) == 4);
     hold("the largest allowance", (uint16_t)BRAID_MOST_ALLOWANCE == BRAID_MOST_ALLOWANCE && (uint16_t)(BRAID_MOST_ALLOWANCE + 1) == 0);
-    hold("the last text", strcmp(braid_text(BRAID_TOO_MANY_MOVES), "the pattern means more than 4,095 moves") == 0);
+    hold("the last text", strcmp(braid_text(BRAID_SET_TOO_LARGE), "the set would have more than 256 words") == 0);
     hold("texts", strcmp(braid_text(BRAID_OPEN_PAIR), "the reversing met an open pair") == 0 && strcmp(braid_text(14), braid_text(200)) == 0);
 }
 

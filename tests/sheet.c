@@ -49,6 +49,9 @@ static const uint8_t image_121[] = {0x00, 0x30, 0x40};
 static const uint8_t plain_212[] = {2, 1, 2};
 static const uint8_t image_212[] = {0x00, 0x32, 0x08};
 
+/* Programs of no moves, in two places: no image may stand for both. */
+static const uint8_t empty_program[] = {0x00, 0x00}, empty_again[] = {0x00, 0x00};
+
 static const uint8_t nothing[] = {0};
 
 static int all_are(uint8_t byte, const uint8_t *bytes, size_t from, size_t to)
@@ -590,6 +593,76 @@ static void importing(void)
          nothing, 0);
 }
 
+/* Compares two programs of any signs with an allowance of 65,535 and a workspace of so many bytes. */
+static uint8_t compared_signed(const uint8_t *table, size_t table_length, const uint8_t *first, size_t first_length, const uint8_t *second,
+                               size_t second_length, size_t length)
+{
+    return braid_compare_signed(table, table_length, first, first_length, second, second_length, MOST_STEPS, workspace, length, values);
+}
+
+/* Two programs of no moves under a table. */
+static uint8_t compared_empty(const uint8_t *table, size_t table_length)
+{
+    return compared_signed(table, table_length, ALL_OF(empty_program), ALL_OF(empty_again), AREA);
+}
+
+static void signed_comparing(void)
+{
+    /* 1 2 -1, -2 1 2, 1 -2, -2 1 and 1 twice under n = 3; 1 -1 and -1 1 under n = 1; 1 -4 under n = 4. */
+    static const uint8_t image_12_1[] = {0x00, 0x30, 0x60}, image_2_12[] = {0x00, 0x3A, 0x08}, image_1_2[] = {0x00, 0x21, 0x40};
+    static const uint8_t image_2_1[] = {0x00, 0x2A, 0x00}, one[] = {0x00, 0x10}, one_again[] = {0x00, 0x10};
+    static const uint8_t there_and_back[] = {0x00, 0x24}, back_and_there[] = {0x00, 0x28}, image_1_4[] = {0x00, 0x21, 0xC0};
+    /* The braid table of 4 moves, and its plain form. */
+    static const uint8_t braid4[] = {0x30, 0x00, 0x92, 0x10, 0xC6, 0x12, 0x38, 0x92, 0x92, 0x68, 0xE2, 0xCB, 0x8A, 0xC0};
+    static const uint8_t braid4_plain[] = {4, 1, 1, 1, 1, 2, 2, 1, 2, 1, 2, 1, 3, 1, 1, 1, 4, 1, 1, 2, 3, 2, 2, 2, 3, 1, 4, 1, 2, 2, 4, 3, 2, 3, 4};
+    /* Images with a fault under n = 3. */
+    static const uint8_t cut[] = {0x00}, bits_set[] = {0x00, 0x11}, no_move[] = {0x00, 0x16};
+    table_forms("the braid table of 4 moves", ALL_OF(braid4_plain), ALL_OF(braid4));
+    hold("1 2 -1 is the same as -2 1 2, 4 steps and 1", compared_signed(ALL_OF(braid3), ALL_OF(image_12_1), ALL_OF(image_2_12), 1000), BRAID_ANSWER,
+         "0 4 1 0", 1000, nothing, 0);
+    hold("1 is the same as 1, 1 step and none", compared_signed(ALL_OF(braid3), ALL_OF(one), ALL_OF(one_again), 1000), BRAID_ANSWER, "0 1 0 0", 1000,
+         nothing, 0);
+    hold("1 -2 is different from -2 1, 2 steps and 2", compared_signed(ALL_OF(braid3), ALL_OF(image_1_2), ALL_OF(image_2_1), AREA), BRAID_ANSWER,
+         "1 2 2 0", AREA, nothing, 0);
+    hold("1 is different from no moves by weight", compared_signed(ALL_OF(braid3), ALL_OF(one), ALL_OF(empty_program), AREA), BRAID_ANSWER, "1 0 0 0", AREA,
+         nothing, 0);
+    hold("the set of 36 words in 166 bytes", compared_signed(ALL_OF(braid3), ALL_OF(image_12_1), ALL_OF(image_2_12), 166), BRAID_ANSWER, "0 4 1 0", 166,
+         nothing, 0);
+    hold("165 give 12 with the set", compared_signed(ALL_OF(braid3), ALL_OF(image_12_1), ALL_OF(image_2_12), 165), BRAID_WORKSPACE_SHORT, "4 0 0 0", 165,
+         nothing, 0);
+    hold("10 give 12 at a triple", compared_signed(ALL_OF(braid3), ALL_OF(image_12_1), ALL_OF(image_2_12), 10), BRAID_WORKSPACE_SHORT, "2 1 2 3", 10,
+         nothing, 0);
+    hold("allowance 4 gives 11 at a triple",
+         braid_compare_signed(ALL_OF(braid3), ALL_OF(image_12_1), ALL_OF(image_2_12), 4, ALL_OF(workspace), values), BRAID_ALLOWANCE_USED, "2 1 2 3", AREA,
+         nothing, 0);
+    hold("allowance 15 gives 11 with the set",
+         braid_compare_signed(ALL_OF(braid3), ALL_OF(image_12_1), ALL_OF(image_2_12), 15, ALL_OF(workspace), values), BRAID_ALLOWANCE_USED, "4 0 0 0", AREA,
+         nothing, 0);
+    hold("allowance 16 suffices", braid_compare_signed(ALL_OF(braid3), ALL_OF(image_12_1), ALL_OF(image_2_12), 16, ALL_OF(workspace), values),
+         BRAID_ANSWER, "0 4 1 0", AREA, nothing, 0);
+    hold("1 -1 is the same as -1 1 in 5 bytes", compared_signed(ALL_OF(one_move), ALL_OF(there_and_back), ALL_OF(back_and_there), 5), BRAID_ANSWER,
+         "0 1 1 0", 5, nothing, 0);
+    hold("4 bytes give 12 with its set", compared_signed(ALL_OF(one_move), ALL_OF(there_and_back), ALL_OF(back_and_there), 4), BRAID_WORKSPACE_SHORT,
+         "4 0 0 0", 4, nothing, 0);
+    hold("no bytes give it, too", compared_signed(ALL_OF(one_move), ALL_OF(empty_program), ALL_OF(empty_again), 0), BRAID_WORKSPACE_SHORT, "4 0 0 0", 0,
+         nothing, 0);
+    hold("the set of 4 moves gives 22", compared_empty(ALL_OF(braid4)), BRAID_SET_TOO_LARGE, "0 0 0 0", AREA, nothing, 0);
+    hold("also with moves", compared_signed(ALL_OF(braid4), ALL_OF(image_1_4), ALL_OF(empty_program), AREA), BRAID_SET_TOO_LARGE, "0 0 0 0", AREA, nothing, 0);
+    hold("an open pair gives 21 with 1, 2", compared_empty(ALL_OF(open_pair)), BRAID_SET_OPEN_PAIR, "1 1 2 0", AREA, nothing, 0);
+    hold("no mirror of 1 2 = 2 2", compared_empty(ALL_OF(one_last_move)), BRAID_NO_MIRROR, "1 1 2 0", 0, nothing, 0);
+    hold("unequal weights", compared_empty(ALL_OF(unequal)), BRAID_UNEQUAL_WEIGHTS, "1 1 2 0", 0, nothing, 0);
+    hold("no mirror comes before the cube rule", compared_empty(ALL_OF(broken_cube)), BRAID_NO_MIRROR, "1 2 3 0", 0, nothing, 0);
+    hold("a mirror that does not clear gives 17", compared_empty(ALL_OF(one_way)), BRAID_MIRROR_FAILS, "3 1 3 2", AREA, nothing, 0);
+    hold("a cut second program gives 4 before 16", compared_signed(ALL_OF(one_last_move), ALL_OF(empty_program), ALL_OF(cut), AREA), BRAID_IMAGE_ENDS,
+         "0 0 0 0", 0, nothing, 0);
+    hold("a field that is no move gives 5", compared_signed(ALL_OF(braid3), ALL_OF(no_move), ALL_OF(cut), AREA), BRAID_IMAGE_FIELD, "0 0 0 0", 0, nothing,
+         0);
+    hold("a set bit behind a program gives 6", compared_signed(ALL_OF(braid3), ALL_OF(bits_set), ALL_OF(cut), AREA), BRAID_IMAGE_TAIL, "0 0 0 0", 0,
+         nothing, 0);
+    hold("a cut table gives 1 before 4", compared_signed(braid3, sizeof braid3 - 1, ALL_OF(cut), ALL_OF(empty_program), AREA), BRAID_TABLE_ENDS, "0 0 0 0", 0,
+         nothing, 0);
+}
+
 int main(void)
 {
     as_found();
@@ -607,6 +680,7 @@ int main(void)
     ways();
     enquiring();
     importing();
+    signed_comparing();
     printf("%d passed, %d failed\n", passed, failed);
     return failed != 0;
 }

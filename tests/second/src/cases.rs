@@ -4,6 +4,7 @@ mod bed;
 mod enquiry;
 mod import;
 mod mirror;
+mod signed;
 mod ways;
 
 use crate::chain::follow;
@@ -21,6 +22,7 @@ use crate::word::{bytes, undoing, Word};
 pub use enquiry::Enquired;
 pub use import::Imported;
 pub use mirror::Mirrored;
+pub use signed::Signed;
 use std::collections::BTreeMap;
 
 /// What comes of weights where lengths alone would say otherwise.
@@ -120,6 +122,7 @@ pub struct Tally {
     /// Answers of import held against those of their moves one by one, and of their text under a minus.
     pub imports: [usize; 2],
     pub imported: BTreeMap<Imported, usize>,
+    pub signed: BTreeMap<Signed, usize>,
 }
 
 impl Tally {
@@ -158,6 +161,9 @@ impl Tally {
         for (key, count) in &other.imported {
             *self.imported.entry(*key).or_default() += count;
         }
+        for (key, count) in &other.signed {
+            *self.signed.entry(*key).or_default() += count;
+        }
     }
 
     fn note(&mut self, what: Weighed, holds: bool) {
@@ -182,6 +188,7 @@ fn name(call: &Call) -> &'static str {
         Call::Clear { .. } => "clear",
         Call::MirrorClear { .. } => "mirror clear",
         Call::Compare { .. } => "compare",
+        Call::CompareSigned { .. } => "compare signed",
         Call::Chain { .. } => "chain",
         Call::Remainder { .. } => "remainder",
         Call::Check { .. } => "check",
@@ -195,9 +202,12 @@ fn name(call: &Call) -> &'static str {
     }
 }
 
-/// The first value tells verdicts apart, and whether a stop was at a triple; elsewhere it is a length.
+/// The first value tells verdicts apart, and whether a stop was at a triple, of which table, or in a set; elsewhere it is a length.
 fn told_apart(call: &Call, left: &Left) -> u64 {
-    let verdict = matches!(call, Call::Compare { .. } | Call::Chain { .. } | Call::Remainder { .. } | Call::Check { .. });
+    let verdict = matches!(
+        call,
+        Call::Compare { .. } | Call::CompareSigned { .. } | Call::Chain { .. } | Call::Remainder { .. } | Call::Check { .. }
+    );
     if verdict || left.result != 0 {
         left.values[0]
     } else {
@@ -215,7 +225,7 @@ type Held<T> = Result<T, String>;
 /// Runs the case of a seed; the error has all that is needed to see it again.
 pub fn run(seed: u64, tally: &mut Tally) -> Held<()> {
     let mut case = Case { random: Random::new(seed), tally };
-    let held = match case.random.below(110) {
+    let held = match case.random.below(120) {
         0..=15 => case.reversing(),
         16..=23 => case.clearing(),
         24..=36 => case.comparing(),
@@ -227,6 +237,7 @@ pub fn run(seed: u64, tally: &mut Tally) -> Held<()> {
         88..=93 => case.ways(),
         94..=99 => case.enquiry(),
         100..=109 => case.import(),
+        110..=119 => case.signed(),
         _ => match case.random.below(16) {
             0..=1 => case.many_steps(),
             2..=3 => case.given_growth(),

@@ -78,6 +78,18 @@ extern "C" {
         workspace_length: usize,
         values: *mut u64,
     ) -> u8;
+    fn braid_compare_signed(
+        table: *const u8,
+        table_length: usize,
+        first: *const u8,
+        first_length: usize,
+        second: *const u8,
+        second_length: usize,
+        allowance: u16,
+        workspace: *mut u8,
+        workspace_length: usize,
+        values: *mut u64,
+    ) -> u8;
     fn braid_chain(
         table: *const u8,
         table_length: usize,
@@ -263,6 +275,23 @@ pub fn mirror_clear(table: &[u8], allowance: u16, workspace: &mut [u8]) -> Told 
 pub fn compare(table: &[u8], first: &[u8], second: &[u8], allowance: u16, workspace: &mut [u8]) -> Told {
     told(|values| unsafe {
         braid_compare(
+            table.as_ptr(),
+            table.len(),
+            first.as_ptr(),
+            first.len(),
+            second.as_ptr(),
+            second.len(),
+            allowance,
+            workspace.as_mut_ptr(),
+            workspace.len(),
+            values,
+        )
+    })
+}
+
+pub fn compare_signed(table: &[u8], first: &[u8], second: &[u8], allowance: u16, workspace: &mut [u8]) -> Told {
+    told(|values| unsafe {
+        braid_compare_signed(
             table.as_ptr(),
             table.len(),
             first.as_ptr(),

@@ -5,6 +5,7 @@ use crate::image::{chain_image, read_chain, read_forward, read_table};
 use crate::outcome::{Listing, Passage, Place, Refusal, Remainder, Verdict};
 use crate::reversing::{Limits, Most};
 use crate::services;
+use crate::signed::Decision;
 use crate::word::bytes;
 
 /// What a call must leave. The answer area begins with `written`; after 'same' a chain call's area begins instead with a chain of exactly as many
@@ -41,6 +42,7 @@ impl Expected {
             Place::Pair(a, b) => [1, a.into(), b.into(), 0],
             Place::Triple(a, b, c) => [2, a.into(), b.into(), c.into()],
             Place::MirrorTriple(a, b, c) => [3, a.into(), b.into(), c.into()],
+            Place::Set => [4, 0, 0, 0],
         };
         Expected { result: refusal.number, values, written: Vec::new(), listed: None }
     }
@@ -48,6 +50,10 @@ impl Expected {
 
 fn verdict_values((verdict, steps): (Verdict, usize)) -> [u64; 4] {
     [u64::from(verdict == Verdict::Different), steps as u64, 0, 0]
+}
+
+fn decision_values(Decision { verdict, first, second }: Decision) -> [u64; 4] {
+    [u64::from(verdict == Verdict::Different), first as u64, second as u64, 0]
 }
 
 /// What the second implementation says of a call with areas of those lengths.
@@ -72,6 +78,8 @@ pub fn expected(call: &Call, workspace: usize, answer: usize, most: &mut Most) -
         }
         Call::Compare { table, first, second, allowance } => services::compare(table, first, second, limits(allowance), most)
             .map(|verdict| Expected::answer(verdict_values(verdict), Vec::new())),
+        Call::CompareSigned { table, first, second, allowance } => services::compare_signed(table, first, second, limits(allowance), most)
+            .map(|decision| Expected::answer(decision_values(decision), Vec::new())),
         Call::Chain { table, first, second, allowance } => {
             services::chain(table, first, second, limits(allowance), answer, most).map(Expected::listing)
         }

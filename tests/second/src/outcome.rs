@@ -9,6 +9,8 @@ pub enum Place {
     Triple(u8, u8, u8),
     /// A triple of the mirror.
     MirrorTriple(u8, u8, u8),
+    /// The set of compare_signed.
+    Set,
 }
 
 #[derive(Clone, Copy, Debug, PartialEq)]

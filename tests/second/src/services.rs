@@ -7,6 +7,7 @@ use crate::notation::{highest, meaning, read, size};
 use crate::outcome::{Listing, Passage, Place, Refusal, Remainder, Verdict};
 use crate::plain::{plain_table, read_plain_program, read_plain_table};
 use crate::reversing::{reverse as run, Ending, Limits, Most};
+use crate::signed::{self, Decision};
 use crate::table::Table;
 use crate::tables::{braid, fitting as swaps};
 use crate::word::{bytes, undoing, Word};
@@ -158,7 +159,7 @@ pub fn weights_agree(table: &Table) -> Result<(), Refusal> {
 }
 
 /// The cube check of a table or of a mirror: the refusal of a triple that fails, and how a triple is told.
-fn cubes_hold(table: &Table, number: u8, told: fn(u8, u8, u8) -> Place, limits: Limits, most: &mut Most) -> Result<(), Refusal> {
+pub fn cubes_hold(table: &Table, number: u8, told: fn(u8, u8, u8) -> Place, limits: Limits, most: &mut Most) -> Result<(), Refusal> {
     for (a, b) in Table::pair_order(table.moves) {
         for c in (1..=table.moves).filter(|c| *c != a && *c != b) {
             let place = told(a, b, c);
@@ -207,6 +208,14 @@ fn compared(table: &Table, first: &[u8], second: &[u8], limits: Limits, most: &m
 
 pub fn compare(table: &[u8], first: &[u8], second: &[u8], limits: Limits, most: &mut Most) -> Result<(Verdict, usize), Refusal> {
     compared(&read_table(table)?, first, second, limits, most).map(|(verdict, steps, _)| (verdict, steps))
+}
+
+/// Compares two programs of any signs.
+pub fn compare_signed(table: &[u8], first: &[u8], second: &[u8], limits: Limits, most: &mut Most) -> Result<Decision, Refusal> {
+    let table = read_table(table)?;
+    let first = read_program(first, table.moves)?;
+    let second = read_program(second, table.moves)?;
+    signed::compared(&table, &first, &second, limits, most)
 }
 
 /// As compare. Which chain is listed is left open but for its number of entries, so the result has none.

@@ -1,5 +1,6 @@
 //! Random tables of several families, and words over them.
 pub mod mirror;
+pub mod signed;
 
 use crate::chain::{side, swapped};
 use crate::image::Entry;

@@ -10,6 +10,11 @@ use second::table::Table;
 use second::tables::mirror::clears_alone;
 use second::tables::{braid, doubled, growing};
 
+fn signed(table: &Table, first: &[i8], second: &[i8], allowance: u16) -> Call {
+    let [first, second] = [first, second].map(|word| program_image(table.moves, word));
+    Call::CompareSigned { table: table_image(table), first, second, allowance }
+}
+
 /// A call, and whether it is refused with the workspace as found.
 fn calls() -> Vec<(Call, bool)> {
     let table = table_image(&braid(3));
@@ -49,10 +54,23 @@ fn calls() -> Vec<(Call, bool)> {
         (Call::MirrorClear { table: t.clone(), allowance: 100 }, false),
         (Call::MirrorClear { table: t.clone(), allowance: 4 }, false),
         (Call::MirrorClear { table: one_way, allowance: 100 }, false),
-        (Call::MirrorClear { table: mirrorless, allowance: 100 }, true),
+        (Call::MirrorClear { table: mirrorless.clone(), allowance: 100 }, true),
         (Call::MirrorClear { table: vec![0x10, 0x25, 0x0C], allowance: 100 }, true),
         (Call::Compare { table: t.clone(), first: f.clone(), second: s.clone(), allowance: 100 }, false),
         (Call::Compare { table: t.clone(), first: program.clone(), second: s.clone(), allowance: 100 }, true),
+        (signed(&braid(2), &[1, 2, -1], &[-2, 1, 2], 100), false),
+        (signed(&braid(2), &[1, -2], &[-2, 1], 100), false),
+        (signed(&braid(2), &[1], &[], 100), false),
+        (signed(&braid(2), &[-1; 9], &[2; 9], 5), false),
+        (signed(&braid(2), &[1], &[2], 2), false),
+        (signed(&braid(2), &[-1; 20], &[2; 21], 100), false),
+        (signed(&braid(3), &[1], &[2], 100), false),
+        (signed(&braid(3), &[1], &[2], 4), false),
+        (signed(&Table::light(2, vec![None]), &[1], &[2], 100), false),
+        (signed(&clears_alone(), &[1], &[2], 100), false),
+        (signed(&doubled().weighing(vec![1, 1]), &[1], &[2], 100), true),
+        (Call::CompareSigned { table: mirrorless, first: vec![0x00, 0x00], second: vec![0x00, 0x00], allowance: 100 }, true),
+        (Call::CompareSigned { table: t.clone(), first: f.clone(), second: vec![], allowance: 100 }, true),
         (Call::Chain { table: t.clone(), first: f.clone(), second: s.clone(), allowance: 100 }, false),
         (Call::Remainder { table: t.clone(), done: program_image(3, &[2]), pattern: f.clone(), allowance: 100 }, false),
         (Call::Remainder { table: t.clone(), done: f.clone(), pattern: program_image(3, &[2]), allowance: 100 }, false),

@@ -6,7 +6,10 @@ use second::outcome::{Listing, Passage, Place, Refusal, Remainder, Verdict};
 use second::plain::{plain_table, read_plain_table};
 use second::random::Random;
 use second::reversing::{Ending, Limits, Most};
-use second::services::{bed, chain, check, clear, commit, compare, enquire, import, left_reverse, mirror_clear, remainder, reverse, ways};
+use second::services::{
+    bed, chain, check, clear, commit, compare, compare_signed, enquire, import, left_reverse, mirror_clear, remainder, reverse, ways,
+};
+use second::signed::Decision;
 use second::table::Table;
 use second::tables::mirror::clears_alone;
 use second::tables::{braid, doubled, growing, twins};
@@ -417,4 +420,31 @@ fn imports() {
     assert_eq!(of("((((((((1^99)^99)^99)^99)^99)^99)^99)^99)^99", 9), refused(20));
     assert_eq!(of("((((((((1^99)^99)^99)^99)^99)^99)^99)^99)^0", 0), Ok(vec![]));
     assert_eq!(import(&[], b"x", 9), refused(1));
+}
+
+fn signed(table: &Table, first: &[i8], second: &[i8], workspace: usize) -> Result<(Verdict, [usize; 2]), Refusal> {
+    let [first, second] = [first, second].map(|word| program_image(table.moves, word));
+    let limits = Limits { workspace, ..WIDE };
+    let decided = compare_signed(&table_image(table), &first, &second, limits, &mut Most::default());
+    decided.map(|Decision { verdict, first, second }| (verdict, [first, second]))
+}
+
+#[test]
+fn signed_comparisons() {
+    use Verdict::{Different, Same};
+    assert_eq!(signed(&braid(3), &[1, 2, -1], &[-2, 1, 2], 1_000), Ok((Same, [4, 1])));
+    assert_eq!(signed(&braid(3), &[1], &[1], 1_000), Ok((Same, [1, 0])));
+    assert_eq!(signed(&braid(3), &[1, -2], &[-2, 1], 1_000), Ok((Different, [2, 2])));
+    assert_eq!(signed(&braid(3), &[1], &[], 1_000), Ok((Different, [0, 0])));
+    let in_set = |number| Err(Refusal::at(number, Place::Set));
+    assert_eq!([5, 4].map(|w| signed(&braid(1), &[1, -1], &[-1, 1], w)), [Ok((Same, [1, 1])), in_set(12)]);
+    for word in [vec![], vec![1, -4], vec![2, 3, -2]] {
+        assert_eq!(signed(&braid(4), &word, &[], 32_768), Err(Refusal::plain(22)));
+    }
+    let pair = |number, a, b| Err(Refusal::at(number, Place::Pair(a, b)));
+    assert_eq!(signed(&Table::light(2, vec![None]), &[], &[], 32_768), pair(21, 1, 2));
+    assert_eq!(signed(&one_last_move(), &[], &[], 32_768), pair(16, 1, 2));
+    assert_eq!(signed(&doubled().weighing(vec![1, 1]), &[], &[], 32_768), pair(8, 1, 2));
+    assert_eq!(signed(&no_cube(), &[], &[], 32_768), pair(16, 2, 3));
+    assert_eq!(signed(&clears_alone(), &[], &[], 32_768), Err(Refusal::at(17, Place::MirrorTriple(1, 3, 2))));
 }

@@ -3,7 +3,7 @@
 //!     soak [--calls N | --minutes M] [--seed S] [--case SEED]
 //!
 //! Cases are numbered from the seed on. A case that fails is printed with its number and bytes; `--case` runs that one again.
-use second::cases::{run, Enquired, Imported, Listed, Mirrored, Tally, Weighed};
+use second::cases::{run, Enquired, Imported, Listed, Mirrored, Signed, Tally, Weighed};
 use std::process::ExitCode;
 use std::sync::atomic::{AtomicBool, AtomicU64, AtomicUsize, Ordering};
 use std::sync::Mutex;
@@ -54,6 +54,8 @@ fn met(tally: &Tally) -> Vec<String> {
         want(service, &[(0, 0), (0, 1)]);
         want(service, &stops);
     }
+    want("compare signed", &[(0, 0), (0, 1), (1, 0), (2, 0), (3, 0), (4, 0), (5, 0), (6, 0), (8, 1), (9, 2), (16, 1), (17, 3)]);
+    want("compare signed", &[(11, 0), (11, 2), (11, 3), (11, 4), (12, 0), (12, 2), (12, 3), (12, 4), (21, 1), (22, 0)]);
     want("chain", &[(13, 0)]);
     want("remainder", &[(13, 0)]);
     want("check", &[(0, 0), (0, 1), (0, 2), (1, 0), (2, 0), (3, 0), (4, 0), (5, 0), (6, 0), (7, 0), (12, 0)]);
@@ -97,6 +99,9 @@ fn met(tally: &Tally) -> Vec<String> {
     }
     for what in Imported::ALL.iter().filter(|what| !tally.imported.contains_key(what)) {
         missing.push(format!("texts never led to {what:?}"));
+    }
+    for what in Signed::ALL.iter().filter(|what| !tally.signed.contains_key(what)) {
+        missing.push(format!("programs of any signs never led to {what:?}"));
     }
     missing
 }
@@ -157,6 +162,9 @@ fn main() -> ExitCode {
         println!("{what:?} {count}");
     }
     for (what, count) in &tally.imported {
+        println!("{what:?} {count}");
+    }
+    for (what, count) in &tally.signed {
         println!("{what:?} {count}");
     }
     for failure in &failures {

@@ -38,7 +38,7 @@ fn ended(random: &mut Random, moves: u8, longest: usize, open: usize, level: boo
 
 /// All sides are the same, and each ends in another move: 1 2 = 2 3 = 3 1 is one. Such a table clears, and its reversings finish where completions have
 /// one move. The last moves go round in one cycle, so that from three moves on it is not its own mirror.
-fn whole(random: &mut Random, moves: u8) -> Table {
+pub(super) fn whole(random: &mut Random, moves: u8) -> Table {
     let between = random.pick(&[0, 0, 0, 1, 2]);
     let mut ends: Vec<i8> = (1..=moves as i8).collect();
     for k in (1..ends.len()).rev() {
