@@ -1,22 +1,22 @@
 -- Cases of specification 6.18, computed of the definitions of Signed.antt: the order of the pairs, the room beside the set, what is added to it, sets,
 -- verdicts with the steps of both reversings, stops of the set and of the programs, and each refusal in its place.
-use mathlib.Core.List.{List, [], _∷_, _++_, map}
+use mathlib.Core.List.{List, [], _∷_, _++_}
 use mathlib.Core.Path.{refl}
-use Prim.Native.Nat.{ℕ, suc, _-_}
+use Prim.Native.Nat.{ℕ}
 use lib.ListN.{length, replicate}
 use Rattle.model.specs.Word.{forward, back, Word, positive, negative}
-use Rattle.model.specs.Presentation.{Presentation, Complement, undefined, complement, complete}
+use Rattle.model.specs.Presentation.{Presentation, undefined, complement, complete}
 use Rattle.model.specs.Reversing.{finished, open-pair, stopped, budget, room, next, run, reversing}
-use Rattle.model.specs.Enumeration.{range, Two}
+use Rattle.model.specs.Enumeration.{Two}
 use Rattle.model.specs.Bits.{field, finish}
 use Rattle.model.specs.Images.{readTable, readProgram, tableImage, programImage}
 use Rattle.model.specs.Outcome.{unplaced, pair-of, triple-of, mirror-triple-of, the-set, Outcome, answered, refused, mapped}
 use Rattle.model.specs.Checks.{under, side, against, cubeAt, cleared}
 use Rattle.model.specs.Mirror.{mirror, mirrorCheck}
 use Rattle.model.specs.Areas.{workspaceAfter}
-use Rattle.model.specs.Signed.{firstWords, placesAt, setBytes, beside, addedTo, grownFrom, grownSet, SignedVerdict, same-after-both, different-after-both, signedComparison, compareSigned}
+use Rattle.model.specs.Signed.{firstWords, placesAt, setBytes, beside, addedTo, takenPairs, grownFrom, grownSet, SignedVerdict, same-after-both, different-after-both, signedComparison, compareSigned}
 use Rattle.model.proofs.Case.{Case, _gives_, All}
-use Rattle.model.proofs.Samples.{braid1, braid2, braid3, open2, three, broken3, unequal2, heavy2, mirrorFails3, image, log, braidBytes}
+use Rattle.model.proofs.Samples.{braid1, braid2, open2, three, broken3, unequal2, heavy2, mirrorFails3, image, log, braidBytes}
 
 -- TABLES AND CALLS
 
@@ -34,14 +34,9 @@ openLater4 =
           (complement (2 ∷ []) (1 ∷ []) ∷ complement (3 ∷ []) (1 ∷ []) ∷ undefined ∷ []) ∷ (undefined ∷ undefined ∷ []) ∷ (undefined ∷ []) ∷ [] ∷ [];
     }
 
--- 16 letters, C(a,b) = b a but for the pair 15, 16: each pair before it brings two new words to the set, which makes 255 with the empty word and the letters
-abbrev many16 : Complement → Presentation
-many16 c =
-    record {
-      size = 16;
-      excess = replicate 16 0;
-      rows = map (λ a. map (λ b. complement (b ∷ a ∷ []) (a ∷ b ∷ [])) (range (suc a) (16 - a))) (range 1 14) ++ ((c ∷ []) ∷ [] ∷ []);
-    }
+-- 1 2 1 = 2 1 2, and 3 commutes with both
+abbrev apart3 : Presentation
+apart3 = three (complement (2 ∷ 1 ∷ []) (1 ∷ 2 ∷ [])) (complement (3 ∷ []) (1 ∷ [])) (complement (3 ∷ []) (2 ∷ []))
 
 -- two places
 abbrev at : ℕ → ℕ → Two
@@ -106,11 +101,12 @@ sets =
     -- a word is added after the pair that brings it, not by its letters
     (grownSet heavy2 4 22 gives answered ([] ∷ (1 ∷ []) ∷ (2 ∷ []) ∷ (2 ∷ 1 ∷ []) ∷ (2 ∷ 1 ∷ 2 ∷ []) ∷ (1 ∷ 2 ∷ []) ∷ [])) ∷
     (grownSet heavy2 4 21 gives refused 12 the-set) ∷
-    -- 36 words of three moves
-    (mapped length (grownSet braid3 16 166) gives answered 36) ∷
-    -- the 257th word; 256 words, and then 1 2 once more, after which a pair takes 2 steps
-    (grownSet (many16 (complement (16 ∷ 15 ∷ []) (15 ∷ 16 ∷ []))) 1 1000 gives refused 22 unplaced) ∷
-    (grownSet (many16 (complement (16 ∷ 15 ∷ []) (1 ∷ 2 ∷ []))) 1 1000 gives refused 11 the-set) ∷ []
+    -- three moves: 3 commutes with the others and brings no word
+    (grownSet apart3 3 19 gives answered ([] ∷ (1 ∷ []) ∷ (2 ∷ []) ∷ (3 ∷ []) ∷ (2 ∷ 1 ∷ []) ∷ (1 ∷ 2 ∷ []) ∷ [])) ∷
+    (grownSet apart3 3 18 gives refused 12 the-set) ∷
+    -- 2 1 as the 257th word; as the 256th, after which a pair takes 2 steps
+    (takenPairs braid2 1 1000 (at 0 1 ∷ []) ((1 ∷ []) ∷ (2 ∷ []) ∷ replicate 254 []) gives refused 22 unplaced) ∷
+    (takenPairs braid2 1 1000 (at 0 1 ∷ at 255 255 ∷ []) ((1 ∷ []) ∷ (2 ∷ []) ∷ replicate 253 []) gives refused 11 the-set) ∷ []
 
 -- THE PROGRAMS
 
@@ -138,7 +134,7 @@ sames =
     -- 1 2 1 = 2 2, where 2 weighs 2
     (underH (forward 1 ∷ forward 2 ∷ forward 1 ∷ back 2 ∷ []) (forward 2 ∷ []) 100 100 gives answered (same-after-both 3 1)) ∷
     -- three moves: 3 -1 2 and -1 3 2
-    (compareSigned braidBytes (log 3 (forward 3 ∷ back 1 ∷ forward 2 ∷ [])) (log 3 (back 1 ∷ forward 3 ∷ forward 2 ∷ [])) 16 166
+    (compareSigned (image apart3) (log 3 (forward 3 ∷ back 1 ∷ forward 2 ∷ [])) (log 3 (back 1 ∷ forward 3 ∷ forward 2 ∷ [])) 100 100
     gives answered (same-after-both 6 2)) ∷ []
 
 abbrev pub differents : List {1} Case
@@ -224,7 +220,7 @@ unfolding complete mirrorCheck cleared reversing run next under side against cub
 signed-cases-hold =
     record {
       growings-hold = (refl, (refl, (refl, (refl, (refl, (refl, (refl, (refl, (refl, (refl, (refl, (refl, (refl, (refl, (refl, (refl, (refl, tt)))))))))))))))));
-      sets-hold = (refl, (refl, (refl, (refl, (refl, (refl, (refl, (refl, (refl, (refl, (refl, (refl, (refl, (refl, (refl, (refl, tt))))))))))))))));
+      sets-hold = (refl, (refl, (refl, (refl, (refl, (refl, (refl, (refl, (refl, (refl, (refl, (refl, (refl, (refl, (refl, (refl, (refl, tt)))))))))))))))));
       sames-hold = (refl, (refl, (refl, (refl, (refl, (refl, (refl, (refl, (refl, (refl, (refl, (refl, (refl, (refl, (refl, (refl, tt))))))))))))))));
       differents-hold = (refl, (refl, (refl, (refl, (refl, (refl, (refl, (refl, (refl, (refl, tt))))))))));
       stops-hold = (refl, (refl, (refl, (refl, (refl, (refl, (refl, (refl, (refl, (refl, (refl, (refl, tt))))))))))));
