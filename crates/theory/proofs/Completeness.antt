@@ -9,7 +9,7 @@ use native.Mathlib.Decide.{ℕ-discrete}
 use Rattle.model.specs.Word.{Positive}
 use Rattle.model.specs.Presentation.{Complement, complement, swapped, total}
 use Rattle.model.proofs.Equiv.{Equiv, Swap, done, step, trans, one, by-eq, prefix, suffix, symm, total-append, Homogeneous, weight-kept}
-use Rattle.theory.proofs.Grid.{Grid, left-nil, cell, top, recast, beside, split, below, same-grid, itself, sound, turned, unstack}
+use Rattle.theory.proofs.Grid.{Grid, Split, left-nil, cell, top, recast, beside, split, below, same-grid, itself, sound, turned, unstack}
 
 -- (b\a)\(b\c) is defined, and joined to the word n
 pub record Closes (f : ℕ → ℕ → Complement) (b c : ℕ) (ba n : Positive) : Type 0 where
@@ -39,18 +39,10 @@ pub record Changed (f : ℕ → ℕ → Complement) (u v n d : Positive) : Type 
 
 module _ (weight : ℕ → ℕ) (weighs : (a : ℕ) → 1 ≤ weight a) {f : ℕ → ℕ → Complement} (same : (a : ℕ) → f a a ≡ complement [] [])
     (turn : (a b : ℕ) → f b a ≡ swapped (f a b)) (even : Homogeneous weight f) (cube : Cube f) where
-  -- one letter against the two sides of a relation
-  letter-apart : (a b c : ℕ) {ab ba z e : Positive} {k : ℕ} → a ≢ b → a ≢ c → b ≢ c → f a b ≡ complement ab ba → Grid f (c ∷ []) (a ∷ ab) z e k
-      → Changed f (c ∷ []) (b ∷ ba) z e
-  letter-apart a b c {ab} {ba} {z} {e} a≢b a≢c b≢c r (cell {x = ca} {y = ac} {n₁ = m} {d₁ = t} {n₂ = p} s g₁ g₂ q w) =
-      let m≡ca : m ≡ ca = top g₁ .0 in
-      let t≡[] : t ≡ [] = top g₁ .1 in
-      let ac-rule : f a c ≡ complement ac ca = turn c a ∙ ap swapped s in
-      let g : Grid f ac ab p e _ = recast (ap (λ l. ac ++ l) t≡[] ∙ append-nil ac) refl refl refl refl g₂ in
-      let first = cube a b c a≢b a≢c b≢c ab ba ac ca e p _ r ac-rule (turned turn g) in
-      let second = cube a c b a≢c a≢b (λ h. b≢c (sym h)) ac ca ab ba p e _ ac-rule r g in
-      let ba-rule : f b a ≡ complement ba ab = turn a b ∙ ap swapped r in
-      let third = cube b c a b≢c (λ h. a≢b (sym h)) (λ h. a≢c (sym h)) (first .bc) (first .cb) ba ab (first .d′) (first .n′) _ (first .rule) ba-rule (turned turn (first .grid)) in
+  -- one letter against the two sides of a relation, where the three cube conditions are known
+  apart-closed : (a b c : ℕ) {ab ba ca ac z p e : Positive} → f a b ≡ complement ab ba → f c a ≡ complement ca ac → z ≡ ca ++ p
+      → (first : Closes f b c ba e) → Closes f c b ca p → Closes f c a (first .cb) (first .d′) → Changed f (c ∷ []) (b ∷ ba) z e
+  apart-closed a b c {ca} r s q first second third =
       let cb-rule : f c b ≡ complement (first .cb) (first .bc) = turn b c ∙ ap swapped (first .rule) in
       let cb≡ : first .cb ≡ second .bc = cc (cb-rule, second .rule) in
       let ca≡ : third .bc ≡ ca = cc (third .rule, s) in
@@ -63,11 +55,23 @@ module _ (weight : ℕ → ℕ) (weighs : (a : ℕ) → 1 ≤ weight a) {f : ℕ
         k′ = _;
         grid =
             cell cb-rule left-nil (recast (sym (append-nil (first .bc))) refl refl refl refl (turned turn (first .grid))) refl refl;
-        over =
-            trans (by-eq (q ∙ ap (λ l. l ++ p) m≡ca))
-            (trans (prefix ca (second .agree)) (trans far (prefix (first .cb) (symm turn (third .agree)))));
+        over = trans (by-eq q) (trans (prefix ca (second .agree)) (trans far (prefix (first .cb) (symm turn (third .agree)))));
         along = first .agree;
       }
+
+  -- one letter against the two sides of a relation
+  letter-apart : (a b c : ℕ) {ab ba z e : Positive} {k : ℕ} → a ≢ b → a ≢ c → b ≢ c → f a b ≡ complement ab ba → Grid f (c ∷ []) (a ∷ ab) z e k
+      → Changed f (c ∷ []) (b ∷ ba) z e
+  letter-apart a b c {ab} {ba} {z} {e} a≢b a≢c b≢c r (cell {x = ca} {y = ac} {n₁ = m} {d₁ = t} {n₂ = p} s g₁ g₂ q w) =
+      let m≡ca : m ≡ ca = top g₁ .0 in
+      let t≡[] : t ≡ [] = top g₁ .1 in
+      let ac-rule : f a c ≡ complement ac ca = turn c a ∙ ap swapped s in
+      let g : Grid f ac ab p e _ = recast (ap (λ l. ac ++ l) t≡[] ∙ append-nil ac) refl refl refl refl g₂ in
+      let first = cube a b c a≢b a≢c b≢c ab ba ac ca e p _ r ac-rule (turned turn g) in
+      let second = cube a c b a≢c a≢b (λ h. b≢c (sym h)) ac ca ab ba p e _ ac-rule r g in
+      let ba-rule : f b a ≡ complement ba ab = turn a b ∙ ap swapped r in
+      let third = cube b c a b≢c (λ h. a≢b (sym h)) (λ h. a≢c (sym h)) (first .bc) (first .cb) ba ab (first .d′) (first .n′) _ (first .rule) ba-rule (turned turn (first .grid)) in
+      apart-closed a b c r s (q ∙ ap (λ l. l ++ p) m≡ca) first second third
 
   -- a letter that is one of the two: a against a C(a,b) and b C(b,a)
   letter-first : (a b : ℕ) {ab ba z e : Positive} {k : ℕ} → f a b ≡ complement ab ba → Grid f (a ∷ []) (a ∷ ab) z e k
@@ -167,26 +171,37 @@ module _ (weight : ℕ → ℕ) (weighs : (a : ℕ) → 1 ≤ weight a) {f : ℕ
           along = trans (by-eq (s .joint)) (trans (suffix (s .d₂) (row .along)) (prefix (row .d′) (rest .along)));
         }
 
-    -- one relation step in v
+    -- one relation step in v: the diagram in three parts, of which the second changes, and then the third
+    module _ {u v v′ n d : Positive} {k : ℕ} (s : Swap f v v′) (l : Split f u (s .before) ((s .a ∷ s .x) ++ s .after) n d k)
+        (c : Split f (l .mid) (s .a ∷ s .x) (s .after) (l .n₂) d (l .k₂)) where
+      heavy : total weight n ≡ total weight (l .n₁) + (total weight (c .n₁) + total weight (c .n₂))
+      heavy = ap (total weight) (l .joint ∙ ap (λ w. l .n₁ ++ w) (c .joint)) ∙ simp total-append
+
+      three-parts : (r : Changed f (l .mid) (s .b ∷ s .y) (c .n₁) (c .mid)) → Changed f (r .d′) (s .after) (c .n₂) d → Changed f u v′ n d
+      three-parts r t =
+          record {
+            n′ = l .n₁ ++ (r .n′ ++ t .n′);
+            d′ = t .d′;
+            k′ = _;
+            grid = recast refl (sym (s .right)) refl refl refl (beside (l .first) (beside (r .grid) (t .grid)));
+            over =
+                trans (by-eq (l .joint ∙ ap (λ w. l .n₁ ++ w) (c .joint)))
+                (prefix (l .n₁) (trans (suffix (c .n₂) (r .over)) (prefix (r .n′) (t .over))));
+            along = t .along;
+          }
+
+      second-changed : total weight u + total weight n ≤ m → Changed f (l .mid) (s .b ∷ s .y) (c .n₁) (c .mid) → Changed f u v′ n d
+      second-changed h r =
+          three-parts r
+          (follows-left (c .second) (omega (arith, heavy, balance (l .first), balance (c .first), weighs (s .a))) (r .along))
+
+      in-parts : total weight u + total weight n ≤ m → Changed f u v′ n d
+      in-parts h = second-changed h (middle (l .mid) (s .a) (s .b) (s .rule) (c .first) (omega (arith, heavy, balance (l .first))))
+
     one-swap : {u v v′ n d : Positive} {k : ℕ} → Grid f u v n d k → total weight u + total weight n ≤ m → Swap f v v′ → Changed f u v′ n d
-    one-swap {u} {v} {v′} {n} {d} g h s =
+    one-swap g h s =
         let l = split (s .before) (recast refl (s .left) refl refl refl g) in
-        let c = split (s .a ∷ s .x) (l .second) in
-        let heavy : total weight n ≡ total weight (l .n₁) + (total weight (c .n₁) + total weight (c .n₂)) =
-        ap (total weight) (l .joint ∙ ap (λ w. l .n₁ ++ w) (c .joint)) ∙ simp total-append in
-        let r = middle (l .mid) (s .a) (s .b) (s .rule) (c .first) (omega (arith, heavy, balance (l .first))) in
-        let t =
-        follows-left (c .second) (omega (arith, heavy, balance (l .first), balance (c .first), weighs (s .a))) (r .along) in
-        record {
-          n′ = l .n₁ ++ (r .n′ ++ t .n′);
-          d′ = t .d′;
-          k′ = _;
-          grid = recast refl (sym (s .right)) refl refl refl (beside (l .first) (beside (r .grid) (t .grid)));
-          over =
-              trans (by-eq (l .joint ∙ ap (λ w. l .n₁ ++ w) (c .joint)))
-              (prefix (l .n₁) (trans (suffix (c .n₂) (r .over)) (prefix (r .n′) (t .over))));
-          along = t .along;
-        }
+        in-parts s l (split (s .a ∷ s .x) (l .second)) h
 
     follows-suc : (u v v′ n d : Positive) (k : ℕ) → Grid f u v n d k → total weight u + total weight n ≤ m → Equiv f v v′ → Changed f u v′ n d
     follows-suc u v v′ n d k g h done = record { n′ = n; d′ = d; k′ = k; grid = g; over = done; along = done }

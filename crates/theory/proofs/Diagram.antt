@@ -6,7 +6,7 @@ use mathlib.Core.List.{[], _∷_, _++_, append-assoc, append-nil}
 use Prim.Native.Nat.{ℕ, zero, suc, _+_, _≤_, _<_}
 use native.Mathlib.Omega.{arith}
 use Rattle.model.specs.Word.{forward, back, Word, Positive, positive, negative}
-use Rattle.model.specs.Presentation.{Presentation, complete}
+use Rattle.model.specs.Presentation.{Presentation, complement, complete}
 use Rattle.model.specs.Reversing.{nowhere, at, site, replaced, Leftmost, Finishes}
 use Rattle.model.proofs.Words.{negative-cons, positive-append, negative-append, fraction-injective, fraction-nowhere, fraction-at}
 use Rattle.model.proofs.Leftmost.{Counted, counted, recast-run, step-then, then, first-step, different-sites, fraction-stuck, same-end}
@@ -75,28 +75,40 @@ module _ (T : Presentation) (w′ : Word) (over : site w′ ≡ nowhere) where
   abbrev Draws : ℕ → Type 0
   Draws m = (u v p : Positive) (s : Word) (k r : ℕ) → k < m → Counted T (sides p u v s) w′ k r → Drawn T u v p s w′ k
 
+  -- the cell of the first step, a diagram below it, and one beside both
+  module _ (a b : ℕ) (u v p x y : Positive) (s : Word) (k j : ℕ) (rule : complete T a b ≡ complement x y) (steps : k ≡ suc j)
+      (first : Drawn T u x p (negative y ++ (positive v ++ s)) w′ j) where
+    with-second : Drawn T (y ++ first .d) v (p ++ first .n) s w′ (first .k₂) → Drawn T (a ∷ u) (b ∷ v) p s w′ k
+    with-second second =
+        record {
+          n = first .n ++ second .n;
+          d = second .d;
+          k₁ = suc (first .k₁ + second .k₁);
+          k₂ = second .k₂;
+          r₂ = second .r₂;
+          grid = cell rule (first .grid) (second .grid) refl refl;
+          rest = recast-run (gather p (first .n) (second .n) (second .d) s) refl refl refl (second .rest);
+          steps = omega (arith, steps, first .steps, second .steps);
+        }
+
+    with-first : (m : ℕ) → Draws m → k ≤ m → Drawn T (a ∷ u) (b ∷ v) p s w′ k
+    with-first m fewer h =
+        with-second
+        (fewer (y ++ first .d) v (p ++ first .n) s (first .k₂) (first .r₂) (omega (arith, steps, first .steps))
+        (recast-run (regroup p (first .n) (first .d) y v s) refl refl refl (first .rest)))
+
   draws-more : (m : ℕ) → Draws m → (u v p : Positive) (s : Word) (k r : ℕ) → k ≤ m → Counted T (sides p u v s) w′ k r → Drawn T u v p s w′ k
   draws-more m fewer [] v p s k r h c = record { n = v; d = []; k₁ = 0; k₂ = k; r₂ = r; grid = left-nil; rest = c; steps = omega arith }
   draws-more m fewer (a ∷ u) [] p s k r h c =
       record { n = []; d = a ∷ u; k₁ = 0; k₂ = k; r₂ = r; grid = right-nil; rest = c; steps = omega arith }
   draws-more m fewer (a ∷ u) (b ∷ v) p s k r h c =
       let f = first-step c (different-sites (corner p u v a b s) over) (corner p u v a b s) in
-      let first =
-      fewer u (f .x) p (negative (f .y) ++ (positive v ++ s)) (f .k′) (f .r′) (omega (arith, f .steps))
-      (recast-run (stepped p u v (f .x) (f .y) s) refl refl refl (f .rest)) in
-      let second =
-      fewer (f .y ++ first .d) v (p ++ first .n) s (first .k₂) (first .r₂) (omega (arith, f .steps, first .steps))
-      (recast-run (regroup p (first .n) (first .d) (f .y) v s) refl refl refl (first .rest)) in
-      record {
-        n = first .n ++ second .n;
-        d = second .d;
-        k₁ = suc (first .k₁ + second .k₁);
-        k₂ = second .k₂;
-        r₂ = second .r₂;
-        grid = cell (f .rule) (first .grid) (second .grid) refl refl;
-        rest = recast-run (gather p (first .n) (second .n) (second .d) s) refl refl refl (second .rest);
-        steps = omega (arith, f .steps, first .steps, second .steps);
-      }
+      with-first a b u v p (f .x) (f .y) s k (f .k′) (f .rule) (f .steps)
+      (fewer u (f .x) p (negative (f .y) ++ (positive v ++ s)) (f .k′) (f .r′) (omega (arith, f .steps))
+      (recast-run (stepped p u v (f .x) (f .y) s) refl refl refl (f .rest)))
+      m
+      fewer
+      h
 
   draws : (m : ℕ) → Draws m
   draws zero u v p s k r h c = absurd (omega arith)

@@ -122,19 +122,23 @@ module _ {f : ℕ → ℕ → Complement} where
       let r = itself same u in
       (suc (r .0), cell {k = suc (r .0)} (same a) (any-bottom u) (r .1) refl (omega arith))
 
+  -- the words beside a cell: across the first row, by the relation, then down
+  derives-cell : (a b : ℕ) (u v x y n₁ d₁ n₂ d : Positive) (j k : ℕ) → f a b ≡ complement x y → Derives f (u ++ n₁) (x ++ d₁) j
+      → Derives f ((y ++ d₁) ++ n₂) (v ++ d) k → Derives f (a ∷ (u ++ (n₁ ++ n₂))) (b ∷ (v ++ d)) (count a b (j + k))
+  derives-cell a b u v x y n₁ d₁ n₂ d j k e first second =
+      let across : Derives f (a ∷ (u ++ (n₁ ++ n₂))) (a ∷ (x ++ (d₁ ++ n₂))) j =
+      rw (← append-assoc u n₁ n₂, ← append-assoc x d₁ n₂) (derives-prefix (a ∷ []) (derives-suffix n₂ first)) in
+      let relation : Derives f (a ∷ (x ++ (d₁ ++ n₂))) (b ∷ (y ++ (d₁ ++ n₂))) (count a b 0) =
+      derives-swap (record { before = []; after = d₁ ++ n₂; a = a; b = b; x = x; y = y; rule = e; left = refl; right = refl }) in
+      let down : Derives f (b ∷ (y ++ (d₁ ++ n₂))) (b ∷ (v ++ d)) k = rw (← append-assoc y d₁ n₂) (derives-prefix (b ∷ []) second) in
+      rw (← count-between a b j k) (derives-then across (derives-then relation down))
+
   -- what is joined, u n and v d, by as many steps on two different letters as there are such cells
   derives : {u v n d : Positive} {k : ℕ} (g : Grid f u v n d k) → Derives f (u ++ n) (v ++ d) (cells g)
   derives {v} left-nil = derives-same (sym (append-nil v))
   derives {u = a ∷ u} right-nil = derives-same (append-nil (a ∷ u))
   derives (cell {a} {b} {u} {v} {x} {y} {n₁} {d₁} {n₂} {d} e g₁ g₂ p q) =
-      let across : Derives f (a ∷ (u ++ (n₁ ++ n₂))) (a ∷ (x ++ (d₁ ++ n₂))) (cells g₁) =
-      rw (← append-assoc u n₁ n₂, ← append-assoc x d₁ n₂) (derives-prefix (a ∷ []) (derives-suffix n₂ (derives g₁))) in
-      let relation : Derives f (a ∷ (x ++ (d₁ ++ n₂))) (b ∷ (y ++ (d₁ ++ n₂))) (count a b 0) =
-      derives-swap (record { before = []; after = d₁ ++ n₂; a = a; b = b; x = x; y = y; rule = e; left = refl; right = refl }) in
-      let down : Derives f (b ∷ (y ++ (d₁ ++ n₂))) (b ∷ (v ++ d)) (cells g₂) =
-      rw (← append-assoc y d₁ n₂) (derives-prefix (b ∷ []) (derives g₂)) in
-      let sum : cells g₁ + (count a b 0 + cells g₂) ≡ count a b (cells g₁ + cells g₂) = count-between a b (cells g₁) (cells g₂) in
-      rw (p, ← sum) (derives-then across (derives-then relation down))
+      rw p (derives-cell a b u v x y n₁ d₁ n₂ d (cells g₁) (cells g₂) e (derives g₁) (derives g₂))
 
   -- where it ends empty
   pub derives-empty : {u v : Positive} {k : ℕ} (g : Grid f u v [] [] k) → Derives f u v (cells g)
