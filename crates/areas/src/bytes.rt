@@ -1,7 +1,8 @@
 ghost use mathlib.Core.Path.{_≡_};
 ghost use mathlib.Core.List.{_++_, reverse};
-ghost use Prim.Native.Nat.{_≤_};
+ghost use Prim.Native.Nat.{_+_, _≤_};
 ghost use lib.ListN.{length, take, drop, replicate};
+ghost use Rattle.model.specs.Areas.{written};
 
 // Leaves an area all zero.
 pub fn wipe(area: &mut [u8])
@@ -23,6 +24,19 @@ pub fn copy_bytes(from: &[u8], count: usize, area: &mut [u8])
     let mut i: usize = 0;
     while i < count {
         area[i] = from[i];
+        i += 1;
+    }
+}
+
+// Copies the bytes from one place of an area to a place behind them.
+pub fn copy_on(area: &mut [u8], from: usize, count: usize, to: usize)
+    requires { ⌜ (from + count ≤ to) × (to + count ≤ length (now area)) ⌝ }
+    ensures length { λ r. ⌜ length (now (area .exit)) ≡ length (now (area .entry)) ⌝ }
+    ensures bytes { λ r. ⌜ now (area .exit) ≡ written (now (area .entry)) to (take count (drop from (now (area .entry)))) ⌝ }
+{
+    let mut i: usize = 0;
+    while i < count {
+        area[to + i] = area[from + i];
         i += 1;
     }
 }

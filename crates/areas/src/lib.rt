@@ -1,2 +1,2 @@
-// The bytes of lent areas: wiped, and copied from one to another.
+// The bytes of lent areas: wiped, copied from one to another and within one, turned around.
 pub mod bytes;

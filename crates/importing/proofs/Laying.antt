@@ -7,7 +7,7 @@ use Prim.Native.Nat.{ℕ, zero, suc, _+_, _-_, _*_, _≤_, _<_}
 use native.Mathlib.Nat.{suc-mul, zero-mul, one-mul, le-of-mul-le-mul-right, mul-le-mul-right}
 use native.Mathlib.Omega.{arith}
 use lib.ListN.{length, take, drop, getD, set, length-append, length-drop, take-append-drop, List·getD-append}
-use lib.Seq.{paste, paste-suc, take-at, drop-at, drop-drop, length-take-le, getD-take, getD-drop}
+use lib.Seq.{take-at, drop-at, drop-drop, length-take-le, getD-take, getD-drop}
 use Rattle.model.specs.Word.{forward, Word, inverse}
 use Rattle.model.specs.Areas.{written}
 use Rattle.model.specs.Notation.{repeated, undone}
@@ -20,24 +20,6 @@ use Rattle.engine.proofs.Letters.{letter-forward, letters-append, letters-cons,
 use Rattle.importing.specs.Laying.{Lays, copies, Repeatable, Repeats, Finishes}
 
 -- COPIES
-
--- a byte before the place of a copy is as it was
-copy-source : (a : List ℕ) (to : ℕ) (s : List ℕ) (n j : ℕ) → j < to → to ≤ length a → getD (paste a to s n) j 0 ≡ getD a j 0
-copy-source a to s n j before inside =
-    ap (λ l. getD l j 0) (append-assoc (take to a) (take n s) (drop (to + n) a))
-    ∙ List·getD-append (take to a) (take n s ++ drop (to + n) a) 0 j (subst (λ k. j < k) (sym (length-take-le to a inside)) before)
-    ∙ getD-take to a j 0 before
-
--- one byte more is copied
-pub copy-more : (a : List ℕ) (from to i : ℕ) → from + i < to → to + i < length a
-    → set (paste a to (drop from a) i) (to + i) (getD (paste a to (drop from a) i) (from + i) 0) ≡ paste a to (drop from a) (suc i)
-copy-more a from to i before inside =
-    ap (set (paste a to (drop from a) i) (to + i)) (copy-source a to (drop from a) i (from + i) before (omega (arith, inside)) ∙ sym (getD-drop from a i 0))
-    ∙ paste-suc a to (drop from a) i 0 inside (omega (arith, length-drop from a, before, inside))
-
--- a copy, as bytes put in their place
-paste-written : (a : List ℕ) (to : ℕ) (s : List ℕ) (n : ℕ) → n ≤ length s → paste a to s n ≡ written a to (take n s)
-paste-written a to s n h = append-assoc (take to a) (take n s) (drop (to + n) a) ∙ ap (λ k. take to a ++ (take n s ++ drop (to + k) a)) (sym (length-take-le n s h))
 
 length-part : (a : List ℕ) (from count : ℕ) → from + count ≤ length a → length (take count (drop from a)) ≡ count
 length-part a from count inside = length-take-le count (drop from a) (omega (arith, length-drop from a, inside))
@@ -102,14 +84,13 @@ module _ (a : List ℕ) (from count end times : ℕ) (some : 1 ≤ count) (ends 
       fewer : suc (suc (c .earlier)) ≤ times
       fewer = ⊎-elim (λ h. omega (arith, h)) (λ h. absurd (omega (arith, mul-le-mul-right count h, c .at-is, ends, more))) (below-or (suc (c .earlier)) times)
 
-  pub copied-more : (cur next : List ℕ) (at : ℕ) → length cur ≡ length a → Copied a from count end cur at → at < end → next ≡ paste cur at (drop from cur) count → Copied a from count end next (at + count)
-  copied-more cur next at long c more e = record {
+  pub copied-more : (cur next : List ℕ) (at : ℕ) → Copied a from count end cur at → at < end → next ≡ written cur at (take count (drop from cur)) → Copied a from count end next (at + count)
+  copied-more cur next at c more e = record {
     earlier = suc k;
     at-is = omega (arith, c .at-is, suc-mul (suc k) count);
     inside = copied-room cur at c more;
     put =
-        e ∙ paste-written cur at (drop from cur) count (omega (arith, length-drop from cur, long, room, copied-room cur at c more, c .at-is, suc-mul k count))
-        ∙ ap (written cur at) copy
+        e ∙ ap (written cur at) copy
         ∙ ap (λ l. written l at b) (c .put)
         ∙ ap (λ n. written (written a from (copies (suc k) b)) n b) {x = at} {y = from + length (copies (suc k) b)} (omega (arith, c .at-is, all-long))
         ∙ written-more a from (copies (suc k) b) b (omega (arith, all-long, c .at-is, c .inside, room))

@@ -3,7 +3,6 @@
 ghost use mathlib.Core.Path.{_≡_};
 ghost use Prim.Native.Nat.{_+_, _≤_};
 ghost use lib.ListN.{length, drop};
-ghost use lib.Seq.{paste};
 ghost use Rattle.model.specs.Notation.{readItem, readPattern};
 ghost use Rattle.importing.specs.Reading.{within};
 ghost use Rattle.importing.specs.Laying.{Repeatable, Repeats, Finishes, ItemFits, ItemLaid, PatternFits, PatternLaid};
@@ -15,25 +14,13 @@ use crate::reading::Reading;
 use crate::reading::after_minus;
 use crate::reading::ends;
 use crate::reading::read_item;
+use areas::bytes::copy_on;
 use engine::words::invert;
 
 // Where the text goes on, and where the moves end.
 pub struct Laid {
     pub next: usize,
     pub end: usize,
-}
-
-// Copies the bytes from one place of an area to a place behind them.
-pub fn copy_on(area: &mut [u8], from: usize, count: usize, to: usize)
-    requires { ⌜ (from + count ≤ to) × (to + count ≤ length (now area)) ⌝ }
-    ensures length { λ r. ⌜ length (now (area .exit)) ≡ length (now (area .entry)) ⌝ }
-    ensures copied { λ r. ⌜ now (area .exit) ≡ paste (now (area .entry)) to (drop from (now (area .entry))) count ⌝ }
-{
-    let mut i: usize = 0;
-    while i < count {
-        area[to + i] = area[from + i];
-        i += 1;
-    }
 }
 
 // Lays out the bytes from a place on again and again, up to `end`.

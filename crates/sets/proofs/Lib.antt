@@ -1,5 +1,4 @@
 pub mod Ends
-pub mod Copies
 pub mod Spelling
 pub mod Lookup
 pub mod FirstWords

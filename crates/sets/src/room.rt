@@ -4,7 +4,7 @@ ghost use Prim.Native.Nat.{_≤_};
 ghost use lib.ListN.{length};
 ghost use Rattle.sets.specs.Room.{Fit, Loaded, Laid, LaidOut, PairReverses, ReversesBehind};
 use crate::words::Span;
-use crate::words::copy_letters;
+use areas::bytes::copy_on;
 use engine::gap::Gap;
 use engine::run::reversing;
 use engine::words::invert;
@@ -15,9 +15,9 @@ pub fn load_pair(area: &mut [u8], used: usize, u: Span, v: Span)
     requires { ⌜ Fit (now area) used u v ⌝ }
     ensures { λ r. ⌜ Loaded (now (area .entry)) used u v (now (area .exit)) ⌝ }
 {
-    copy_letters(area, u.at, used, u.letters);
+    copy_on(area, u.at, u.letters, used);
     let end = area.len();
-    copy_letters(area, v.at, end - v.letters, v.letters);
+    copy_on(area, v.at, v.letters, end - v.letters);
 }
 
 // Inverts the word of `left` letters at the room's start; then it and the word of `right` letters at the room's end are reversed.

@@ -3,7 +3,6 @@ ghost use mathlib.Core.Path.{_≡_};
 ghost use Prim.Native.Nat.{_+_, _≤_};
 ghost use lib.ListN.{length, take, drop};
 ghost use Rattle.model.specs.Equivalence.{equal};
-ghost use Rattle.model.specs.Areas.{written};
 ghost use Rattle.sets.specs.Words.{HasEnd, EndFound, spanned};
 
 // A word of the area: where it begins, and how many letters it has.
@@ -52,16 +51,4 @@ pub fn same_word(area: &[u8], first: Span, second: Span) -> bool
         return false;
     }
     same_letters(area, first.at, second.at, count)
-}
-
-// Copies letters to a place behind them.
-pub fn copy_letters(area: &mut [u8], from: usize, to: usize, count: usize)
-    requires { ⌜ (from + count ≤ to) × (to + count ≤ length (now area)) ⌝ }
-    ensures { λ r. ⌜ now (area .exit) ≡ written (now (area .entry)) to (take count (drop from (now (area .entry)))) ⌝ }
-{
-    let mut i: usize = 0;
-    while i < count {
-        area[to + i] = area[from + i];
-        i += 1;
-    }
 }

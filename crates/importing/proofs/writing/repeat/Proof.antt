@@ -51,7 +51,7 @@ loop-again c =
     let l = c .before .before .before .before .before .loop in
     let copy = c .before .before .copy-on in (
       copy .ensures .0 ∙ l .inv .0,
-      copied-more (s .args .area .now) (s .args .from) (s .args .count) (s .args .end) (s .pre .times) (s .pre .some) (s .pre .ends) (s .pre .inside) (l .area) (copy .last .0) (l .at) (l .inv .0) (l .inv .1) (c .before .before .before .before .loop-test .taken) (copy .ensures .1),
+      copied-more (s .args .area .now) (s .args .from) (s .args .count) (s .args .end) (s .pre .times) (s .pre .some) (s .pre .ends) (s .pre .inside) (l .area) (copy .last .0) (l .at) (l .inv .1) (c .before .before .before .before .loop-test .taken) (copy .ensures .1),
     )
 
 same-length : tie.Need-same-length Inv-loop μ-loop

@@ -4,14 +4,14 @@ use Rattle.sets.proofs.Rooms.{pair-loaded}
 use Rattle.sets.proofs.room.load_pair.Statement.{statement}
 use Rattle.sets.proofs.room.load_pair.Tie as tie
 
-copy-letters-requires : tie.Need-copy-letters-requires
-copy-letters-requires c κs = search needs
+copy-on-requires : tie.Need-copy-on-requires
+copy-on-requires c κs = search needs
 
-sub-copy-letters : tie.Need-sub-copy-letters
-sub-copy-letters c = search needs
+sub-copy-on : tie.Need-sub-copy-on
+sub-copy-on c = search needs
 
-copy-letters-requires-2 : tie.Need-copy-letters-requires-2
-copy-letters-requires-2 c κs = search needs
+copy-on-requires-2 : tie.Need-copy-on-requires-2
+copy-on-requires-2 c κs = search needs
 
 same-length : tie.Need-same-length
 same-length c = search needs
@@ -19,11 +19,11 @@ same-length c = search needs
 returns : tie.Need-returns
 returns c =
     let s = c .before .before .before .before .before .before .before .before .before .before in
-    let l = c .before .before .before .before .before .before .before .copy-letters in
-    let m = c .before .before .copy-letters2 in
-    pair-loaded (s .args .area .now) (l .last .0) (m .last .0) (s .args .used) (s .args .u) (s .args .v) (s .pre) (l .ensures) (m .ensures)
+    let l = c .before .before .before .before .before .before .before .copy-on in
+    let m = c .before .before .copy-on2 in
+    pair-loaded (s .args .area .now) (l .last .0) (m .last .0) (s .args .used) (s .args .u) (s .args .v) (s .pre) (l .ensures .1) (m .ensures .1)
 
 pub load-pair-spec : {M : Type 1} → statement M
 load-pair-spec =
     tie.close
-    (tie.spec copy-letters-requires sub-copy-letters copy-letters-requires-2 same-length returns)
+    (tie.spec copy-on-requires sub-copy-on copy-on-requires-2 same-length returns)

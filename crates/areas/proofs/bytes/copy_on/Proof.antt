@@ -1,12 +1,12 @@
--- `importing::writing::copy_on` meets its contract.
+-- `areas::bytes::copy_on` meets its contract.
 use mathlib.Core.Path.{_≡_, refl, ap, _∙_}
 use Prim.Native.Nat.{suc, _+_, _-_, _≤_}
 use native.Mathlib.Omega.{arith}
-use lib.ListN.{length, drop, getD, set, length-set}
+use lib.ListN.{length, drop, getD, set, length-set, length-drop}
 use lib.Seq.{paste, paste-zero}
-use Rattle.importing.proofs.Laying.{copy-more}
-use Rattle.importing.proofs.writing.copy_on.Statement.{statement}
-use Rattle.importing.proofs.writing.copy_on.Tie as tie
+use Rattle.areas.proofs.Copying.{copy-more, paste-written}
+use Rattle.areas.proofs.bytes.copy_on.Statement.{statement}
+use Rattle.areas.proofs.bytes.copy_on.Tie as tie
 
 abbrev Inv-loop : tie.InvT-loop
 Inv-loop area₀ from count to i₀ area i = (i ≤ count) × (length area ≡ length area₀) × (area ≡ paste area₀ to (drop from area₀) i)
@@ -64,7 +64,13 @@ returns : tie.Need-returns Inv-loop μ-loop
 returns c =
     let l = c .before .loop in
     let s = c .before .before in
-    (l .inv .1, l .inv .2 ∙ ap (paste (s .args .area .now) (s .args .to) (drop (s .args .from) (s .args .area .now))) {x = l .i} {y = s .args .count} (omega (arith, l .inv .0, c .loop-test .left)))
+    let a = s .args .area .now in
+    let from = s .args .from in
+    let to = s .args .to in
+    let e : l .i ≡ s .args .count = omega (arith, l .inv .0, c .loop-test .left) in (
+      l .inv .1,
+      l .inv .2 ∙ ap (paste a to (drop from a)) e ∙ paste-written a to (drop from a) (s .args .count) (omega (arith, length-drop from a, s .pre .0, s .pre .1)),
+    )
 
 pub copy-on-spec : {M : Type 1} → statement M
 copy-on-spec = tie.close (tie.spec Inv-loop μ-loop loop-holds add-area slice-read-area add-area-2 slice-write-area add-i loop-less loop-again same-length returns)
