@@ -24,6 +24,9 @@ pub mod Verdicts
 pub mod Remainders
 pub mod MirrorClearing
 pub mod Ways
+pub mod Digits
+pub mod WrittenRead
+pub mod ReadWritten
 pub mod Notation
 pub mod Linking
 pub mod Acting
