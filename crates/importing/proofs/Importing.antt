@@ -30,7 +30,7 @@ use Rattle.engine.specs.Gap.{letters}
 use Rattle.engine.proofs.Letters.{letter-forward, letter-back}
 use Rattle.importing.specs.declared.reading.Span.{Span}
 use Rattle.importing.specs.Reading.{capped, keptPattern}
-use Rattle.importing.specs.Laying.{Lays, PatternFits, PatternLaid}
+use Rattle.importing.specs.Laying.{WordPut, PatternFits, PatternLaid}
 use Rattle.importing.specs.Import.{TextOf, textOutcome, Answers, ImportSays}
 use Rattle.importing.proofs.Keeping.{Answered, kept-answered, kept-refused, capped-low, capped-high}
 
@@ -110,7 +110,7 @@ unfolding letters
 bytes-of [] = refl
 bytes-of (x ∷ xs) = ap₂ (λ y ys. y ∷ ys) (byte-of x) (bytes-of xs)
 
-pub laid-begins : (a : List ℕ) (w : Word) (b : List ℕ) → Lays a 0 w b → b ≡ begins (plainProgram w) a
+pub laid-begins : (a : List ℕ) (w : Word) (b : List ℕ) → WordPut a 0 w b → b ≡ begins (plainProgram w) a
 laid-begins a w b l =
     l .put ∙ ap (λ n. l .bytes ++ drop n a) {x = 0 + length (l .bytes)} {y = length (l .bytes)} (omega arith) ∙ ap (λ x. begins x a) (sym (bytes-of (l .bytes)) ∙ ap (map byte) (l .mean))
 
@@ -128,7 +128,7 @@ module _ (text : List ℕ) (n : ℕ) (before : List ℕ) where
     pub refused-pattern : (r : Refusal) → imported n p (length before) ≡ refusal r → Answers (textOutcome text n (length before)) before before (Refused r)
     refused-pattern r e = (ap (mapped length) (sym (outcome-is (refusal r) e)), ap (λ o. outputAfter plainProgram o before) (sym (outcome-is (refusal r) e)))
 
-    pub written-pattern : (after : List ℕ) (k : ℕ) → imported n p (length before) ≡ answered (meaning p) → k ≡ moves p → Lays before 0 (meaning p) after
+    pub written-pattern : (after : List ℕ) (k : ℕ) → imported n p (length before) ≡ answered (meaning p) → k ≡ moves p → WordPut before 0 (meaning p) after
         → Answers (textOutcome text n (length before)) before after (Written k)
     written-pattern after k e c lays = (
       ap answered (c ∙ sym (notation-meaning .counted p)) ∙ ap (mapped length) (sym (outcome-is (answered (meaning p)) e)),
@@ -139,7 +139,7 @@ module _ (text : List ℕ) (n : ℕ) (before : List ℕ) where
 pub text-fits : (text : List ℕ) (s : Span) (t : TextOf text s) (room : ℕ) → moves (t .pattern) ≤ 4095 → moves (t .pattern) ≤ room → PatternFits (readPattern mostNested text) 0 room
 text-fits text s t room few inside = subst (λ o. PatternFits o 0 room) (sym (t .pattern-read)) (few, omega (arith, inside))
 
-pub text-laid : (text : List ℕ) (s : Span) (t : TextOf text s) (before after : List ℕ) (end : ℕ) → PatternLaid (readPattern mostNested text) before 0 after end → Lays before 0 (meaning (t .pattern)) after
+pub text-laid : (text : List ℕ) (s : Span) (t : TextOf text s) (before after : List ℕ) (end : ℕ) → PatternLaid (readPattern mostNested text) before 0 after end → WordPut before 0 (meaning (t .pattern)) after
 text-laid text s t before after end laid = subst (λ o. PatternLaid o before 0 after end) (t .pattern-read) laid .0
 
 -- WHAT AN OUTCOME TELLS OF THE TEXT

@@ -17,7 +17,7 @@ use Rattle.images.proofs.Plainly.{wrote-byte}
 use Rattle.engine.specs.Gap.{letters}
 use Rattle.engine.specs.Words.{Inverted}
 use Rattle.engine.proofs.Letters.{letter-forward, letters-append, letters-cons, letters-nil, length-letters}
-use Rattle.importing.specs.Laying.{Lays, copies, Repeatable, Repeats, Finishes}
+use Rattle.importing.specs.Laying.{WordPut, copies, Repeatable, Repeats, Finishes}
 
 -- COPIES
 
@@ -127,8 +127,8 @@ module _ (a : List ℕ) (from count end times : ℕ) (some : 1 ≤ count) (ends 
 
 -- WORDS
 
-pub lays-nothing : (a : List ℕ) (from : ℕ) → from ≤ length a → Lays a from [] a
-lays-nothing a from inside = record {
+pub put-nothing : (a : List ℕ) (from : ℕ) → from ≤ length a → WordPut a from [] a
+put-nothing a from inside = record {
   bytes = [];
   mean = letters-nil;
   inside = omega (arith, inside);
@@ -136,8 +136,8 @@ lays-nothing a from inside = record {
 }
 
 -- one move
-pub lays-move : (a : List ℕ) (from x : ℕ) → from < length a → x < 128 → Lays a from (forward x ∷ []) (set a from x)
-lays-move a from x inside low = record {
+pub put-move : (a : List ℕ) (from x : ℕ) → from < length a → x < 128 → WordPut a from (forward x ∷ []) (set a from x)
+put-move a from x inside low = record {
   bytes = x ∷ [];
   mean = letters-cons x [] ∙ ap (λ l. l ∷ letters []) (letter-forward x low) ∙ ap (λ w. forward x ∷ w) letters-nil;
   inside = omega (arith, inside);
@@ -145,27 +145,27 @@ lays-move a from x inside low = record {
 }
 
 -- as many bytes as letters
-pub lays-long : (a : List ℕ) (from : ℕ) (w : Word) (b : List ℕ) (l : Lays a from w b) → length (l .bytes) ≡ length w
-lays-long a from w b l = sym (length-letters (l .bytes)) ∙ ap length (l .mean)
+pub put-long : (a : List ℕ) (from : ℕ) (w : Word) (b : List ℕ) (l : WordPut a from w b) → length (l .bytes) ≡ length w
+put-long a from w b l = sym (length-letters (l .bytes)) ∙ ap length (l .mean)
 
 length-written : (a : List ℕ) (from : ℕ) (b : List ℕ) → from + length b ≤ length a → length (written a from b) ≡ length a
 length-written a from b inside =
     length-append (take from a) (b ++ drop (from + length b) a)
     ∙ omega (arith, length-take-le from a (omega (arith, inside)), length-append b (drop (from + length b) a), length-drop (from + length b) a, inside)
 
-pub lays-kept : (a : List ℕ) (from : ℕ) (w : Word) (b : List ℕ) → Lays a from w b → length b ≡ length a
-lays-kept a from w b l = ap length (l .put) ∙ length-written a from (l .bytes) (l .inside)
+pub put-kept : (a : List ℕ) (from : ℕ) (w : Word) (b : List ℕ) → WordPut a from w b → length b ≡ length a
+put-kept a from w b l = ap length (l .put) ∙ length-written a from (l .bytes) (l .inside)
 
 -- one word after another
-pub lays-append : (a b c : List ℕ) (from : ℕ) (u v : Word) → Lays a from u b → Lays b (from + length u) v c → Lays a from (u ++ v) c
-lays-append a b c from u v l m = record {
+pub put-append : (a b c : List ℕ) (from : ℕ) (u v : Word) → WordPut a from u b → WordPut b (from + length u) v c → WordPut a from (u ++ v) c
+put-append a b c from u v l m = record {
   bytes = l .bytes ++ m .bytes;
   mean = letters-append (l .bytes) (m .bytes) ∙ ap (λ w. w ++ letters (m .bytes)) (l .mean) ∙ ap (λ w. u ++ w) (m .mean);
-  inside = omega (arith, length-append (l .bytes) (m .bytes), m .inside, lays-kept a from u b l, lays-long a from u b l);
+  inside = omega (arith, length-append (l .bytes) (m .bytes), m .inside, put-kept a from u b l, put-long a from u b l);
   put =
       m .put
       ∙ ap (λ x. written x (from + length u) (m .bytes)) (l .put)
-      ∙ ap (λ n. written (written a from (l .bytes)) (from + n) (m .bytes)) (sym (lays-long a from u b l))
+      ∙ ap (λ n. written (written a from (l .bytes)) (from + n) (m .bytes)) (sym (put-long a from u b l))
       ∙ written-more a from (l .bytes) (m .bytes) (l .inside);
 }
 
@@ -192,21 +192,21 @@ written-over a from x y inside fewer =
         ∙ ap (λ n. drop n a) {x = from + length x + more} {y = from + length y} (omega (arith, fewer))
 
 -- a word that takes the place of a shorter one
-pub lays-over : (a b c : List ℕ) (from : ℕ) (u v : Word) → Lays a from u b → Lays b from v c → length u ≤ length v → Lays a from v c
-lays-over a b c from u v l m fewer = record {
+pub put-over : (a b c : List ℕ) (from : ℕ) (u v : Word) → WordPut a from u b → WordPut b from v c → length u ≤ length v → WordPut a from v c
+put-over a b c from u v l m fewer = record {
   bytes = m .bytes;
   mean = m .mean;
-  inside = omega (arith, m .inside, lays-kept a from u b l);
+  inside = omega (arith, m .inside, put-kept a from u b l);
   put =
       m .put ∙ ap (λ x. written x from (m .bytes)) (l .put)
-      ∙ written-over a from (l .bytes) (m .bytes) (omega (arith, m .inside, lays-kept a from u b l)) (omega (arith, lays-long a from u b l, lays-long b from v c m, fewer));
+      ∙ written-over a from (l .bytes) (m .bytes) (omega (arith, m .inside, put-kept a from u b l)) (omega (arith, put-long a from u b l, put-long b from v c m, fewer));
 }
 
 -- what stands of a word that was laid out
-pub lays-stands : (a : List ℕ) (from : ℕ) (w : Word) (b : List ℕ) → Lays a from w b → (n : ℕ) → n ≡ length w → letters (take n (drop from b)) ≡ w
-lays-stands a from w b l n e =
+pub put-word : (a : List ℕ) (from : ℕ) (w : Word) (b : List ℕ) → WordPut a from w b → (n : ℕ) → n ≡ length w → letters (take n (drop from b)) ≡ w
+put-word a from w b l n e =
     ap (λ x. letters (take n (drop from x))) (l .put)
-    ∙ ap letters (put-stands a from (l .bytes) (omega (arith, l .inside)) n (e ∙ sym (lays-long a from w b l)))
+    ∙ ap letters (put-stands a from (l .bytes) (omega (arith, l .inside)) n (e ∙ sym (put-long a from w b l)))
     ∙ l .mean
 
 -- BODIES
@@ -216,8 +216,8 @@ module _ (a : List ℕ) (from count end : ℕ) (inside : from + count ≤ length
   all-bytes = length-copies k (take count (drop from a)) ∙ ap (λ n. k * n) (length-part a from count inside)
 
   -- a body that stands as often as its count says
-  pub lays-copies : (after : List ℕ) → after ≡ written a from (copies k (take count (drop from a))) → Lays a from (repeated k (letters (take count (drop from a)))) after
-  lays-copies after e = record {
+  pub put-copies : (after : List ℕ) → after ≡ written a from (copies k (take count (drop from a))) → WordPut a from (repeated k (letters (take count (drop from a)))) after
+  put-copies after e = record {
     bytes = copies k (take count (drop from a));
     mean = letters-copies k (take count (drop from a));
     inside = omega (arith, all-bytes, ends, room);
@@ -225,9 +225,9 @@ module _ (a : List ℕ) (from count end : ℕ) (inside : from + count ≤ length
   }
 
   -- and is undone
-  pub lays-undone : (mid part after : List ℕ) → mid ≡ written a from (copies k (take count (drop from a))) → Inverted (drop from mid) (end - from) part → after ≡ take from mid ++ part
-      → Lays a from (inverse (repeated k (letters (take count (drop from a))))) after
-  lays-undone mid part after e inverted put = record {
+  pub put-undone : (mid part after : List ℕ) → mid ≡ written a from (copies k (take count (drop from a))) → Inverted (drop from mid) (end - from) part → after ≡ take from mid ++ part
+      → WordPut a from (inverse (repeated k (letters (take count (drop from a))))) after
+  put-undone mid part after e inverted put = record {
     bytes = take n part;
     mean = inverted .inverted ∙ ap inverse (ap letters stands ∙ letters-copies k b);
     inside = omega (arith, length-take-le n part long, all-bytes, ends, room);
@@ -275,12 +275,12 @@ module _ (a : List ℕ) (from count end : ℕ) (r : Repeatable from count end (l
 
   pub finished-plain : (minus : Bool) → minus ≡ false → (after : List ℕ) → Repeats a from count end after → Finishes a from count end minus after
   finished-plain minus off after repeats k e =
-      subst (λ m. Lays a from (undone m (repeated k (letters (take count (drop from a))))) after) (sym off) (lays-copies a from count end body-inside (r .inside) k e after (repeats k e))
+      subst (λ m. WordPut a from (undone m (repeated k (letters (take count (drop from a))))) after) (sym off) (put-copies a from count end body-inside (r .inside) k e after (repeats k e))
 
   module _ (minus : Bool) (on : minus ≡ true) (mid part after : List ℕ) (repeats : Repeats a from count end mid) (inverted : Inverted (drop from mid) (end - from) part) (put : after ≡ take from mid ++ part) where
     pub finished-undone : Finishes a from count end minus after
     finished-undone k e =
-        subst (λ m. Lays a from (undone m (repeated k (letters (take count (drop from a))))) after) (sym on) (lays-undone a from count end body-inside (r .inside) k e mid part after (repeats k e) inverted put)
+        subst (λ m. WordPut a from (undone m (repeated k (letters (take count (drop from a))))) after) (sym on) (put-undone a from count end body-inside (r .inside) k e mid part after (repeats k e) inverted put)
 
     pub undone-kept : length after ≡ length a
-    undone-kept = lays-kept a from (undone minus (repeated (r .times) (letters (take count (drop from a))))) after (finished-undone (r .times) (r .ends))
+    undone-kept = put-kept a from (undone minus (repeated (r .times) (letters (take count (drop from a))))) after (finished-undone (r .times) (r .ends))

@@ -14,11 +14,11 @@ use Rattle.model.proofs.Impossible.{impossible}
 use Rattle.theory.proofs.Notation.{notation-meaning}
 use Rattle.importing.specs.declared.writing.Laid.{Laid}
 use Rattle.importing.specs.Reading.{standsFirst, endsFirst, within}
-use Rattle.importing.specs.Laying.{Lays, ItemFits, ItemLaid, PatternFits, PatternLaid}
+use Rattle.importing.specs.Laying.{WordPut, ItemFits, ItemLaid, PatternFits, PatternLaid}
 use Rattle.importing.proofs.Texts.{tail-at}
 use Rattle.importing.proofs.Readers.{before, on-space, on-end, allItems, in-nothing, in-items, pattern-in}
 use Rattle.importing.proofs.Shorter.{Leaves, item-shortens, within-shortens, all-step}
-use Rattle.importing.proofs.Laying.{lays-nothing, lays-kept, lays-append}
+use Rattle.importing.proofs.Laying.{put-nothing, put-kept, put-append}
 
 -- a pattern that fits was read
 pub record Fitting (o : Outcome (Read Pattern)) (from room : ℕ) : Type 0 where
@@ -35,7 +35,7 @@ fitting (refused n place) from room h = absurd h
 pub nothing-written : (depth : ℕ) (t : List ℕ) (from : ℕ) (a : List ℕ) → endsFirst t ≡ true → PatternFits (readPattern depth t) from (length a) → PatternLaid (readPattern depth t) a from a from
 nothing-written depth t from a e fits =
     subst (λ o. PatternLaid o a from a from) (sym (pattern-in depth t ∙ in-nothing (within depth) t e)) (
-      lays-nothing a from (omega (arith, fitting (readPattern depth t) from (length a) fits .inside)),
+      put-nothing a from (omega (arith, fitting (readPattern depth t) from (length a) fits .inside)),
       omega arith,
     )
 
@@ -44,7 +44,7 @@ pub record Underway (text : List ℕ) (at depth from : ℕ) (first area : List �
   pub whole-read : readPattern depth (drop at text) ≡ answered whole
   pub done : Word
   pub left : Read Pattern
-  pub so-far : Lays first from done area
+  pub so-far : WordPut first from done area
   pub end-is : laid .end ≡ from + length done
   pub to-come : allItems (within depth) (drop (laid .next) text) ≡ answered left
   pub all : meaning (whole .value) ≡ done ++ meaning (left .value)
@@ -56,7 +56,7 @@ begun text at depth from a e fits = record {
   whole-read = f .read;
   done = [];
   left = f .pattern;
-  so-far = lays-nothing a from (omega (arith, f .inside));
+  so-far = put-nothing a from (omega (arith, f .inside));
   end-is = omega arith;
   to-come = sym (pattern-in depth (drop at text) ∙ in-items (within depth) (drop at text) e) ∙ f .read;
   all = refl;
@@ -155,15 +155,15 @@ module _ (text : List ℕ) (at depth from : ℕ) (first area : List ℕ) (laid :
   item-fits =
       subst (λ o. ItemFits o (laid .end) (length area)) (sym (next .first-read)) (
         omega (arith, fewer, all-moves, f .few),
-        omega (arith, fewer, all-moves, f .inside, u .end-is, lays-kept first from (u .done) area (u .so-far)),
+        omega (arith, fewer, all-moves, f .inside, u .end-is, put-kept first from (u .done) area (u .so-far)),
       )
 
   module _ (then-area : List ℕ) (then-laid : Laid) (wrote : ItemLaid (readItem (within depth) (drop (laid .next) text)) text area (laid .end) then-area then-laid) where
-    told : Lays area (laid .end) (itemMeaning (next .first .value)) then-area × (drop (then-laid .next) text ≡ next .first .rest) × (then-laid .end ≡ laid .end + itemMoves (next .first .value))
+    told : WordPut area (laid .end) (itemMeaning (next .first .value)) then-area × (drop (then-laid .next) text ≡ next .first .rest) × (then-laid .end ≡ laid .end + itemMoves (next .first .value))
     told = subst (λ o. ItemLaid o text area (laid .end) then-area then-laid) (next .first-read) wrote
 
-    both : Lays first from (u .done ++ itemMeaning (next .first .value)) then-area
-    both = lays-append first area then-area from (u .done) (itemMeaning (next .first .value)) (u .so-far) (subst (λ n. Lays area n (itemMeaning (next .first .value)) then-area) (u .end-is) (told .0))
+    both : WordPut first from (u .done ++ itemMeaning (next .first .value)) then-area
+    both = put-append first area then-area from (u .done) (itemMeaning (next .first .value)) (u .so-far) (subst (λ n. WordPut area n (itemMeaning (next .first .value)) then-area) (u .end-is) (told .0))
 
     length-item : length (itemMeaning (next .first .value)) ≡ itemMoves (next .first .value)
     length-item = ap length (sym (append-nil (itemMeaning (next .first .value)))) ∙ notation-meaning .counted (next .first .value then nothing) ∙ omega arith
@@ -174,7 +174,7 @@ module _ (text : List ℕ) (at depth from : ℕ) (first area : List ℕ) (laid :
     pub last-written : standsFirst spaceByte (drop (then-laid .next) text) ≡ false → PatternLaid (readPattern depth (drop at text)) first from then-area (then-laid .end)
     last-written s =
         subst (λ o. PatternLaid o first from then-area (then-laid .end)) (sym (u .whole-read)) (
-          subst (λ w. Lays first from w then-area) (sym means) both,
+          subst (λ w. WordPut first from w then-area) (sym means) both,
           omega (arith, told .2, u .end-is, length-both, ap length (sym means), notation-meaning .counted (u .whole .value)),
         )
       where

@@ -19,12 +19,12 @@ use Rattle.theory.proofs.Notation.{notation-meaning}
 use Rattle.engine.specs.Gap.{letters}
 use Rattle.importing.specs.declared.writing.Laid.{Laid}
 use Rattle.importing.specs.Reading.{standsFirst, Kept, keptItem, within}
-use Rattle.importing.specs.Laying.{Lays, Repeatable, Finishes, ItemFits, ItemLaid, PatternFits, PatternLaid}
+use Rattle.importing.specs.Laying.{WordPut, Repeatable, Finishes, ItemFits, ItemLaid, PatternFits, PatternLaid}
 use Rattle.importing.proofs.Texts.{tail-at}
 use Rattle.importing.proofs.Readers.{closeAfter, body-bracket, body-move, minus-there, minus-none}
 use Rattle.importing.proofs.Keeping.{Answered, kept-answered, capped-low}
 use Rattle.importing.proofs.Items.{within-less}
-use Rattle.importing.proofs.Laying.{lays-nothing, lays-over, lays-stands}
+use Rattle.importing.proofs.Laying.{put-nothing, put-over, put-word}
 
 -- HOW MANY MOVES
 
@@ -154,7 +154,7 @@ module _ (text : List ℕ) (at depth from : ℕ) (a : List ℕ) (k : Kept) (e : 
   pub end-inside : from + k .moves ≤ length a
   end-inside = omega (arith, moves-exact, few .1)
 
-  laid-out : (after : List ℕ) (laid : Laid) → Lays a from (itemMeaning the-item) after → drop (laid .next) text ≡ k .rest → laid .end ≡ from + k .moves
+  laid-out : (after : List ℕ) (laid : Laid) → WordPut a from (itemMeaning the-item) after → drop (laid .next) text ≡ k .rest → laid .end ≡ from + k .moves
       → ItemLaid (readItem (within depth) (drop at text)) text a from after laid
   laid-out after laid lays next end =
       subst (λ o. ItemLaid o text a from after laid) (sym (was-read .read)) (lays, next, omega (arith, end, moves-exact))
@@ -162,7 +162,7 @@ module _ (text : List ℕ) (at depth from : ℕ) (a : List ℕ) (k : Kept) (e : 
   -- an item of no moves
   pub nothing-laid : (laid : Laid) → drop (laid .next) text ≡ k .rest → laid .end ≡ from + k .moves → k .moves ≡ 0
       → ItemLaid (readItem (within depth) (drop at text)) text a from a laid
-  nothing-laid laid next end none = laid-out a laid (subst (λ w. Lays a from w a) (empty (itemMeaning the-item) (item-length the-item ∙ sym moves-exact ∙ none)) (lays-nothing a from (omega (arith, end-inside)))) next end
+  nothing-laid laid next end none = laid-out a laid (subst (λ w. WordPut a from w a) (empty (itemMeaning the-item) (item-length the-item ∙ sym moves-exact ∙ none)) (put-nothing a from (omega (arith, end-inside)))) next end
     where
       empty : (w : Word) → length w ≡ 0 → [] ≡ w
       empty [] h = refl
@@ -210,21 +210,21 @@ module _ (text : List ℕ) (at depth from : ℕ) (a : List ℕ) (k : Kept) (e : 
     }
 
     -- and then the whole item stands
-    pub item-stands : (count : ℕ) (mid after : List ℕ) (minus : Bool) (laid : Laid) → count ≡ bodyMoves (parts .body) → Lays a from (bodyMeaning (parts .body)) mid
+    pub item-stands : (count : ℕ) (mid after : List ℕ) (minus : Bool) (laid : Laid) → count ≡ bodyMoves (parts .body) → WordPut a from (bodyMeaning (parts .body)) mid
         → Finishes mid from count (from + k .moves) minus after → minus ≡ readMinus (drop at text) .value → drop (laid .next) text ≡ k .rest → laid .end ≡ from + k .moves
         → ItemLaid (readItem (within depth) (drop at text)) text a from after laid
     item-stands count mid after minus laid c body finishes m next end = laid-out after laid whole next end
       where
         word : letters (take count (drop from mid)) ≡ bodyMeaning (parts .body)
-        word = lays-stands a from (bodyMeaning (parts .body)) mid body count (c ∙ sym (body-length (parts .body)))
+        word = put-word a from (bodyMeaning (parts .body)) mid body count (c ∙ sym (body-length (parts .body)))
 
-        over : Lays mid from (itemMeaning the-item) after
+        over : WordPut mid from (itemMeaning the-item) after
         over =
-            subst (λ w. Lays mid from w after) (ap (λ w. undone minus (repeated (times (parts .count)) w)) word ∙ ap (λ s. undone s (repeated (times (parts .count)) (bodyMeaning (parts .body)))) m ∙ sym meaning-is)
+            subst (λ w. WordPut mid from w after) (ap (λ w. undone minus (repeated (times (parts .count)) w)) word ∙ ap (λ s. undone s (repeated (times (parts .count)) (bodyMeaning (parts .body)))) m ∙ sym meaning-is)
             (finishes (times (parts .count)) (ap (λ n. from + n) (moves-are ∙ ap (λ n. times (parts .count) * n) (sym c))))
 
-        whole : Lays a from (itemMeaning the-item) after
-        whole = lays-over a mid after from (bodyMeaning (parts .body)) (itemMeaning the-item) body over (omega (arith, body-length (parts .body), item-length the-item, body-fewer, moves-exact))
+        whole : WordPut a from (itemMeaning the-item) after
+        whole = put-over a mid after from (bodyMeaning (parts .body)) (itemMeaning the-item) body over (omega (arith, body-length (parts .body), item-length the-item, body-fewer, moves-exact))
 
     -- a bracket's pattern is read one level deeper, and has room
     module _ (start : ℕ) (begins : drop start text ≡ readMinus (drop at text) .rest) (opens : standsFirst openingByte (drop start text) ≡ true) where
@@ -254,11 +254,11 @@ module _ (text : List ℕ) (at depth from : ℕ) (a : List ℕ) (k : Kept) (e : 
           )
 
       module _ (mid : List ℕ) (end : ℕ) (done : PatternLaid (readPattern (depth - 1) (drop (start + 1) text)) a from mid end) where
-        told : Lays a from (meaning (held .pattern .value)) mid × (end ≡ from + moves (held .pattern .value))
+        told : WordPut a from (meaning (held .pattern .value)) mid × (end ≡ from + moves (held .pattern .value))
         told = subst (λ o. PatternLaid o a from mid end) pattern-read done
 
-        pub body-laid : Lays a from (bodyMeaning (parts .body)) mid
-        body-laid = subst (λ b. Lays a from (bodyMeaning b) mid) (sym (held .body-is)) (told .0)
+        pub body-laid : WordPut a from (bodyMeaning (parts .body)) mid
+        body-laid = subst (λ b. WordPut a from (bodyMeaning b) mid) (sym (held .body-is)) (told .0)
 
         pub body-end : end ≡ from + bodyMoves (parts .body)
         body-end = omega (arith, told .1, moves-held)

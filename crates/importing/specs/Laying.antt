@@ -14,7 +14,7 @@ use Rattle.engine.specs.Gap.{letters}
 use Rattle.importing.specs.declared.writing.Laid.{Laid}
 
 -- the letters of a word stand from a place on, and no other byte has changed
-pub record Lays (before : List ℕ) (from : ℕ) (w : Word) (after : List ℕ) : Type 0 where
+pub record WordPut (before : List ℕ) (from : ℕ) (w : Word) (after : List ℕ) : Type 0 where
   pub bytes : List ℕ
   pub mean : letters bytes ≡ w
   pub inside : from + length bytes ≤ length before
@@ -40,7 +40,7 @@ Repeats before from count end after = (k : ℕ) → end ≡ from + k * count →
 -- their letters stand so often, and undone where there is a minus
 abbrev pub Finishes : List ℕ → ℕ → ℕ → ℕ → Bool → List ℕ → Type 0
 Finishes before from count end minus after =
-    (k : ℕ) → end ≡ from + k * count → Lays before from (undone minus (repeated k (letters (take count (drop from before))))) after
+    (k : ℕ) → end ≡ from + k * count → WordPut before from (undone minus (repeated k (letters (take count (drop from before))))) after
 
 -- an item that is read, with no more moves than a program has and than there is room for
 abbrev pub ItemFits : Outcome (Read Item) → ℕ → ℕ → Type 0
@@ -50,7 +50,7 @@ ItemFits (refused n place) from room = ⊥
 -- its moves are laid out, and the places are told where the text and the moves go on
 abbrev pub ItemLaid : Outcome (Read Item) → List ℕ → List ℕ → ℕ → List ℕ → Laid → Type 0
 ItemLaid (answered i) text before from after laid =
-    Lays before from (itemMeaning (i .value)) after × (drop (laid .next) text ≡ i .rest) × (laid .end ≡ from + itemMoves (i .value))
+    WordPut before from (itemMeaning (i .value)) after × (drop (laid .next) text ≡ i .rest) × (laid .end ≡ from + itemMoves (i .value))
 ItemLaid (refused n place) text before from after laid = Unit {0}
 
 -- the same of a pattern
@@ -59,5 +59,5 @@ PatternFits (answered p) from room = (moves (p .value) ≤ mostLetters) × (from
 PatternFits (refused n place) from room = ⊥
 
 abbrev pub PatternLaid : Outcome (Read Pattern) → List ℕ → ℕ → List ℕ → ℕ → Type 0
-PatternLaid (answered p) before from after end = Lays before from (meaning (p .value)) after × (end ≡ from + moves (p .value))
+PatternLaid (answered p) before from after end = WordPut before from (meaning (p .value)) after × (end ≡ from + moves (p .value))
 PatternLaid (refused n place) before from after end = Unit {0}

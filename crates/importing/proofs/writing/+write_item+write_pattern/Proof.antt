@@ -13,11 +13,11 @@ use borrow.Fn.PlainCycle.{Measures, is, falls, and}
 use Rattle.model.specs.Outcome.{answered}
 use Rattle.model.specs.Notation.{itemMoves, bodyMoves, itemHighest, readItem}
 use Rattle.importing.specs.Reading.{Kept, standsFirst, spanned, keptItem, within}
-use Rattle.importing.specs.Laying.{Lays, ItemFits}
+use Rattle.importing.specs.Laying.{WordPut, ItemFits}
 use Rattle.importing.proofs.Texts.{first-there, next-fits}
 use Rattle.importing.proofs.Keeping.{kept-refused}
 use Rattle.importing.proofs.Items.{deeper}
-use Rattle.importing.proofs.Laying.{lays-kept, lays-move}
+use Rattle.importing.proofs.Laying.{put-kept, put-move}
 use Rattle.importing.proofs.Writers.{Parts, the-item, parts, end-inside, nothing-laid, body-repeats, item-stands, deep, pattern-fits, body-laid, body-end, move-low, move-is, move-one, minus-is}
 use Rattle.importing.proofs.Underway.{Underway, nothing-written, begun, item-fits, last-written, further, less-left}
 use Rattle.importing.proofs.writing.write_item.Reads as write-item
@@ -258,8 +258,8 @@ module _ (t : ℕ) where
         c .before .before .finish2 .ensures .0 ∙ length-set a from x,
         item-stands text (s .args .at) (s .args .depth) from a (kept k) (kept-read k) (s .pre .1) (some (o .before .before .before .before))
             1 (set a from x) (c .before .before .finish2 .last .0) (o .before .before .before .stands .result) _ (one-move o)
-            (subst (λ w. Lays a from w (set a from x)) (sym (move-is text (s .args .at) (s .args .depth) from a (kept k) (kept-read k) (s .pre .1) (some (o .before .before .before .before)) start begins (plain o)))
-            (lays-move a from x (room o) (move-low text (s .args .at) (s .args .depth) from a (kept k) (kept-read k) (s .pre .1) (some (o .before .before .before .before)) start begins (plain o))))
+            (subst (λ w. WordPut a from w (set a from x)) (sym (move-is text (s .args .at) (s .args .depth) from a (kept k) (kept-read k) (s .pre .1) (some (o .before .before .before .before)) start begins (plain o)))
+            (put-move a from x (room o) (move-low text (s .args .at) (s .args .depth) from a (kept k) (kept-read k) (s .pre .1) (some (o .before .before .before .before)) start begins (plain o))))
             (c .before .before .finish2 .ensures .1) (minus-is (drop (s .args .at) text) (o .before .before .before .stands .result) (o .before .before .before .stands .ensures)) refl refl,
       )
 
@@ -300,14 +300,14 @@ module _ (t : ℕ) where
   pattern-same-length c =
       let s = c .before .before .before .before .before .before .before .before .before .before .before in
       let l = c .before .before .before .before .before .before .loop in
-      c .before .before .before .before .write-item .ensures .0 ∙ lays-kept (s .args .area .now) (s .args .from) (l .inv .done) (l .area) (l .inv .so-far)
+      c .before .before .before .before .write-item .ensures .0 ∙ put-kept (s .args .area .now) (s .args .from) (l .inv .done) (l .area) (l .inv .so-far)
 
   pattern-returns-2 : write-pattern-lts.Need-returns-2 (pattern-calls t) (write-pattern-at t) write-pattern.Post Inv-loop μ-loop
   pattern-returns-2 c =
       let s = c .before .before .before .before .before .before .before .before .before .before .before in
       let l = c .before .before .before .before .before .before .loop in
       let w = c .before .before .before .before .write-item in (
-        w .ensures .0 ∙ lays-kept (s .args .area .now) (s .args .from) (l .inv .done) (l .area) (l .inv .so-far),
+        w .ensures .0 ∙ put-kept (s .args .area .now) (s .args .from) (l .inv .done) (l .area) (l .inv .so-far),
         last-written (s .args .text .now) (s .args .at) (s .args .depth) (s .args .from) (s .args .area .now) (l .area) (l .laid) (s .pre .1) (l .inv) (w .last .1 .1 .1 .0) (w .result) (w .ensures .1)
             (sym (c .before .stands .ensures) ∙ not-true (c .before .stands .result) (c .if2 .taken)),
       )
