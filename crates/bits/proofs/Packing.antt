@@ -12,6 +12,7 @@ use lib.ListN.{length, take, drop, replicate, length-append, length-take, length
 use lib.Seq.{take-at, drop-at, take-append-le, take-append-add, length-take-le}
 use Rattle.model.specs.Bits.{digits, number, bitsOf, packed, bytesFor, pack, allZero, filling}
 use Rattle.model.specs.Range.{AreBytes}
+use Rattle.model.proofs.Booleans.{both}
 use Rattle.model.proofs.Numbers.{below-or}
 use Rattle.bits.proofs.Digits.{AreBits, length-digits, bits-append, number-bound, number-of-digits, digits-of-number}
 use Rattle.bits.proofs.Bytes.{length-bits}
@@ -28,10 +29,10 @@ length-packed (suc k) bits = ap suc (length-packed k (drop 8 bits))
 length-zeros : (n : ℕ) → length {A = ℕ} (replicate n 0) ≡ n
 length-zeros n = length-replicate {A = ℕ} n 0
 
-take-replicate : (m n : ℕ) → m ≤ n → take {A = ℕ} m (replicate n 0) ≡ replicate m 0
-take-replicate zero n h = refl
-take-replicate (suc m) zero h = absurd (omega arith)
-take-replicate (suc m) (suc n) h = ap (λ l. 0 ∷ l) (take-replicate m n (omega arith))
+pub take-zeros : (m n : ℕ) → m ≤ n → take {A = ℕ} m (replicate n 0) ≡ replicate m 0
+take-zeros zero n h = refl
+take-zeros (suc m) zero h = absurd (omega arith)
+take-zeros (suc m) (suc n) h = ap (λ l. 0 ∷ l) (take-zeros m n (omega arith))
 
 -- the bits of the next byte
 next-length : (bits : List ℕ) → 1 ≤ length bits → length (take 8 (bits ++ replicate 7 0)) ≡ 8
@@ -56,7 +57,7 @@ packed-bits (suc k) bits h l r =
     ∙ (append-nil (take 8 (bits ++ replicate 7 0))
     ∙ (ap (λ n. take n (bits ++ replicate 7 0)) {x = 8} {y = length bits + (8 - length bits)} (omega arith)
     ∙ (take-append-add bits (replicate 7 0) (8 - length bits)
-    ∙ (ap (λ l. bits ++ l) (take-replicate (8 - length bits) 7 (omega arith))
+    ∙ (ap (λ l. bits ++ l) (take-zeros (8 - length bits) 7 (omega arith))
     ∙ ap (λ n. bits ++ replicate n 0) {x = 8 - length bits} {y = 8 * suc k - length bits} (omega arith)))))))
     (λ (long : 8 ≤ length bits).
     let d : length (drop 8 bits) ≡ length bits - 8 = length-drop 8 bits in
@@ -76,11 +77,6 @@ pub zeros-all-zero : (n : ℕ) → allZero (replicate n 0) ≡ true
 zeros-all-zero zero = refl
 zeros-all-zero (suc n) = zeros-all-zero n
 
-and-true : (a b : Bool) → a ≡ true → b ≡ true → (a && b) ≡ true
-and-true true true p q = refl
-and-true true false p q = q
-and-true false b p q = p
-
 pub and-first : (a b : Bool) → (a && b) ≡ true → a ≡ true
 and-first true b e = refl
 and-first false b e = e
@@ -94,7 +90,7 @@ and-second false false e = e
 pub pack-filling : (bits : List ℕ) → filling (replicate (8 * bytesFor (length bits) - length bits) 0) ≡ true
 pack-filling bits =
     let n = 8 * bytesFor (length bits) - length bits in
-    and-true (ltb (length (replicate n 0)) 8) (allZero (replicate n 0)) (lt-ltb (length (replicate n 0)) 8 (omega (arith, length-zeros n))) (zeros-all-zero n)
+    both (lt-ltb (length (replicate n 0)) 8 (omega (arith, length-zeros n))) (zeros-all-zero n)
 
 all-zero-replicate : (bits : List ℕ) → allZero bits ≡ true → bits ≡ replicate (length bits) 0
 all-zero-replicate [] e = refl

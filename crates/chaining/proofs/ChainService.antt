@@ -20,7 +20,7 @@ use Rattle.model.specs.declared.answers.Refusal.{Refusal}
 use Rattle.model.specs.declared.answers.Refusal.the-variants.{AnswerShort}
 use Rattle.model.specs.declared.answers.Compared.{Compared}
 use Rattle.model.specs.declared.answers.Compared.the-variants.{Same, Different, Refused}
-use Rattle.model.proofs.Impossible.{impossible}
+use Rattle.model.proofs.Impossible.{impossible, answer-of}
 use Rattle.model.proofs.Reversal.{reversing-long}
 use Rattle.model.proofs.Equiv.{Homogeneous}
 use Rattle.theory.proofs.Clearing.{clear-homogeneous}
@@ -28,7 +28,6 @@ use Rattle.theory.proofs.Passages.{lead-joins}
 use Rattle.theory.proofs.Comparison.{answered-clear}
 use Rattle.theory.specs.Verdicts.{DemandThree}
 use Rattle.theory.proofs.Verdicts.{demand-three-told}
-use Rattle.images.proofs.Several.{answer-of}
 use Rattle.model.specs.Range.{ProgramInRange, Lettered}
 use Rattle.images.specs.Programs.{ForwardOf}
 use Rattle.images.proofs.RoundTrip.{chain-reads-back, program-in-range}

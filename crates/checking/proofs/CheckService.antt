@@ -19,10 +19,11 @@ use Rattle.model.specs.Services.{Passage, joins, readForward, followedBy, follo
 use Rattle.model.specs.Areas.{Compares, workspaceAfter, written}
 use Rattle.model.specs.Stated.{refusal}
 use Rattle.model.specs.declared.answers.Refusal.{Refusal}
+use Rattle.model.proofs.Impossible.{answer-of}
+use Rattle.model.proofs.Words.{plain-positive}
 use Rattle.theory.specs.Passages.{Passes, arrives, broken, elsewhere, starts-long, grows-long}
 use Rattle.model.proofs.Impossible.{impossible}
 use Rattle.theory.proofs.Passages.{passage-exactly}
-use Rattle.images.proofs.Several.{answer-of}
 use Rattle.images.specs.Programs.{ForwardOf}
 use Rattle.swaps.specs.Held.{heldAt, Placed, Carried}
 use Rattle.swaps.proofs.Applying.{held-length}
@@ -32,11 +33,6 @@ use Rattle.loading.proofs.Early.{chain-early}
 use Rattle.loading.proofs.Outcomes.{AsFound, goes-on, reading-refused}
 use Rattle.loading.proofs.Programs.{written-end}
 use Rattle.loading.proofs.Reading.{programs-refused, programs-run}
-
--- the bytes of a forward program are its numbers
-plain-positive : (u : Positive) → plainProgram (positive u) ≡ u
-plain-positive [] = refl
-plain-positive (a ∷ u) = ap (λ l. a ∷ l) (plain-positive u)
 
 pub forward-count : {image : List ℕ} {size count : ℕ} (f : ForwardOf image size count) (u : Positive) → readForward size image ≡ answered u → f .word ≡ u
 forward-count f u e = cc (f .read, e)

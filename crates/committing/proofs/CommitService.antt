@@ -21,8 +21,7 @@ use Rattle.model.specs.declared.answers.Refusal.{Refusal}
 use Rattle.model.specs.declared.answers.Refusal.the-variants.{OtherNumbers}
 use Rattle.model.specs.declared.answers.Reversed.{Reversed}
 use Rattle.model.specs.declared.answers.Reversed.the-variants.{Refused}
-use Rattle.model.proofs.Impossible.{impossible}
-use Rattle.images.proofs.Several.{answer-of}
+use Rattle.model.proofs.Impossible.{impossible, answer-of}
 use Rattle.engine.specs.Run.{Reverses}
 use Rattle.engine.proofs.Ended.{end, done, met, halted}
 use Rattle.loading.proofs.Outcomes.{still-refused, goes-on}

@@ -23,7 +23,7 @@ use Rattle.bits.proofs.Digits.{AreBits, length-digits, digits-are-bits, bits-ap
 use Rattle.bits.proofs.Width.{letter-fits}
 use Rattle.bits.proofs.Bytes.{length-bits, bits-of-append, bits-store}
 use Rattle.model.specs.Range.{AreBytes}
-use Rattle.bits.proofs.Packing.{pack-bits, packed-bytes, length-packed, bits-injective, and-first, and-second}
+use Rattle.bits.proofs.Packing.{take-zeros, pack-bits, packed-bytes, length-packed, bits-injective, and-first, and-second}
 use Rattle.images.specs.Written.{WidthOf, programBits}
 use Rattle.images.proofs.Placed.{length-signed}
 use Rattle.images.proofs.RoundTrip.{concat-bits, signed-are-bits, pair-are-bits}
@@ -173,11 +173,6 @@ zero-area : (n : ℕ) → bitsOf (replicate n 0) ≡ replicate (8 * n) 0
 zero-area zero = refl
 zero-area (suc n) =
     ap (λ l. replicate 8 0 ++ l) (zero-area n) ∙ ap (λ m. replicate {A = ℕ} m 0) {x = suc (suc (suc (suc (suc (suc (suc (suc (8 * n))))))))} {y = 8 * suc n} (omega arith)
-
-take-zeros : (m n : ℕ) → m ≤ n → take {A = ℕ} m (replicate n 0) ≡ replicate m 0
-take-zeros zero n h = refl
-take-zeros (suc m) zero h = absurd (omega arith)
-take-zeros (suc m) (suc n) h = ap (λ l. 0 ∷ l) (take-zeros m n (omega arith))
 
 bits-of-take : (k : ℕ) (xs : List ℕ) → k ≤ length xs → bitsOf (take k xs) ≡ take (8 * k) (bitsOf xs)
 bits-of-take k xs h =

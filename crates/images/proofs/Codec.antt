@@ -16,7 +16,7 @@ use Rattle.model.specs.Images.{several, rowsOf}
 use Rattle.bits.proofs.Digits.{AreBits, length-digits, number-bound, number-of-digits, digits-of-number}
 use Rattle.bits.proofs.Fields.{bits-take}
 use Rattle.model.specs.Range.{All, Rows}
-use Rattle.images.proofs.Several.{answer-of, same-answer}
+use Rattle.model.proofs.Impossible.{answer-of, same-answer, not-refused}
 
 -- the parts of an outcome in order: what the first answers, and what follows from it
 pub then : {A B : Type 0} (o : Outcome A) (f : A → Outcome B) (x : A) (y : Outcome B) → o ≡ answered x → f x ≡ y → (o >>= f) ≡ y
@@ -109,11 +109,6 @@ module _ (Input : List ℕ → Type 0) (suffix : (xs ys : List ℕ) → Input (x
           stood-there = λ input i r e. rows-stood k input i r e .0;
           in-range = λ input i r e. rows-stood k input i r e .1;
         }
-
--- a test that did not refuse
-pub not-refused : {A : Type 0} (t : Bool) (n : ℕ) (x y : A) → unless t n x ≡ answered y → (t ≡ false) × (x ≡ y)
-not-refused true n x y e = absurd (let z : _≡_ {A = ℕ} 0 1 = cc in omega arith)
-not-refused false n x y e = (refl, same-answer x y e)
 
 pub bits-suffix : (xs ys : List ℕ) → AreBits (xs ++ ys) → AreBits ys
 bits-suffix [] ys h = h

@@ -8,13 +8,13 @@ use Rattle.model.specs.Equivalence.{Entry}
 use Rattle.model.specs.Outcome.{unplaced, Outcome, answered, refused, _>>=_}
 use Rattle.model.specs.Bits.{Read, field, bitsOf}
 use Rattle.model.specs.Images.{letterField, entryWidth, entryPosition, entryField, readChain}
+use Rattle.model.proofs.Impossible.{same-answer}
 use Rattle.bits.proofs.Bytes.{bits-are-bits}
 use Rattle.bits.proofs.Fields.{bits-drop}
 use Rattle.entries.specs.Entry.{EntryInside, ReadsEntry}
 use Rattle.entries.specs.declared.entry.ChainEntry.{ChainEntry}
 use Rattle.images.specs.Fields.{FieldAt, LetterAt, from}
 use Rattle.images.specs.Chains.{entryOf, EntryAt, HasEntry}
-use Rattle.images.proofs.Several.{same-answer}
 use Rattle.images.proofs.RoundTrip.{chain-in-range}
 use Rattle.images.proofs.Inverse.{entry-codec}
 use Rattle.images.proofs.Placed.{entry-placed, entry-inside}

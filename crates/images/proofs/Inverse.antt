@@ -17,8 +17,8 @@ use Rattle.model.specs.Images.{several, letterField, letterBits, wordField, wor
 use Rattle.bits.proofs.Digits.{AreBits}
 use Rattle.bits.proofs.Width.{letter-fits}
 use Rattle.model.specs.Range.{All, InRange, LetterInRange, WordInRange, PairInRange, EntryInRange}
-use Rattle.images.proofs.Several.{answer-of, same-answer}
-use Rattle.images.proofs.Codec.{Codec, then, field-codec, several-codec, input-rest, bits-suffix, not-refused}
+use Rattle.model.proofs.Impossible.{answer-of, same-answer, not-refused}
+use Rattle.images.proofs.Codec.{Codec, then, field-codec, several-codec, input-rest, bits-suffix}
 
 -- a count, then as many of one kind
 module _ {A : Type 0} (early width : ℕ) (reader : List ℕ → Outcome (Read A)) (write : A → List ℕ) (Range : A → Type 0) (one : Codec AreBits reader write Range) where

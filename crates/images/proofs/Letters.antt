@@ -20,7 +20,7 @@ use Rattle.bits.proofs.Width.{width-small}
 use Rattle.images.specs.Fields.{from, Before, FieldAt}
 use Rattle.images.specs.Programs.{SignedAt, Accepted, HasLetter}
 use Rattle.model.specs.Areas.{written}
-use Rattle.images.proofs.Several.{same-answer}
+use Rattle.model.proofs.Impossible.{same-answer}
 use Rattle.images.proofs.Signed.{sign-of}
 use Rattle.images.proofs.RoundTrip.{program-in-range}
 use Rattle.images.proofs.Placed.{letter-placed, letter-inside}

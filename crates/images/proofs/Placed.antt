@@ -12,12 +12,13 @@ use Rattle.model.specs.Equivalence.{Entry}
 use Rattle.model.specs.Outcome.{unplaced, Outcome, answered, refused, _>>=_}
 use Rattle.model.specs.Bits.{Read, field, finish, filling, bitsOf, letterWidth}
 use Rattle.model.specs.Images.{several, signedField, signedBits, readProgram, entryWidth, entryPosition, entryField, entryBits, readChain}
+use Rattle.model.proofs.Impossible.{answer-of, same-answer}
 use Rattle.bits.proofs.Digits.{AreBits, length-digits}
 use Rattle.bits.proofs.Bytes.{bits-are-bits}
 use Rattle.bits.proofs.Fields.{bits-drop}
 use Rattle.entries.proofs.Placing.{length-entry}
 use Rattle.images.specs.Fields.{from}
-use Rattle.images.proofs.Several.{answer-of, same-answer, several-length, value-at}
+use Rattle.images.proofs.Several.{several-length, value-at}
 use Rattle.images.proofs.Codec.{Codec, field-codec}
 use Rattle.images.proofs.Inverse.{signed-codec, entry-codec}
 use Rattle.images.proofs.Reading.{length-from}

@@ -15,10 +15,11 @@ use Rattle.model.specs.Bits.{Read}
 use Rattle.model.specs.Images.{weightWidth, several, rowsOf}
 use Rattle.model.specs.Plain.{plainWord, plainPair, plainTable, plainProgram, nextByte, plainLetter, plainWeight, plainLetters, plainDefined, plainPairAt, readPlainTable, namesLetter, plainLettersSigned, readPlainProgram}
 use Rattle.model.specs.Range.{AreBytes, All, Rows, InRange, LetterInRange, WordInRange, PairInRange, ProgramInRange, TableInRange}
+use Rattle.model.proofs.Booleans.{both}
+use Rattle.model.proofs.Impossible.{answer-of, same-answer, not-refused}
 use Rattle.images.proofs.Appending.{named-positive, named-small}
 use Rattle.images.proofs.Weights.{weightByte, weight-bytes}
-use Rattle.images.proofs.Several.{answer-of, same-answer}
-use Rattle.images.proofs.Codec.{Codec, then, several-codec, rows-codec, not-refused}
+use Rattle.images.proofs.Codec.{Codec, then, several-codec, rows-codec}
 
 -- a plain form may be made of any bytes
 abbrev Any : List ℕ → Type 0
@@ -45,10 +46,6 @@ or-second false b e = e
 or-neither : (a b : Bool) → a ≡ false → b ≡ false → (a || b) ≡ false
 or-neither true b p q = p
 or-neither false b p q = q
-
-both-true : (a b : Bool) → a ≡ true → b ≡ true → (a && b) ≡ true
-both-true true b p q = q
-both-true false b p q = p
 
 concat-ones : (xs : List ℕ) → concatMap one xs ≡ xs
 concat-ones [] = refl
@@ -255,10 +252,10 @@ plain-table-of bytes T e =
 byte-names : (n : ℕ) (x : Letter) → n ≤ 16 → LetterInRange n x → namesLetter n (byte x) ≡ true
 byte-names n (forward a) few h =
     let e : a % 128 ≡ a = omega (arith, h .high) in
-    ap (λ v. leb 1 v && leb v n) e ∙ both-true (leb 1 a) (leb a n) (le-leb 1 a (h .low)) (le-leb a n (h .high))
+    ap (λ v. leb 1 v && leb v n) e ∙ both (le-leb 1 a (h .low)) (le-leb a n (h .high))
 byte-names n (back a) few h =
     let e : (128 + a) % 128 ≡ a = omega (arith, h .high) in
-    ap (λ v. leb 1 v && leb v n) e ∙ both-true (leb 1 a) (leb a n) (le-leb 1 a (h .low)) (le-leb a n (h .high))
+    ap (λ v. leb 1 v && leb v n) e ∙ both (le-leb 1 a (h .low)) (le-leb a n (h .high))
 
 letter-of-byte : (n : ℕ) (x : Letter) → n ≤ 16 → LetterInRange n x → letter (byte x) ≡ x
 letter-of-byte n (forward a) few h = ap (λ t. cond t (forward a) (back (a - 128))) (lt-ltb a 128 (omega (arith, h .high)))

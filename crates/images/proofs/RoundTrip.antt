@@ -16,8 +16,9 @@ use Rattle.model.specs.Images.{weightWidth, several, rowsOf, letterBits, wordBi
 use Rattle.bits.proofs.Digits.{AreBits, digits-are-bits, bits-append}
 use Rattle.bits.proofs.Bytes.{bits-are-bits}
 use Rattle.model.specs.Range.{AreBytes, All, Rows, LetterInRange, PairInRange, EntryInRange, ProgramInRange, TableInRange, ChainInRange}
+use Rattle.model.proofs.Impossible.{answer-of, same-answer}
 use Rattle.bits.proofs.Packing.{pack-bits, pack-filling, packed-of}
-use Rattle.images.proofs.Several.{answer-of, same-answer, bind-assoc}
+use Rattle.images.proofs.Several.{bind-assoc}
 use Rattle.images.proofs.Codec.{Codec, then, several-codec, field-codec, rows-codec, input-rest, bits-suffix}
 use Rattle.images.proofs.Inverse.{counted, counted-codec, signed-codec, pair-codec, entry-codec}
 

@@ -8,14 +8,7 @@ use lib.ListN.{length, drop, getD}
 use Rattle.model.specs.Outcome.{Place, Outcome, answered, refused, _>>=_}
 use Rattle.model.specs.Bits.{Read}
 use Rattle.model.specs.Images.{several, rowsOf}
-
--- an answer comes from answers
-pub answer-of : {A B : Type 0} (o : Outcome A) (f : A → Outcome B) (y : B) → (o >>= f) ≡ answered y → (x : A) × (o ≡ answered x) × (f x ≡ answered y)
-answer-of (answered x) f y e = (x, refl, e)
-answer-of (refused n ps) f y e = absurd (let z : _≡_ {A = ℕ} 0 1 = cc in omega arith)
-
-pub same-answer : {A : Type 0} (x y : A) → _≡_ {A = Outcome A} (answered x) (answered y) → x ≡ y
-same-answer x y e = cc
+use Rattle.model.proofs.Impossible.{answer-of, same-answer}
 
 pub bind-assoc : {A B C : Type 0} (o : Outcome A) (f : A → Outcome B) (g : B → Outcome C) → ((o >>= f) >>= g) ≡ (o >>= λ x. f x >>= g)
 bind-assoc (answered x) f g = refl

@@ -8,9 +8,9 @@ use Rattle.model.specs.Word.{Letter, forward, back}
 use Rattle.model.specs.Outcome.{unplaced, Outcome, answered, refused, _>>=_}
 use Rattle.model.specs.Bits.{Read, field}
 use Rattle.model.specs.Images.{letterField, signedField, signed}
+use Rattle.model.proofs.Impossible.{answer-of, same-answer}
 use Rattle.images.specs.Fields.{FieldAt, LetterAt, from}
 use Rattle.images.specs.Programs.{SignedAt}
-use Rattle.images.proofs.Several.{same-answer, answer-of}
 
 module _ (image : List ℕ) (at size width : ℕ) where
   after-number : ℕ → Outcome (Read ℕ) → Outcome (Read Letter)

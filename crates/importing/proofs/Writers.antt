@@ -15,7 +15,7 @@ use Rattle.model.specs.Bits.{Read}
 use Rattle.model.specs.Notation.{Pattern, nothing, _then_, Item, item, Body, move, bracket, repeated, times, undone, meaning, itemMeaning, bodyMeaning, moves, itemMoves, bodyMoves, bodyHighest, itemHighest, zeroByte, openingByte, closingByte, minusByte, noPattern, isDigit, secondDigit, readNumber, readMinus, readCount, readClose, readBody, readItem, readPattern}
 use Rattle.model.proofs.Impossible.{impossible}
 use Rattle.model.proofs.Booleans.{both-true}
-use Rattle.theory.proofs.Notation.{notation-meaning}
+use Rattle.theory.proofs.Notation.{notation-meaning, item-counted, body-counted}
 use Rattle.engine.specs.Gap.{letters}
 use Rattle.importing.specs.declared.writing.Laid.{Laid}
 use Rattle.importing.specs.Reading.{standsFirst, Kept, keptItem, within}
@@ -25,15 +25,6 @@ use Rattle.importing.proofs.Readers.{closeAfter, body-bracket, body-mov
 use Rattle.importing.proofs.Keeping.{Answered, kept-answered, capped-low}
 use Rattle.importing.proofs.Items.{within-less}
 use Rattle.importing.proofs.Laying.{put-nothing, put-over, put-word}
-
--- HOW MANY MOVES
-
-body-length : (b : Body) → length (bodyMeaning b) ≡ bodyMoves b
-body-length (move a) = refl
-body-length (bracket p) = notation-meaning .counted p
-
-item-length : (i : Item) → length (itemMeaning i) ≡ itemMoves i
-item-length i = ap length (sym (append-nil (itemMeaning i))) ∙ notation-meaning .counted (i then nothing) ∙ omega arith
 
 -- A NUMBER
 
@@ -162,7 +153,7 @@ module _ (text : List ℕ) (at depth from : ℕ) (a : List ℕ) (k : Kept) (e : 
   -- an item of no moves
   pub nothing-laid : (laid : Laid) → drop (laid .next) text ≡ k .rest → laid .end ≡ from + k .moves → k .moves ≡ 0
       → ItemLaid (readItem (within depth) (drop at text)) text a from a laid
-  nothing-laid laid next end none = laid-out a laid (subst (λ w. WordPut a from w a) (empty (itemMeaning the-item) (item-length the-item ∙ sym moves-exact ∙ none)) (put-nothing a from (omega (arith, end-inside)))) next end
+  nothing-laid laid next end none = laid-out a laid (subst (λ w. WordPut a from w a) (empty (itemMeaning the-item) (item-counted the-item ∙ sym moves-exact ∙ none)) (put-nothing a from (omega (arith, end-inside)))) next end
     where
       empty : (w : Word) → length w ≡ 0 → [] ≡ w
       empty [] h = refl
@@ -216,7 +207,7 @@ module _ (text : List ℕ) (at depth from : ℕ) (a : List ℕ) (k : Kept) (e : 
     item-stands count mid after minus laid c body finishes m next end = laid-out after laid whole next end
       where
         word : letters (take count (drop from mid)) ≡ bodyMeaning (parts .body)
-        word = put-word a from (bodyMeaning (parts .body)) mid body count (c ∙ sym (body-length (parts .body)))
+        word = put-word a from (bodyMeaning (parts .body)) mid body count (c ∙ sym (body-counted (parts .body)))
 
         over : WordPut mid from (itemMeaning the-item) after
         over =
@@ -224,7 +215,7 @@ module _ (text : List ℕ) (at depth from : ℕ) (a : List ℕ) (k : Kept) (e : 
             (finishes (times (parts .count)) (ap (λ n. from + n) (moves-are ∙ ap (λ n. times (parts .count) * n) (sym c))))
 
         whole : WordPut a from (itemMeaning the-item) after
-        whole = put-over a mid after from (bodyMeaning (parts .body)) (itemMeaning the-item) body over (omega (arith, body-length (parts .body), item-length the-item, body-fewer, moves-exact))
+        whole = put-over a mid after from (bodyMeaning (parts .body)) (itemMeaning the-item) body over (omega (arith, body-counted (parts .body), item-counted the-item, body-fewer, moves-exact))
 
     -- a bracket's pattern is read one level deeper, and has room
     module _ (start : ℕ) (begins : drop start text ≡ readMinus (drop at text) .rest) (opens : standsFirst openingByte (drop start text) ≡ true) where

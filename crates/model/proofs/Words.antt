@@ -8,6 +8,7 @@ use native.Mathlib.Decide.{decLt}
 use lib.ListN.{length, getD, length-reverse, List·getD-append}
 use lib.Seq.{getD-append-seam}
 use Rattle.model.specs.Word.{Letter, forward, back, Word, Positive, flip, positive, negative, forwards, backs}
+use Rattle.model.specs.Plain.{plainProgram}
 use Rattle.model.specs.Reversing.{Site, nowhere, at, beyond, siteAfter, site}
 use Rattle.model.proofs.Impossible.{impossible}
 
@@ -169,3 +170,8 @@ pub site-fraction : (w : Word) → site w ≡ nowhere → w ≡ positive (forwar
 site-fraction w e =
     letters-fraction w e
     ∙ ap (λ v. positive (forwards w) ++ v) (ap (map back) (sym (reverse-reverse (backs w))) ∙ sym (negative-letters (reverse (backs w))))
+
+-- the bytes of a forward program are its numbers
+pub plain-positive : (u : Positive) → plainProgram (positive u) ≡ u
+plain-positive [] = refl
+plain-positive (a ∷ u) = ap (λ l. a ∷ l) (plain-positive u)

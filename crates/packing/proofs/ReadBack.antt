@@ -12,8 +12,7 @@ use Rattle.model.specs.Range.{AreBytes}
 use Rattle.model.specs.Images.{readTable, readProgram, programImage, tableImage}
 use Rattle.model.specs.Plain.{plainProgram, readPlainProgram, readPlainTable, plainTable}
 use Rattle.model.specs.Services.{fitted, programUnder, plainProgramUnder, unpackProgram, packProgram, packTable, unpackTable}
-use Rattle.images.proofs.Several.{answer-of}
-use Rattle.images.proofs.Codec.{not-refused}
+use Rattle.model.proofs.Impossible.{answer-of, not-refused}
 use Rattle.images.proofs.RoundTrip.{table-reads-back, table-image-of, table-in-range, program-reads-back, program-image-of, program-in-range}
 use Rattle.images.proofs.PlainTrip.{plain-table-reads-back, plain-table-of, plain-program-reads-back, plain-program-of}
 use Rattle.packing.specs.RoundTrips.{Undoes, RoundTrips}

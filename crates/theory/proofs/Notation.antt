@@ -15,10 +15,10 @@ use Rattle.model.specs.Notation.{repeated, times, undone, meaning, itemMeaning,
 use Rattle.model.specs.Notation.{spaceByte, openingByte, closingByte, countByte}
 use Rattle.model.specs.Notation.{isDigit, readNumber, readMinus, readCount, readMove, readClose, readBody}
 use Rattle.model.specs.Notation.{readItem, readOn, readItems, readIn, readPattern, readText}
-use Rattle.model.proofs.Impossible.{impossible}
+use Rattle.model.proofs.Impossible.{impossible, same-answer}
 use Rattle.theory.specs.Notation.{NotationMeaning}
 use Rattle.theory.proofs.WrittenRead.{text-read}
-use Rattle.theory.proofs.ReadWritten.{same-answer, text-back}
+use Rattle.theory.proofs.ReadWritten.{text-back}
 
 -- REFUSALS
 
@@ -122,12 +122,12 @@ mutual
   pattern-counted nothing = refl
   pattern-counted (i then p) = omega (arith, length-append (itemMeaning i) (meaning p), item-counted i, pattern-counted p)
 
-  item-counted : (i : Item) → length (itemMeaning i) ≡ itemMoves i
+  pub item-counted : (i : Item) → length (itemMeaning i) ≡ itemMoves i
   item-counted (item minus b count) =
       length-undone minus (repeated (times count) (bodyMeaning b))
       ∙ (length-repeated (times count) (bodyMeaning b) ∙ ap (λ n. times count * n) (body-counted b))
 
-  body-counted : (b : Body) → length (bodyMeaning b) ≡ bodyMoves b
+  pub body-counted : (b : Body) → length (bodyMeaning b) ≡ bodyMoves b
   body-counted (move a) = refl
   body-counted (bracket p) = pattern-counted p
 

@@ -17,25 +17,11 @@ use Rattle.model.specs.Notation.{spaceByte, openingByte, closingByte, minusByte
 use Rattle.model.specs.Notation.{decimal, minusText, countText, patternText, textAfter, itemText, bodyText}
 use Rattle.model.specs.Notation.{noPattern, isDigit, secondDigit, readNumber, readMinus, readCount, readMove, readClose, readBody}
 use Rattle.model.specs.Notation.{readItem, readOn, readItems, readIn, readPattern, readText}
-use Rattle.model.proofs.Impossible.{impossible}
+use Rattle.model.proofs.Impossible.{impossible, answer-of, same-answer, not-refused}
 use Rattle.theory.proofs.Digits.{digit-from, decimal-one, decimal-two}
 use Rattle.theory.proofs.WrittenRead.{read, inside, pattern-by-inside}
 
--- WHERE AN ANSWER COMES FROM
-
--- an answer of two steps comes from an answer of the first
-bound-answer : {A B : Type 0} (o : Outcome A) (f : A → Outcome B) (y : B) → (o >>= f) ≡ answered y → (x : A) × (o ≡ answered x) × (f x ≡ answered y)
-bound-answer (answered x) f y e = (x, refl, e)
-bound-answer (refused n place) f y e = impossible (cc)
-
--- an answer of a test comes from its not refusing
-unless-answer : {A : Type 0} (b : Bool) (n : ℕ) (x y : A) → unless b n x ≡ answered y → (b ≡ false) × (x ≡ y)
-unless-answer true n x y e = impossible (cc)
-unless-answer false n x y e = (refl, cc)
-
--- one answer is of one value
-pub same-answer : {A : Type 0} (x y : A) → _≡_ {A = Outcome A} (answered x) (answered y) → x ≡ y
-same-answer x y e = cc
+-- THE ARMS OF A TEST
 
 -- y is what the one arm of a test gives, or the other, each with what the test said
 abbrev Either : {A : Type 0} → Bool → A → A → A → Type 0
@@ -132,7 +118,7 @@ count-back (x ∷ xs) r e = at (either (eqb x countByte) (readNumber xs >>= coun
         (record { again = ap (λ t. countByte ∷ t) (b .again) ∙ ap (λ y. y ∷ xs) (sym q); ranged = b .ranged })
 
     at : Either (eqb x countByte) (readNumber xs >>= count) (read none (x ∷ xs)) (answered r) → CountBack (x ∷ xs) r
-    at (inl q) = of (eqb-true x countByte (q .0)) (bound-answer (readNumber xs) count r (q .1))
+    at (inl q) = of (eqb-true x countByte (q .0)) (answer-of (readNumber xs) count r (q .1))
     at (inr q) = subst (CountBack (x ∷ xs)) (same-answer _ r (q .1)) (record { again = refl; ranged = tt })
 
 -- a minus where one was read, and then the rest, is the text
@@ -155,7 +141,7 @@ BodyBack d text r = Back bodyText (λ b. BodyInRange b d) text r
 
 -- it holds of every move
 move-back : (d : ℕ) → Faithful bodyText (λ b. BodyInRange b d) readMove
-move-back d text r e = of (bound-answer (readNumber text) (λ a. unless (eqb (a .value) 0) 19 (moved a)) r e)
+move-back d text r e = of (answer-of (readNumber text) (λ a. unless (eqb (a .value) 0) 19 (moved a)) r e)
   where
     moved : Read ℕ → Read Body
     moved a = record { value = move (a .value); rest = a .rest }
@@ -163,7 +149,7 @@ move-back d text r e = of (bound-answer (readNumber text) (λ a. unless (eqb (a 
     of : (a : Read ℕ) × (readNumber text ≡ answered a) × (unless (eqb (a .value) 0) 19 (moved a) ≡ answered r) → BodyBack d text r
     of (a, n, f) =
         let b = number-back text a n in
-        let g = unless-answer (eqb (a .value) 0) 19 (moved a) r f in
+        let g = not-refused (eqb (a .value) 0) 19 (moved a) r f in
         let not-0 = eqb-false (a .value) 0 (g .0) in
         subst (BodyBack d text) (g .1) (record { again = b .again; ranged = record { low = omega arith; high = b .ranged } })
 
@@ -220,7 +206,7 @@ on-back d more faithful i h text r e = at text e
 
     cases : (x : ℕ) (xs : List ℕ) → Either (eqb x spaceByte) (more xs >>= made) (read (i then nothing) (x ∷ xs)) (answered r)
         → Back patternText (SomeItems d) (itemText i ++ (x ∷ xs)) r
-    cases x xs (inl q) = on x xs (eqb-true x spaceByte (q .0)) (bound-answer (more xs) made r (q .1))
+    cases x xs (inl q) = on x xs (eqb-true x spaceByte (q .0)) (answer-of (more xs) made r (q .1))
     cases x xs (inr q) = ends (x ∷ xs) (q .1)
 
     at : (text : List ℕ) → readOn more i text ≡ answered r → Back patternText (SomeItems d) (itemText i ++ text) r
@@ -249,13 +235,13 @@ module _ (d : ℕ) (within : Faithful patternText (λ p. BodyInRange (bracket p)
           }
 
       at : Either (eqb x openingByte) (inside d xs >>= close) (readMove (x ∷ xs)) (answered r) → BodyBack d (x ∷ xs) r
-      at (inl q) = of (eqb-true x openingByte (q .0)) (bound-answer (inside d xs) close r (q .1))
+      at (inl q) = of (eqb-true x openingByte (q .0)) (answer-of (inside d xs) close r (q .1))
       at (inr q) = move-back d (x ∷ xs) r (q .1)
 
   -- every item
   item-back : Faithful itemText (λ i. ItemInRange i d) (readItem (inside d))
   unfolding readItem
-  item-back text r e = body (bound-answer (readBody (inside d) (m .rest)) (λ b. readCount (b .rest) >>= made b) r e)
+  item-back text r e = body (answer-of (readBody (inside d) (m .rest)) (λ b. readCount (b .rest) >>= made b) r e)
     where
       m : Read Bool
       m = readMinus text
@@ -279,13 +265,13 @@ module _ (d : ℕ) (within : Faithful patternText (λ p. BodyInRange (bracket p)
 
       body : (b : Read Body) × (readBody (inside d) (m .rest) ≡ answered b) × ((readCount (b .rest) >>= made b) ≡ answered r)
           → Back itemText (λ i. ItemInRange i d) text r
-      body (b, n, f) = count b n (bound-answer (readCount (b .rest)) (made b) r f)
+      body (b, n, f) = count b n (answer-of (readCount (b .rest)) (made b) r f)
 
   -- any number of items
   items-back : (k : ℕ) → Faithful patternText (SomeItems d) (readItems (inside d) k)
   unfolding readItems
   items-back zero text r e = impossible (cc)
-  items-back (suc k) text r e = of (items-back k) (bound-answer (readItem (inside d) text) next r e)
+  items-back (suc k) text r e = of (items-back k) (answer-of (readItem (inside d) text) next r e)
     where
       next : Read Item → Outcome (Read Pattern)
       next i = readOn (readItems (inside d) k) (i .value) (i .rest)
@@ -323,7 +309,7 @@ inside-back (suc d) text r e = let b = pattern-by-back d (inside-back d) text r 
 -- a whole text that is read is the text of what was read
 pub text-back : (text : List ℕ) (p : Pattern) → readText text ≡ answered p → (patternText p ≡ text) × PatternInRange p mostNested
 unfolding readText
-text-back text p e = of (bound-answer (readPattern mostNested text) whole p e)
+text-back text p e = of (answer-of (readPattern mostNested text) whole p e)
   where
     whole : Read Pattern → Outcome Pattern
     whole r = unless (ltb 0 (length (r .rest))) 19 (r .value)
@@ -334,7 +320,7 @@ text-back text p e = of (bound-answer (readPattern mostNested text) whole p e)
 
     of : (r : Read Pattern) × (readPattern mostNested text ≡ answered r) × (whole r ≡ answered p) → (patternText p ≡ text) × PatternInRange p mostNested
     of (r, n, f) =
-        let g = unless-answer (ltb 0 (length (r .rest))) 19 (r .value) p f in
+        let g = not-refused (ltb 0 (length (r .rest))) 19 (r .value) p f in
         let b = pattern-by-back mostNested (inside-back mostNested) text r n in
         let nothing-after = ap (λ t. patternText (r .value) ++ t) (sym (none-left (r .rest) (g .0))) in
         let all : patternText (r .value) ≡ text = sym (append-nil (patternText (r .value))) ∙ (nothing-after ∙ b .again) in

@@ -27,6 +27,7 @@ use Rattle.model.proofs.Entries.{applied-applies, entry-inside}
 use Rattle.model.proofs.Joining.{joined-equiv, joined-same, joined-transitive, joined-weight, idle}
 use Rattle.model.proofs.Listing.{earlier-cases, same-weight-same, Weighing, all-ordered, all-keeps, all-member, all-longer, all-unchanged, all-are-there, Within, same-members}
 use Rattle.theory.specs.Ways.{Lists, Weighed, ListingMeaning, WordsInOrder}
+use Rattle.theory.proofs.Letters.{all-append, all-first, all-second}
 use Rattle.theory.proofs.Enumerated.{range-has, concat-has}
 use Rattle.theory.proofs.Clearing.{checked-homogeneous}
 
@@ -84,18 +85,6 @@ few-words b k [] p o d = omega arith
 few-words b k (v ∷ vs) p o d = omega (arith, few-after b k v vs p o d)
 
 -- LETTERS
-
-all-append : {A : Type 0} (P : A → Type 0) (xs ys : List A) → All P xs → All P ys → All P (xs ++ ys)
-all-append P [] ys p q = q
-all-append P (x ∷ xs) ys p q = (p .0, all-append P xs ys (p .1) q)
-
-all-first : {A : Type 0} (P : A → Type 0) (xs ys : List A) → All P (xs ++ ys) → All P xs
-all-first P [] ys p = tt
-all-first P (x ∷ xs) ys p = (p .0, all-first P xs ys (p .1))
-
-all-second : {A : Type 0} (P : A → Type 0) (xs ys : List A) → All P (xs ++ ys) → All P ys
-all-second P [] ys p = p
-all-second P (x ∷ xs) ys p = all-second P xs ys (p .1)
 
 below-all : (n : ℕ) (u : Positive) → All (InRange n) u → All (λ a. a < suc n) u
 below-all n [] h = tt

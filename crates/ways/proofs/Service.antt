@@ -26,6 +26,7 @@ use Rattle.model.specs.Checks.{weightCheck}
 use Rattle.model.specs.Areas.{written, begins}
 use Rattle.model.specs.Ways.{listing, listingBytes, fittedListing, ways, waysArea}
 use Rattle.model.specs.Stated.{Counts, counts, listedAs, numbered, refusal}
+use Rattle.model.proofs.Words.{plain-positive}
 use Rattle.model.proofs.Impossible.{impossible}
 use Rattle.model.proofs.Complete.{all-at}
 use Rattle.model.proofs.Joining.{joined-same}
@@ -38,6 +39,7 @@ use Rattle.checks.specs.declared.table.Weights.{Weights}
 use Rattle.checks.specs.Table.{weightsAs, WeightsMean}
 use Rattle.cells.specs.Stands.{Of}
 use Rattle.theory.specs.Ways.{Weighed}
+use Rattle.theory.proofs.Letters.{lettered-positive}
 use Rattle.theory.proofs.Ways.{listing-lists, listing-meaning, words-in-order, finding-within}
 use Rattle.ways.specs.Marks.{untried}
 use Rattle.ways.specs.Area.{words, Legible}
@@ -47,14 +49,6 @@ use Rattle.ways.specs.Service.{Answers, Passed, WaysMeaning, WaysSay}
 use Rattle.ways.proofs.Adding.{letter-ends-none}
 
 -- THE PROGRAM'S WORD
-
-plain-positive : (u : Positive) → plainProgram (positive u) ≡ u
-plain-positive [] = refl
-plain-positive (a ∷ u) = ap (λ l. a ∷ l) (plain-positive u)
-
-positive-letters : (n : ℕ) (u : Positive) → Lettered n (positive u) → All (InRange n) u
-positive-letters n [] h = tt
-positive-letters n (a ∷ u) h = (h .0, positive-letters n u (h .1))
 
 module _ (cells : List ℕ) (size : ℕ) (program : List ℕ) (count : ℕ) (f : ForwardOf program size count) (T : Presentation) (p : Passed cells size T)
     (u : Positive) (e : readForward size program ≡ answered u) where
@@ -72,7 +66,7 @@ module _ (cells : List ℕ) (size : ℕ) (program : List ℕ) (count : ℕ) (f :
       record {
         in-range = p .in-range;
         letters = subst (λ n. All (InRange n) u) (sym (p .of .sized))
-            (positive-letters size u (subst (λ w. Lettered size (positive w)) same-word (program-in-range size few program (positive (f .word)) (f .read-signed) .letters)));
+            (lettered-positive size u (subst (λ w. Lettered size (positive w)) same-word (program-in-range size few program (positive (f .word)) (f .read-signed) .letters)));
         even = p .even;
       }
 
