@@ -60,7 +60,7 @@ neighbours T u = concatMap (λ e. ofOption (applied T u e)) (entries (T .size) (
 abbrev pub spread : Presentation → List Positive → List Positive
 spread T vs = insertedAll (concatMap (neighbours T) vs) vs
 
--- whether it is over: no word is new
+-- a list, and the list after spreading it once: where no word is new the first list is the end, else the second is gone on from
 abbrev pub onFrom : (List Positive → List Positive) → List Positive → List Positive → Bool → List Positive
 onFrom go vs more true = vs
 onFrom go vs more false = go more
