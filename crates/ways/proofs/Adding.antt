@@ -120,7 +120,7 @@ module _ (T : Presentation) (u : Positive) (weighed : Weighed T u) (before area 
   long : length (spelled (xs ++ (current v ∷ cs))) ≡ used + (length v + 1)
   long = more-length xs cs (current v) ∙ ap (λ k. k + (length v + 1)) (sym (spells-length area used (xs ++ cs) (s .spells)))
 
-  -- where they do not fit any more, the listing does not
+  -- where the words do not fit with the new one, the listing does not
   pub too-long : length area < used + (length v + 1) → length before < length (listingBytes (listing T u))
   too-long h =
       let within = finding-within T u weighed (words (xs ++ (current v ∷ cs))) (λ w n. let t = marked-member (xs ++ (current v ∷ cs)) w n in subst (Joined T u) (t .2) (joined (t .0) (t .1))) in
