@@ -1,9 +1,9 @@
 // The bed of a program: the bobbin at each place, and the total of each pair of bobbins.
 ghost use mathlib.Core.Path.{_≡_};
 ghost use Prim.Native.Nat.{ℕ, _+_, _≤_, _<_};
-ghost use lib.ListN.{length, take};
+ghost use lib.ListN.{take};
 ghost use lib.IntN.{natAbs};
-ghost use Rattle.model.specs.Word.{Letter, Word};
+ghost use Rattle.model.specs.Word.{Word};
 ghost use Rattle.model.specs.Range.{InRange};
 ghost use Rattle.model.specs.Enumeration.{pairs};
 ghost use Rattle.model.specs.Outcome.{answered};

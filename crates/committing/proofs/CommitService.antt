@@ -5,7 +5,7 @@ use mathlib.Core.Bool.{Bool, true, false, _&&_, cond}
 use Prim.Native.Nat.{ℕ, _+_, _≤_}
 use native.Mathlib.Omega.{arith}
 use borrow.Author.Tests.{eq-eqb, ne-eqb, le-ltb}
-use lib.Dec.{eqb, ltb}
+use lib.Dec.{eqb}
 use lib.ListN.{length, replicate}
 use Rattle.model.specs.Word.{Word}
 use Rattle.model.specs.Presentation.{Presentation}
@@ -14,7 +14,7 @@ use Rattle.model.specs.Outcome.{unplaced, Outcome, answered, refused, _>>=_, un
 use Rattle.model.specs.Images.{readTable, readProgram}
 use Rattle.model.specs.Services.{Fraction, fractionOf, reverse, Sizes, sizes, sizesOf, enquire, agree, committedOf, commit}
 use Rattle.model.specs.Areas.{fractionBytes, outputAfter, workspaceAfter}
-use Rattle.model.specs.Stated.{refusal, reversed}
+use Rattle.model.specs.Stated.{refusal}
 use Rattle.model.specs.declared.answers.Ending.{Ending as EndingAnswer}
 use Rattle.model.specs.declared.answers.Ending.the-variants.{Finished, Undefined, Stopped}
 use Rattle.model.specs.declared.answers.Refusal.{Refusal}

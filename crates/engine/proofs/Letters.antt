@@ -7,7 +7,7 @@ use native.Mathlib.Decide.{decLt}
 use native.Mathlib.Omega.{arith}
 use borrow.Author.Tests.{lt-ltb, le-ltb}
 use lib.ListN.{length, length-map}
-use Rattle.model.specs.Word.{Letter, forward, back, flip, letter, positive}
+use Rattle.model.specs.Word.{forward, back, flip, letter, positive}
 use Rattle.engine.specs.Gap.{letters}
 
 pub letter-forward : (x : ℕ) → x < 128 → letter x ≡ forward x
@@ -62,21 +62,6 @@ byte-of-back x a e = go (decLt x 128)
     go : Dec (x < 128) → x ≡ 128 + a
     go (yes h) = absurd (let f : forward x ≡ back a = sym (letter-forward x h) ∙ e in let z : _≡_ {A = ℕ} 0 1 = cc in omega arith)
     go (no h) = let f : back (x - 128) ≡ back a = sym (letter-back x (omega arith)) ∙ e in let g : x - 128 ≡ a = cc in omega arith
-
-letter-injective : (x y : ℕ) → letter x ≡ letter y → x ≡ y
-letter-injective x y e = go (letter y) refl
-  where
-    go : (l : Letter) → letter y ≡ l → x ≡ y
-    go (forward a) f = byte-of-forward x a (e ∙ f) ∙ sym (byte-of-forward y a f)
-    go (back a) f = byte-of-back x a (e ∙ f) ∙ sym (byte-of-back y a f)
-
-pub letters-injective : (xs ys : List ℕ) → letters xs ≡ letters ys → xs ≡ ys
-unfolding letters
-letters-injective [] [] e = refl
-letters-injective [] (y ∷ ys) e = absurd (nil≢cons e)
-letters-injective (x ∷ xs) [] e = absurd (nil≢cons (sym e))
-letters-injective (x ∷ xs) (y ∷ ys) e =
-    ap₂ (λ z zs. z ∷ zs) (letter-injective x y (head-eq-of-cons-eq e)) (letters-injective xs ys (tail-eq-of-cons-eq e))
 
 pub letters-forward : (xs u : List ℕ) → letters xs ≡ positive u → xs ≡ u
 unfolding letters

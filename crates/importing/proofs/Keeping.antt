@@ -60,9 +60,6 @@ capped-product (suc c) m = ⊎-elim low high (below-or m 4096)
         capped-high (suc c * m) (omega (arith, suc-mul c m, h))
         ∙ sym (ap (λ n. capped (suc c * n)) (capped-high m h) ∙ capped-high (suc c * 4096) (omega (arith, suc-mul c 4096)))
 
-pub capped-most : (m : ℕ) → capped m ≤ 4096
-capped-most m = ⊎-elim (λ h. omega (arith, capped-low m (omega (arith, h)), h)) (λ h. omega (arith, capped-high m h)) (below-or m 4096)
-
 -- THE HIGHEST NUMBER
 
 larger-right : (a b : ℕ) → a ≤ b → larger a b ≡ b

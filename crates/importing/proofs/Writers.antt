@@ -1,6 +1,6 @@
 -- What the two writers meet on their way: the parts of an item that is read, and the items of a pattern that are still to come.
 use mathlib.Core.Path.{_≡_, refl, sym, ap, subst, _∙_}
-use mathlib.Core.List.{List, [], _∷_, append-nil}
+use mathlib.Core.List.{List, [], _∷_}
 use mathlib.Core.Bool.{Bool, true, false, cond}
 use mathlib.Core.Option.{Option}
 use Prim.Native.Nat.{ℕ, zero, suc, _+_, _-_, _*_, _≤_, _<_}
@@ -12,10 +12,10 @@ use borrow.Author.Tests.{leb-true}
 use Rattle.model.specs.Word.{forward, Word}
 use Rattle.model.specs.Outcome.{Outcome, answered, refused, _>>=_, unless}
 use Rattle.model.specs.Bits.{Read}
-use Rattle.model.specs.Notation.{Pattern, nothing, _then_, Item, item, Body, move, bracket, repeated, times, undone, meaning, itemMeaning, bodyMeaning, moves, itemMoves, bodyMoves, bodyHighest, itemHighest, zeroByte, openingByte, closingByte, minusByte, noPattern, isDigit, secondDigit, readNumber, readMinus, readCount, readClose, readBody, readItem, readPattern}
+use Rattle.model.specs.Notation.{Pattern, Item, item, Body, move, bracket, repeated, times, undone, meaning, itemMeaning, bodyMeaning, moves, itemMoves, bodyMoves, bodyHighest, itemHighest, zeroByte, openingByte, closingByte, minusByte, noPattern, isDigit, secondDigit, readNumber, readMinus, readCount, readClose, readBody, readItem, readPattern}
 use Rattle.model.proofs.Impossible.{impossible}
 use Rattle.model.proofs.Booleans.{both-true}
-use Rattle.theory.proofs.Notation.{notation-meaning, item-counted, body-counted}
+use Rattle.theory.proofs.Notation.{item-counted, body-counted}
 use Rattle.engine.specs.Gap.{letters}
 use Rattle.importing.specs.declared.writing.Laid.{Laid}
 use Rattle.importing.specs.Reading.{standsFirst, Kept, keptItem, within}

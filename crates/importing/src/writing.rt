@@ -1,7 +1,7 @@
 // The moves of patterns and items, laid out in an area. As when they are read, the two writers call each other, and only a bracket goes deeper. An item that means
 // no move is passed over: its text is read, and nothing of it is laid out.
 ghost use mathlib.Core.Path.{_≡_};
-ghost use Prim.Native.Nat.{_+_, _≤_};
+ghost use Prim.Native.Nat.{_+_};
 ghost use lib.ListN.{length, drop};
 ghost use Rattle.model.specs.Notation.{readItem, readPattern};
 ghost use Rattle.importing.specs.Reading.{within};

@@ -9,7 +9,7 @@ use native.Mathlib.Omega.{arith}
 use native.Mathlib.Decide.{ℕ-discrete, decLt}
 use lib.Dec.{ltb}
 use lib.ListN.{length, length-append}
-use borrow.Author.Tests.{eq-eqb, ne-eqb, lt-ltb, le-ltb, ltb-true}
+use borrow.Author.Tests.{eq-eqb, ne-eqb, lt-ltb, ltb-true}
 use Rattle.model.specs.Word.{Positive}
 use Rattle.model.specs.Presentation.{total}
 use Rattle.model.specs.Ways.{earlier, Ordered, inserted, insertedAll, listingBytes}
@@ -26,9 +26,6 @@ earlier-apart a b u v h = ap (λ t. cond t (earlier u v) (ltb a b)) (ne-eqb a b 
 pub earlier-below : (a b : ℕ) (u v : Positive) → a < b → earlier (a ∷ u) (b ∷ v) ≡ true
 earlier-below a b u v h = earlier-apart a b u v (omega arith) ∙ lt-ltb a b h
 
-pub earlier-above : (a b : ℕ) (u v : Positive) → b < a → earlier (a ∷ u) (b ∷ v) ≡ false
-earlier-above a b u v h = earlier-apart a b u v (omega arith) ∙ le-ltb a b (omega arith)
-
 -- what decides
 pub earlier-cases : (a b : ℕ) (u v : Positive) → earlier (a ∷ u) (b ∷ v) ≡ true → (a < b) ⊎ ((a ≡ b) × (earlier u v ≡ true))
 earlier-cases a b u v e = go (ℕ-discrete a b)
@@ -36,10 +33,6 @@ earlier-cases a b u v e = go (ℕ-discrete a b)
     go : Dec (a ≡ b) → (a < b) ⊎ ((a ≡ b) × (earlier u v ≡ true))
     go (yes h) = inr (h, sym (ap (λ t. cond t (earlier u v) (ltb a b)) (eq-eqb a b h)) ∙ e)
     go (no h) = inl (ltb-true a b (sym (earlier-apart a b u v h) ∙ e))
-
-pub earlier-none : (u : Positive) → earlier u [] ≡ false
-earlier-none [] = refl
-earlier-none (a ∷ u) = refl
 
 pub earlier-transitive : (u v w : Positive) → earlier u v ≡ true → earlier v w ≡ true → earlier u w ≡ true
 earlier-transitive [] v w p q = impossible (cc)

@@ -1,8 +1,8 @@
 -- What the test for the braid table says (specification 2.4): every pair of the table is as there, or one is not.
-use mathlib.Core.Path.{_≡_, refl, sym, ap, _∙_}
+use mathlib.Core.Path.{_≡_, refl, ap, _∙_}
 use mathlib.Core.Logic.{_≢_}
 use mathlib.Core.List.{List, [], _∷_, _++_, List·Memᴰ, List·Memᴰ·head, List·Memᴰ·tail}
-use mathlib.Core.Bool.{Bool, true, false, _&&_}
+use mathlib.Core.Bool.{Bool, true, false}
 use Prim.Native.Nat.{ℕ, zero, suc, _+_, _-_, _≤_, _<_}
 use native.Mathlib.Omega.{arith}
 use native.Mathlib.Decide.{decLt}
@@ -13,7 +13,7 @@ use Rattle.model.specs.Enumeration.{Two, pairs}
 use Rattle.model.specs.Range.{InRange}
 use Rattle.model.specs.Bed.{braidWord, hasWords, every, braidPair, isBraid}
 use Rattle.model.proofs.Impossible.{impossible}
-use Rattle.model.proofs.Booleans.{both-true, both, second-false}
+use Rattle.model.proofs.Booleans.{both-true, both}
 use Rattle.model.proofs.Complete.{complete-turn}
 use Rattle.model.proofs.Positions.{rowOf, rowsFrom}
 use Rattle.model.proofs.Entries.{equal-same, equal-true}
@@ -25,10 +25,6 @@ module _ {A : Type 0} (test : A → Bool) where
   every-each : {x : A} {xs : List A} → List·Memᴰ x xs → every test xs ≡ true → test x ≡ true
   every-each (List·Memᴰ·head {x = y} {xs} e) h = ap test e ∙ both-true (test y) (every test xs) h .0
   every-each (List·Memᴰ·tail {x = y} {xs} m) h = every-each m (both-true (test y) (every test xs) h .1)
-
-  every-fails : {x : A} {xs : List A} → List·Memᴰ x xs → test x ≡ false → every test xs ≡ false
-  every-fails (List·Memᴰ·head {x = y} {xs} e) h = ap (λ s. s && every test xs) (sym (ap test e) ∙ h)
-  every-fails (List·Memᴰ·tail {x = y} {xs} m) h = second-false (test y) (every-fails m h)
 
   every-append : (xs ys : List A) → every test xs ≡ true → every test ys ≡ true → every test (xs ++ ys) ≡ true
   every-append [] ys h k = k

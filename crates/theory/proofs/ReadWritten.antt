@@ -9,7 +9,7 @@ use native.Mathlib.Omega.{arith}
 use lib.Dec.{ltb, eqb}
 use lib.ListN.{length}
 use borrow.Author.Tests.{ltb-false, eqb-true, eqb-false}
-use Rattle.model.specs.Outcome.{Outcome, answered, refused, _>>=_, unless}
+use Rattle.model.specs.Outcome.{Outcome, answered, _>>=_, unless}
 use Rattle.model.specs.Bits.{Read}
 use Rattle.model.specs.Notation.{Pattern, nothing, _then_, Item, item, Body, move, bracket}
 use Rattle.model.specs.Notation.{mostNumber, mostNested, CountInRange, PatternInRange, ItemInRange, BodyInRange}

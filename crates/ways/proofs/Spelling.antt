@@ -328,9 +328,6 @@ module _ (area : List ℕ) (used : ℕ) (ms : List Marked) (s : Spells area used
     ending : end ≡ half .start + length (half .one .word)
     ending = end-is area (half .start) (half .one .word) (half .there) at end (half .from) (half .to) e
 
-    pub step-near : start ≤ end
-    step-near = omega (arith, f .before, e .after)
-
     pub step-inside : end + 1 ≤ high
     step-inside = omega (arith, ending, half .until)
 

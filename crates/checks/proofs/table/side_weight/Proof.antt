@@ -1,12 +1,12 @@
 -- `checks::table::side_weight` meets its contract. The loop's invariant: the letters passed are weighed.
-use mathlib.Core.Path.{_≡_, sym, ap, _∙_}
+use mathlib.Core.Path.{_≡_, ap, _∙_}
 use mathlib.Core.List.{_∷_}
-use Prim.Native.Nat.{suc, _+_, _-_, _*_, _≤_, _<_}
+use Prim.Native.Nat.{suc, _+_, _-_, _*_, _≤_}
 use native.Mathlib.Omega.{arith}
 use lib.ListN.{length, take, getD}
 use Rattle.model.specs.Word.{Positive}
 use Rattle.model.specs.Presentation.{Presentation, complement, complete, weigh}
-use Rattle.cells.specs.Layout.{cellAt, weightAt}
+use Rattle.cells.specs.Layout.{weightAt}
 use Rattle.cells.specs.Stands.{Of}
 use Rattle.checks.proofs.Weighing.{relation, letter-light, side-count, side-short, side-letter, side-begun, side-more, side-whole}
 use Rattle.checks.proofs.table.side_weight.Statement.{statement}

@@ -1,6 +1,6 @@
 -- `images::read_plain_weights` meets its contract. The loop's invariant: the weights read stand in their places, and the others are left.
-use mathlib.Core.Path.{_≡_, sym, subst}
-use Prim.Native.Nat.{_+_, _-_, _≤_, _<_}
+use mathlib.Core.Path.{sym, subst}
+use Prim.Native.Nat.{_+_, _-_}
 use native.Mathlib.Omega.{arith}
 use lib.ListN.{length, getD, set}
 use Rattle.model.specs.Plain.{plainWeight}

@@ -1,9 +1,9 @@
 -- `images::write_plain_table` meets its contract.
 use mathlib.Core.Path.{refl, _∙_}
 use mathlib.Core.List.{[], _∷_, _++_, map}
-use Prim.Native.Nat.{suc, _+_, _≤_}
+use Prim.Native.Nat.{suc, _+_}
 use native.Mathlib.Omega.{arith}
-use lib.ListN.{length, set, length-set, length-append, length-map}
+use lib.ListN.{set, length-set}
 use Rattle.model.specs.Enumeration.{concatMap}
 use Rattle.model.specs.Plain.{plainPair}
 use Rattle.images.proofs.Plainly.{wrote-byte, wrote-more}

@@ -1,8 +1,7 @@
 -- `images::read_table` meets its contract.
-use mathlib.Core.Path.{_≡_, refl, sym, subst, _∙_}
+use mathlib.Core.Path.{refl, subst, _∙_}
 use Prim.Native.Nat.{_+_}
 use native.Mathlib.Omega.{arith}
-use lib.ListN.{length}
 use Rattle.images.specs.Fields.{FieldDone, FieldAt}
 use Rattle.images.specs.Tables.{WeightsDone}
 use Rattle.images.proofs.Rows.{head-ends, weights-refused, rows-next, loaded-as, table-done}

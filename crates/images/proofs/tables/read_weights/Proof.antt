@@ -1,6 +1,6 @@
 -- `images::read_weights` meets its contract. The loop's invariant: the weights read stand in their places, and the others are left.
-use mathlib.Core.Path.{_≡_, subst, sym, _∙_}
-use Prim.Native.Nat.{_+_, _-_, _*_, _≤_, _<_}
+use mathlib.Core.Path.{subst, sym}
+use Prim.Native.Nat.{_+_, _-_, _*_}
 use native.Mathlib.Omega.{arith}
 use borrow.Author.Needs.{needs}
 use lib.ListN.{length, set}

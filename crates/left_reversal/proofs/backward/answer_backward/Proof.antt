@@ -1,5 +1,5 @@
 -- `left_reversal::backward::answer_backward` meets its contract.
-use mathlib.Core.Path.{_≡_, subst}
+use mathlib.Core.Path.{subst}
 use native.Mathlib.Omega.{arith}
 use lib.ListN.{length}
 use Rattle.reversal.specs.Reverse.{Answers}

@@ -1,13 +1,10 @@
 -- `left_reversal::backward::run_backward` meets its contract.
 use mathlib.Core.Path.{_≡_, refl, sym, ap, subst, _∙_}
-use mathlib.Core.List.{List, reverse}
+use mathlib.Core.List.{reverse}
 use Prim.Native.Nat.{_+_, _-_}
 use native.Mathlib.Omega.{arith}
 use lib.ListN.{length, length-reverse}
-use Rattle.model.specs.Word.{Word}
 use Rattle.model.specs.Presentation.{Presentation}
-use Rattle.model.specs.Outcome.{answered}
-use Rattle.model.specs.Images.{readProgram}
 use Rattle.images.proofs.RoundTrip.{program-in-range}
 use Rattle.areas.proofs.Parts.{part-length}
 use Rattle.engine.specs.Gap.{wordAt, Searched}

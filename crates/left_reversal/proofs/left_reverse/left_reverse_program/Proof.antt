@@ -1,6 +1,5 @@
 -- `left_reversal::left_reverse::left_reverse_program` meets its contract.
 use mathlib.Core.Path.{refl, subst}
-use lib.ListN.{length}
 use Rattle.model.specs.Mirror.{mirror}
 use Rattle.mirrors.specs.Mirror.{MirrorDone}
 use Rattle.left_reversal.proofs.LeftService.{no-mirror, has-mirror}

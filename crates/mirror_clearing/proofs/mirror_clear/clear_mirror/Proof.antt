@@ -1,5 +1,5 @@
 -- `mirror_clearing::mirror_clear::clear_mirror` meets its contract.
-use mathlib.Core.Path.{refl, sym, subst, _∙_}
+use mathlib.Core.Path.{refl, sym, subst}
 use lib.ListN.{length}
 use Rattle.model.specs.Mirror.{mirror}
 use Rattle.mirrors.specs.Mirror.{MirrorDone}
