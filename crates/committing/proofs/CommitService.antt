@@ -24,7 +24,9 @@ use Rattle.model.specs.declared.answers.Reversed.the-variants.{Refused}
 use Rattle.model.proofs.Impossible.{impossible, answer-of}
 use Rattle.engine.specs.Run.{Reverses}
 use Rattle.engine.proofs.Ended.{end, done, met, halted}
-use Rattle.loading.proofs.Outcomes.{still-refused, goes-on}
+use Rattle.loading.specs.Loading.{readTableProgram}
+use Rattle.loading.proofs.Outcomes.{AsFound}
+use Rattle.loading.proofs.Reading.{program-refused, program-runs}
 use Rattle.reversal.specs.Reverse.{Answers}
 use Rattle.reversal.proofs.Answers.{zero-after}
 use Rattle.reversal.proofs.ReverseService.{reverse-runs}
@@ -107,22 +109,13 @@ committed-zero z area (stopped s) workspace = zero-after area (stopped s) worksp
 -- THE SERVICE
 
 module _ (table program : List ℕ) (steps width : ℕ) (z : Sizes) (area : ℕ) where
-  pub commit-no-table : (r : Refusal) → readTable table ≡ refusal r → commit table program steps width z area ≡ refusal r
+  pub commit-refused : (r : Refusal) → readTableProgram table program ≡ refusal r → AsFound (commit table program steps width z area) r
   unfolding commit
-  commit-no-table r e = still-refused (readTable table) r e _
+  commit-refused = program-refused table program (λ T w. committedOf z area (reversing T steps width w))
 
-  module _ (T : Presentation) (e : readTable table ≡ answered T) where
-    pub commit-no-program : (r : Refusal) → readProgram (T .size) program ≡ refusal r → commit table program steps width z area ≡ refusal r
-    unfolding commit
-    commit-no-program r f =
-        goes-on (readTable table) T e (λ T. readProgram (T .size) program >>= λ w. committedOf z area (reversing T steps width w))
-        ∙ still-refused (readProgram (T .size) program) r f (λ w. committedOf z area (reversing T steps width w))
-
-    pub commit-runs : (w : Word) → readProgram (T .size) program ≡ answered w → commit table program steps width z area ≡ committedOf z area (reversing T steps width w)
-    unfolding commit
-    commit-runs w f =
-        goes-on (readTable table) T e (λ T. readProgram (T .size) program >>= λ w. committedOf z area (reversing T steps width w))
-        ∙ goes-on (readProgram (T .size) program) w f (λ w. committedOf z area (reversing T steps width w))
+  pub commit-runs : (T : Presentation) → readTable table ≡ answered T → (w : Word) → readProgram (T .size) program ≡ answered w → commit table program steps width z area ≡ committedOf z area (reversing T steps width w)
+  unfolding commit
+  commit-runs T e w f = program-runs table program (λ T w. committedOf z area (reversing T steps width w)) T w e f
 
   -- AND ENQUIRE AND REVERSE
 

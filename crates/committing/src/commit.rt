@@ -10,10 +10,8 @@ ghost use Rattle.engine.specs.Run.{Finishable};
 ghost use Rattle.committing.specs.Commit.{handed, CommitOf, ProgramCommitted, CommitMeaning};
 use areas::bytes::wipe;
 use cells::layout::CELLS;
-use images::programs::ProgramRead;
-use images::programs::read_program;
-use images::tables::TableRead;
-use images::tables::read_table;
+use loading::loading::TableProgram;
+use loading::loading::read_table_program;
 use loading::loading::run_program;
 use model::answers::Ending;
 use model::answers::Refusal;
@@ -99,24 +97,18 @@ pub fn commit(
     ensures meaning { λ r. ⌜ CommitMeaning (now (table .entry)) (now (program .entry)) allowance (length (now (workspace .entry))) (handed numbers) (now (answer .entry)) (now (answer .exit)) (reversed r) ⌝ }
 {
     let mut cells = [0u8; CELLS];
-    let read = read_table(table, &mut cells);
+    let read = read_table_program(table, program, &mut cells);
     match read {
-        TableRead::Refused(refusal) => Reversed::Refused(refusal),
-        TableRead::Table { size } => {
-            let accepted = read_program(program, size);
-            match accepted {
-                ProgramRead::Refused(refusal) => Reversed::Refused(refusal),
-                ProgramRead::Program { count } => commit_program(
-                    &cells,
-                    size,
-                    program,
-                    count,
-                    allowance,
-                    numbers,
-                    workspace,
-                    answer,
-                ),
-            }
-        }
+        TableProgram::Refused(refusal) => Reversed::Refused(refusal),
+        TableProgram::Loaded { size, count } => commit_program(
+            &cells,
+            size,
+            program,
+            count,
+            allowance,
+            numbers,
+            workspace,
+            answer,
+        ),
     }
 }

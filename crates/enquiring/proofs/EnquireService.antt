@@ -1,18 +1,20 @@
 -- What enquire makes of each ending, and its outcome after each check.
-use mathlib.Core.Path.{_≡_, refl, _∙_}
+use mathlib.Core.Path.{_≡_, refl}
 use mathlib.Core.List.{List}
 use Prim.Native.Nat.{ℕ}
 use lib.ListN.{length, replicate}
 use Rattle.model.specs.Word.{Word}
 use Rattle.model.specs.Presentation.{Presentation}
 use Rattle.model.specs.Reversing.{Ending, finished, open-pair, stopped, budget, room, reversing}
-use Rattle.model.specs.Outcome.{answered, _>>=_}
+use Rattle.model.specs.Outcome.{answered}
 use Rattle.model.specs.Images.{readTable, readProgram}
 use Rattle.model.specs.Services.{sizesOf, enquire}
 use Rattle.model.specs.Areas.{workspaceAfter}
 use Rattle.model.specs.Stated.{refusal, reversed, endingAnswer}
 use Rattle.model.specs.declared.answers.Refusal.{Refusal}
-use Rattle.loading.proofs.Outcomes.{still-refused, goes-on}
+use Rattle.loading.specs.Loading.{readTableProgram}
+use Rattle.loading.proofs.Outcomes.{AsFound}
+use Rattle.loading.proofs.Reading.{program-refused, program-runs}
 use Rattle.enquiring.specs.Enquire.{sizesTold}
 
 pub sizes-stated : (e : Ending) → reversed (sizesTold (endingAnswer e)) ≡ sizesOf e
@@ -29,19 +31,10 @@ zero-after (stopped budget) workspace = refl
 zero-after (stopped room) workspace = refl
 
 module _ (table program : List ℕ) (steps width : ℕ) where
-  pub enquire-no-table : (r : Refusal) → readTable table ≡ refusal r → enquire table program steps width ≡ refusal r
+  pub enquire-refused : (r : Refusal) → readTableProgram table program ≡ refusal r → AsFound (enquire table program steps width) r
   unfolding enquire
-  enquire-no-table r e = still-refused (readTable table) r e _
+  enquire-refused = program-refused table program (λ T w. sizesOf (reversing T steps width w))
 
-  module _ (T : Presentation) (e : readTable table ≡ answered T) where
-    pub enquire-no-program : (r : Refusal) → readProgram (T .size) program ≡ refusal r → enquire table program steps width ≡ refusal r
-    unfolding enquire
-    enquire-no-program r f =
-        goes-on (readTable table) T e (λ T. readProgram (T .size) program >>= λ w. sizesOf (reversing T steps width w))
-        ∙ still-refused (readProgram (T .size) program) r f (λ w. sizesOf (reversing T steps width w))
-
-    pub enquire-runs : (w : Word) → readProgram (T .size) program ≡ answered w → enquire table program steps width ≡ sizesOf (reversing T steps width w)
-    unfolding enquire
-    enquire-runs w f =
-        goes-on (readTable table) T e (λ T. readProgram (T .size) program >>= λ w. sizesOf (reversing T steps width w))
-        ∙ goes-on (readProgram (T .size) program) w f (λ w. sizesOf (reversing T steps width w))
+  pub enquire-runs : (T : Presentation) → readTable table ≡ answered T → (w : Word) → readProgram (T .size) program ≡ answered w → enquire table program steps width ≡ sizesOf (reversing T steps width w)
+  unfolding enquire
+  enquire-runs T e w f = program-runs table program (λ T w. sizesOf (reversing T steps width w)) T w e f

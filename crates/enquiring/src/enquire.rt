@@ -8,10 +8,8 @@ ghost use Rattle.loading.specs.Loading.{ProgramRuns};
 ghost use Rattle.enquiring.specs.Enquire.{sizesTold, ProgramEnquired};
 use areas::bytes::wipe;
 use cells::layout::CELLS;
-use images::programs::ProgramRead;
-use images::programs::read_program;
-use images::tables::TableRead;
-use images::tables::read_table;
+use loading::loading::TableProgram;
+use loading::loading::read_table_program;
 use loading::loading::run_program;
 use model::answers::Ending;
 use model::answers::Refusal;
@@ -60,17 +58,16 @@ pub fn enquire(table: &[u8], program: &[u8], allowance: u16, workspace: &mut [u8
     ensures workspace { λ r. ⌜ now (workspace .exit) ≡ workspaceAfter (enquire (now (table .entry)) (now (program .entry)) allowance (length (now (workspace .entry)))) (now (workspace .entry)) ⌝ }
 {
     let mut cells = [0u8; CELLS];
-    let read = read_table(table, &mut cells);
+    let read = read_table_program(table, program, &mut cells);
     match read {
-        TableRead::Refused(refusal) => Reversed::Refused(refusal),
-        TableRead::Table { size } => {
-            let accepted = read_program(program, size);
-            match accepted {
-                ProgramRead::Refused(refusal) => Reversed::Refused(refusal),
-                ProgramRead::Program { count } => {
-                    enquire_program(&cells, size, program, count, allowance, workspace)
-                }
-            }
-        }
+        TableProgram::Refused(refusal) => Reversed::Refused(refusal),
+        TableProgram::Loaded { size, count } => enquire_program(
+            &cells,
+            size,
+            program,
+            count,
+            allowance,
+            workspace,
+        ),
     }
 }

@@ -6,7 +6,7 @@ use lib.ListN.{length, replicate}
 use Rattle.model.specs.Word.{Word}
 use Rattle.model.specs.Presentation.{Presentation}
 use Rattle.model.specs.Reversing.{reversing}
-use Rattle.model.specs.Outcome.{Outcome, answered, _>>=_, mapped}
+use Rattle.model.specs.Outcome.{Outcome, answered, mapped}
 use Rattle.model.specs.Images.{readTable, readProgram}
 use Rattle.model.specs.Mirror.{mirror, mirrorCheck, leftReversing}
 use Rattle.model.specs.Services.{Sizes, sizes, Fraction, fractionOf, leftFraction, leftReverse}
@@ -19,7 +19,9 @@ use Rattle.model.specs.declared.answers.Reversed.{Reversed}
 use Rattle.model.specs.declared.answers.Reversed.the-variants.{Refused}
 use Rattle.theory.specs.Mirrors.{readBackward}
 use Rattle.theory.proofs.Mirroring.{left-is-right}
-use Rattle.loading.proofs.Outcomes.{still-refused, goes-on}
+use Rattle.loading.specs.Loading.{readTableProgram}
+use Rattle.loading.proofs.Outcomes.{AsFound, still-refused, goes-on}
+use Rattle.loading.proofs.Reading.{program-refused, program-runs}
 use Rattle.reversal.proofs.Answers.{zero-after}
 use Rattle.left_reversal.specs.Backward.{AnswersBackward}
 use Rattle.left_reversal.specs.LeftReverse.{States, underMirror, LeftMeaning}
@@ -64,22 +66,13 @@ module _ (T : Presentation) (w : Word) (steps : ℕ) (workspace before : List �
 -- THE SERVICE
 
 module _ (table program : List ℕ) (steps width area : ℕ) where
-  pub left-no-table : (r : Refusal) → readTable table ≡ refusal r → leftReverse table program steps width area ≡ refusal r
+  pub left-refused : (r : Refusal) → readTableProgram table program ≡ refusal r → AsFound (leftReverse table program steps width area) r
   unfolding leftReverse
-  left-no-table r e = still-refused (readTable table) r e _
+  left-refused = program-refused table program (λ T w. leftFraction T w steps width area)
 
-  module _ (T : Presentation) (e : readTable table ≡ answered T) where
-    pub left-no-program : (r : Refusal) → readProgram (T .size) program ≡ refusal r → leftReverse table program steps width area ≡ refusal r
-    unfolding leftReverse
-    left-no-program r f =
-        goes-on (readTable table) T e (λ T. readProgram (T .size) program >>= λ w. leftFraction T w steps width area)
-        ∙ still-refused (readProgram (T .size) program) r f (λ w. leftFraction T w steps width area)
-
-    pub left-runs : (w : Word) → readProgram (T .size) program ≡ answered w → leftReverse table program steps width area ≡ leftFraction T w steps width area
-    unfolding leftReverse
-    left-runs w f =
-        goes-on (readTable table) T e (λ T. readProgram (T .size) program >>= λ w. leftFraction T w steps width area)
-        ∙ goes-on (readProgram (T .size) program) w f (λ w. leftFraction T w steps width area)
+  pub left-runs : (T : Presentation) → readTable table ≡ answered T → (w : Word) → readProgram (T .size) program ≡ answered w → leftReverse table program steps width area ≡ leftFraction T w steps width area
+  unfolding leftReverse
+  left-runs T e w f = program-runs table program (λ T w. leftFraction T w steps width area) T w e f
 
 module _ (table program : List ℕ) (steps : ℕ) (workspace before : List ℕ) where
   abbrev outcome : Outcome Fraction

@@ -12,10 +12,8 @@ use crate::backward::run_backward;
 use areas::bytes::wipe;
 use cells::layout::CELLS;
 use cells::layout::UNDEFINED;
-use images::programs::ProgramRead;
-use images::programs::read_program;
-use images::tables::TableRead;
-use images::tables::read_table;
+use loading::loading::TableProgram;
+use loading::loading::read_table_program;
 use mirrors::mirror::Mirrored;
 use mirrors::mirror::mirror_table;
 use model::answers::Refusal;
@@ -82,23 +80,17 @@ pub fn left_reverse(
     ensures meaning { λ r. ⌜ LeftMeaning (now (table .entry)) (now (program .entry)) allowance (length (now (workspace .entry))) (now (answer .entry)) (now (answer .exit)) (reversed r) ⌝ }
 {
     let mut cells = [0u8; CELLS];
-    let read = read_table(table, &mut cells);
+    let read = read_table_program(table, program, &mut cells);
     match read {
-        TableRead::Refused(refusal) => Reversed::Refused(refusal),
-        TableRead::Table { size } => {
-            let accepted = read_program(program, size);
-            match accepted {
-                ProgramRead::Refused(refusal) => Reversed::Refused(refusal),
-                ProgramRead::Program { count } => left_reverse_program(
-                    &cells,
-                    size,
-                    program,
-                    count,
-                    allowance,
-                    workspace,
-                    answer,
-                ),
-            }
-        }
+        TableProgram::Refused(refusal) => Reversed::Refused(refusal),
+        TableProgram::Loaded { size, count } => left_reverse_program(
+            &cells,
+            size,
+            program,
+            count,
+            allowance,
+            workspace,
+            answer,
+        ),
     }
 }

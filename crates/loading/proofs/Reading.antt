@@ -1,20 +1,20 @@
--- Reading a table and two forward programs, as compare, chain and check begin.
+-- Reading a table and a program, as reverse, enquire and commit begin; and a table and two forward programs, as compare, chain and check do.
 use mathlib.Core.Path.{_≡_, refl, sym, ap, _∙_}
 use mathlib.Core.List.{List}
 use Prim.Native.Nat.{ℕ, _≤_}
 use native.Mathlib.Omega.{arith}
-use Rattle.model.specs.Word.{Positive}
+use Rattle.model.specs.Word.{Word, Positive}
 use Rattle.model.specs.Presentation.{Presentation}
 use Rattle.model.specs.Outcome.{Outcome, answered, refused, _>>=_}
-use Rattle.model.specs.Images.{readTable}
+use Rattle.model.specs.Images.{readTable, readProgram}
 use Rattle.model.specs.Services.{readForward}
 use Rattle.model.specs.Areas.{Compares}
 use Rattle.model.specs.Stated.{refusal}
 use Rattle.model.specs.declared.answers.Refusal.{Refusal}
-use Rattle.images.specs.Programs.{ForwardOf}
+use Rattle.images.specs.Programs.{ProgramOf, ForwardOf}
 use Rattle.images.specs.Tables.{Loaded, TableOf}
-use Rattle.loading.specs.Loading.{Images, readPrograms, ProgramsLoaded}
-use Rattle.loading.proofs.Early.{images-early}
+use Rattle.loading.specs.Loading.{TableWord, readTableProgram, ProgramLoaded, Images, readPrograms, ProgramsLoaded}
+use Rattle.loading.proofs.Early.{Early, table-early, program-early, images-early}
 use Rattle.loading.proofs.Outcomes.{AsFound, still-refused, goes-on, reading-refused}
 
 -- a reading of two parts, and then the rest
@@ -25,6 +25,60 @@ regrouped (refused n ps) f rest g e = refl
 
 pub loaded-size : {o : Outcome Presentation} {cells : List ℕ} {size : ℕ} → Loaded o cells size → (1 ≤ size) × (size ≤ 16)
 loaded-size t = (omega (arith, t .of .sized, t .of .stands .some), omega (arith, t .of .sized, t .of .stands .few))
+
+-- ONE PROGRAM
+
+module _ (table program : List ℕ) where
+  pub no-table-no-program : (r : Refusal) → readTable table ≡ refusal r → readTableProgram table program ≡ refusal r
+  unfolding readTableProgram
+  no-table-no-program r e = still-refused (readTable table) r e _
+
+  module _ {cells : List ℕ} {size : ℕ} (t : TableOf table cells size) where
+    sized-program : readProgram (t .table .size) program ≡ readProgram size program
+    sized-program = ap (λ i. readProgram i program) (t .of .sized)
+
+    pub no-program : (r : Refusal) → readProgram size program ≡ refusal r → readTableProgram table program ≡ refusal r
+    unfolding readTableProgram
+    no-program r e = goes-on (readTable table) (t .table) (t .read) _ ∙ still-refused (readProgram (t .table .size) program) r (sized-program ∙ e) _
+
+    pub program-loaded : {count : ℕ} → ProgramOf program size count → ProgramLoaded table program cells size count
+    program-loaded p =
+        record {
+          runs = record { table = t .table; of = t .of; accepted = record { some = loaded-size t .0; few = loaded-size t .1; program = p } };
+          table-read = t .read;
+          program-read = sized-program ∙ p .read;
+        }
+
+  table-program-early : Early 6 (readTableProgram table program)
+  unfolding readTableProgram
+  table-program-early = from (readTable table) (table-early table)
+    where
+      after : {A B : Type 0} (o : Outcome A) (x : A → B) → Early 6 o → Early 6 (o >>= λ w. answered (x w))
+      after (answered w) x e = tt
+      after (refused n place) x e = e
+
+      from : (o : Outcome Presentation) → Early 3 o → Early {A = TableWord} 6 (o >>= λ T. readProgram (T .size) program >>= λ w. answered (record { table = T; word = w }))
+      from (answered T) e = after {B = TableWord} (readProgram (T .size) program) (λ w. record { table = T; word = w }) (program-early (T .size) program)
+      from (refused n place) e = omega (arith, e)
+
+  -- a service that reads the two images, and then has only the rest to do
+  module _ {A : Type 0} (rest : Presentation → Word → Outcome A) where
+    abbrev program-service : Outcome A
+    program-service = readTable table >>= λ T. readProgram (T .size) program >>= rest T
+
+    reads-program : program-service ≡ (readTableProgram table program >>= λ l. rest (l .table) (l .word))
+    unfolding readTableProgram
+    reads-program =
+        sym (regrouped (readTable table) _ (λ l. rest (l .table) (l .word)) _
+        (λ T. regrouped (readProgram (T .size) program) _ (λ l. rest (l .table) (l .word)) _ (λ w. refl)))
+
+    pub program-refused : (r : Refusal) → readTableProgram table program ≡ refusal r → AsFound program-service r
+    program-refused r e = reading-refused program-service (readTableProgram table program) (λ l. rest (l .table) (l .word)) reads-program r e 6 table-program-early (omega arith)
+
+    pub program-runs : (T : Presentation) (w : Word) → readTable table ≡ answered T → readProgram (T .size) program ≡ answered w → program-service ≡ rest T w
+    program-runs T w e f = goes-on (readTable table) T e _ ∙ goes-on (readProgram (T .size) program) w f _
+
+-- TWO FORWARD PROGRAMS
 
 module _ (table first second : List ℕ) where
   pub no-table : (r : Refusal) → readTable table ≡ refusal r → readPrograms table first second ≡ refusal r

@@ -13,6 +13,8 @@ use Rattle.model.specs.declared.answers.Ending.{Ending}
 use Rattle.images.specs.Programs.{Accepted, ForwardOf}
 use Rattle.cells.specs.Stands.{Of}
 use Rattle.engine.specs.Run.{Reverses}
+use Rattle.loading.specs.declared.loading.TableProgram.{TableProgram}
+use Rattle.loading.specs.declared.loading.TableProgram.the-variants.{Loaded as LoadedAnswer, Refused as NotLoaded}
 use Rattle.loading.specs.declared.loading.ProgramsRead.{ProgramsRead}
 use Rattle.loading.specs.declared.loading.ProgramsRead.the-variants.{Programs as ProgramsAnswer, Refused as RefusedAnswer}
 
@@ -26,6 +28,24 @@ pub record ProgramRuns (cells : List ℕ) (size : ℕ) (program : List ℕ) (cou
 abbrev pub ProgramReverses : List ℕ → ℕ → List ℕ → ℕ → List ℕ → Ending → Type 0
 ProgramReverses cells size program budget workspace r =
     (T : Presentation) → Of cells size T → (w : Word) → readProgram size program ≡ answered w → Reverses T w budget workspace r
+
+-- what the images of a table and of a program under it hold
+pub record TableWord : Type 0 where
+  pub table : Presentation
+  pub word : Word
+
+unfoldable pub readTableProgram : List ℕ → List ℕ → Outcome TableWord
+readTableProgram table program = readTable table >>= λ T. readProgram (T .size) program >>= λ w. answered (record { table = T; word = w })
+
+-- the table that the cells stand for, and the program, are those that the images hold
+pub record ProgramLoaded (table program cells : List ℕ) (size count : ℕ) : Type 0 where
+  pub runs : ProgramRuns cells size program count
+  pub table-read : readTable table ≡ answered (runs .table)
+  pub program-read : readProgram (runs .table .size) program ≡ answered (runs .accepted .program .word)
+
+abbrev pub TableProgramDone : List ℕ → List ℕ → List ℕ → TableProgram → Type 0
+TableProgramDone table program cells (LoadedAnswer size count) = ProgramLoaded table program cells size count
+TableProgramDone table program cells (NotLoaded r) = readTableProgram table program ≡ refusal r
 
 -- two forward programs of so many letters
 pub record TwoForward (size : ℕ) (first : List ℕ) (first-count : ℕ) (second : List ℕ) (second-count : ℕ) : Type 0 where

@@ -1,11 +1,12 @@
 ghost use mathlib.Core.Path.{_≡_};
 ghost use lib.ListN.{length};
 ghost use Rattle.cells.specs.Stands.{Blank};
-ghost use Rattle.loading.specs.Loading.{ProgramsDone, ProgramRuns, ProgramReverses};
+ghost use Rattle.loading.specs.Loading.{TableProgramDone, ProgramsDone, ProgramRuns, ProgramReverses};
 use engine::gap::Gap;
 use engine::run::reversing;
 use images::programs::ProgramRead;
 use images::programs::read_forward;
+use images::programs::read_program;
 use images::programs::unpack_letters;
 use images::tables::TableRead;
 use images::tables::read_table;
@@ -17,6 +18,30 @@ use model::answers::Stop;
 pub enum ProgramsRead {
     Programs { size: u8, m: u16, n: u16 },
     Refused(Refusal),
+}
+
+// A table of so many letters, and a program of `count` letters.
+pub enum TableProgram {
+    Loaded { size: u8, count: u16 },
+    Refused(Refusal),
+}
+
+// Reads a table image into cells, then the image of a program.
+pub fn read_table_program(table: &[u8], program: &[u8], cells: &mut [u8]) -> TableProgram
+    requires { ⌜ Blank (now cells) ⌝ }
+    ensures { λ r. ⌜ TableProgramDone (now (table .entry)) (now (program .entry)) (now (cells .exit)) r ⌝ }
+{
+    let read = read_table(table, cells);
+    match read {
+        TableRead::Refused(refusal) => TableProgram::Refused(refusal),
+        TableRead::Table { size } => {
+            let accepted = read_program(program, size);
+            match accepted {
+                ProgramRead::Refused(refusal) => TableProgram::Refused(refusal),
+                ProgramRead::Program { count } => TableProgram::Loaded { size, count },
+            }
+        }
+    }
 }
 
 // Reads a table image into cells, then the images of two forward programs.

@@ -7,7 +7,7 @@ use lib.Seq.{take-append-seam, drop-append-seam}
 use Rattle.model.specs.Word.{Word}
 use Rattle.model.specs.Presentation.{Presentation}
 use Rattle.model.specs.Reversing.{reversing}
-use Rattle.model.specs.Outcome.{Outcome, answered, refused, _>>=_, mapped}
+use Rattle.model.specs.Outcome.{Outcome, answered, refused, mapped}
 use Rattle.model.specs.Images.{readTable, readProgram}
 use Rattle.model.specs.Services.{Sizes, sizes, Fraction, fractionOf, reverse}
 use Rattle.model.specs.Areas.{begins, fractionBytes, outputAfter}
@@ -15,7 +15,9 @@ use Rattle.model.specs.Stated.{refusal}
 use Rattle.model.specs.declared.answers.Refusal.{Refusal}
 use Rattle.theory.specs.Orders.{OrderMeaning}
 use Rattle.theory.proofs.Orders.{order-meaning}
-use Rattle.loading.proofs.Outcomes.{still-refused, goes-on}
+use Rattle.loading.specs.Loading.{readTableProgram}
+use Rattle.loading.proofs.Outcomes.{AsFound}
+use Rattle.loading.proofs.Reading.{program-refused, program-runs}
 use Rattle.reversal.specs.Reverse.{fractionLeft, ReverseMeaning}
 
 -- the area gives back the fraction that was written
@@ -35,22 +37,13 @@ left-outcome (answered f) before = ap answered (left-fraction f before)
 left-outcome (refused i numbers) before = refl
 
 module _ (table program : List ℕ) (steps width area : ℕ) where
-  pub reverse-no-table : (r : Refusal) → readTable table ≡ refusal r → reverse table program steps width area ≡ refusal r
+  pub reverse-refused : (r : Refusal) → readTableProgram table program ≡ refusal r → AsFound (reverse table program steps width area) r
   unfolding reverse
-  reverse-no-table r e = still-refused (readTable table) r e _
+  reverse-refused = program-refused table program (λ T w. fractionOf area (reversing T steps width w))
 
-  module _ (T : Presentation) (e : readTable table ≡ answered T) where
-    pub reverse-no-program : (r : Refusal) → readProgram (T .size) program ≡ refusal r → reverse table program steps width area ≡ refusal r
-    unfolding reverse
-    reverse-no-program r f =
-        goes-on (readTable table) T e (λ T. readProgram (T .size) program >>= λ w. fractionOf area (reversing T steps width w))
-        ∙ still-refused (readProgram (T .size) program) r f (λ w. fractionOf area (reversing T steps width w))
-
-    pub reverse-runs : (w : Word) → readProgram (T .size) program ≡ answered w → reverse table program steps width area ≡ fractionOf area (reversing T steps width w)
-    unfolding reverse
-    reverse-runs w f =
-        goes-on (readTable table) T e (λ T. readProgram (T .size) program >>= λ w. fractionOf area (reversing T steps width w))
-        ∙ goes-on (readProgram (T .size) program) w f (λ w. fractionOf area (reversing T steps width w))
+  pub reverse-runs : (T : Presentation) → readTable table ≡ answered T → (w : Word) → readProgram (T .size) program ≡ answered w → reverse table program steps width area ≡ fractionOf area (reversing T steps width w)
+  unfolding reverse
+  reverse-runs T e w f = program-runs table program (λ T w. fractionOf area (reversing T steps width w)) T w e f
 
   pub reverse-says : (told : Outcome Sizes) (before after : List ℕ) → told ≡ mapped sizes (reverse table program steps width area)
       → after ≡ outputAfter fractionBytes (reverse table program steps width area) before → ReverseMeaning table program told after

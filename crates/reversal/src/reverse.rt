@@ -11,10 +11,8 @@ ghost use Rattle.reversal.specs.Reverse.{AnswerOf, ProgramAnswered, Reve
 use crate::fraction::write_fraction;
 use areas::bytes::wipe;
 use cells::layout::CELLS;
-use images::programs::ProgramRead;
-use images::programs::read_program;
-use images::tables::TableRead;
-use images::tables::read_table;
+use loading::loading::TableProgram;
+use loading::loading::read_table_program;
 use loading::loading::run_program;
 use model::answers::Ending;
 use model::answers::Refusal;
@@ -80,23 +78,17 @@ pub fn reverse(
     ensures meaning { λ r. ⌜ ReverseMeaning (now (table .entry)) (now (program .entry)) (reversed r) (now (answer .exit)) ⌝ }
 {
     let mut cells = [0u8; CELLS];
-    let read = read_table(table, &mut cells);
+    let read = read_table_program(table, program, &mut cells);
     match read {
-        TableRead::Refused(refusal) => Reversed::Refused(refusal),
-        TableRead::Table { size } => {
-            let accepted = read_program(program, size);
-            match accepted {
-                ProgramRead::Refused(refusal) => Reversed::Refused(refusal),
-                ProgramRead::Program { count } => reverse_program(
-                    &cells,
-                    size,
-                    program,
-                    count,
-                    allowance,
-                    workspace,
-                    answer,
-                ),
-            }
-        }
+        TableProgram::Refused(refusal) => Reversed::Refused(refusal),
+        TableProgram::Loaded { size, count } => reverse_program(
+            &cells,
+            size,
+            program,
+            count,
+            allowance,
+            workspace,
+            answer,
+        ),
     }
 }

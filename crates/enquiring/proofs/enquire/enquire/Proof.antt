@@ -1,26 +1,20 @@
 -- `enquiring::enquire::enquire` meets its contract.
-use mathlib.Core.Path.{_≡_, sym, ap, subst, _∙_}
-use native.Mathlib.Omega.{arith}
+use mathlib.Core.Path.{sym, ap, subst, _∙_}
 use lib.ListN.{length}
 use Rattle.model.specs.Reversing.{reversing}
-use Rattle.model.specs.Images.{readTable, readProgram}
 use Rattle.model.specs.Areas.{workspaceAfter}
-use Rattle.model.specs.Stated.{refusal}
-use Rattle.images.specs.Programs.{ProgramDone}
-use Rattle.images.specs.Tables.{TableDone}
-use Rattle.loading.proofs.Early.{table-early, program-early}
-use Rattle.loading.proofs.Outcomes.{refused-workspace}
-use Rattle.enquiring.proofs.EnquireService.{zero-after, enquire-no-table, enquire-no-program, enquire-runs}
+use Rattle.loading.specs.Loading.{TableProgramDone}
+use Rattle.enquiring.proofs.EnquireService.{zero-after, enquire-refused, enquire-runs}
 use Rattle.cells.proofs.Rules.{blank-zeros}
 use borrow.Author.Needs.{needs}
 use Rattle.enquiring.proofs.enquire.enquire.Statement.{statement}
 use Rattle.enquiring.proofs.enquire.enquire.Tie as tie
 
-slice-aggregate-read-table : tie.Need-slice-aggregate-read-table
-slice-aggregate-read-table c = search needs
+slice-aggregate-read-table-program : tie.Need-slice-aggregate-read-table-program
+slice-aggregate-read-table-program c = search needs
 
-read-table-requires : tie.Need-read-table-requires
-read-table-requires c κs = blank-zeros
+read-table-program-requires : tie.Need-read-table-program-requires
+read-table-program-requires c κs = blank-zeros
 
 enum-known-read : tie.Need-enum-known-read
 enum-known-read c = search needs
@@ -28,80 +22,51 @@ enum-known-read c = search needs
 enum-known-read-2 : tie.Need-enum-known-read-2
 enum-known-read-2 c = search needs
 
-read-program-requires : tie.Need-read-program-requires
-read-program-requires c κs =
-    let s = c .before .before .before .before .before .before .before .before .before in
-    let v = c .before .before .before .before .read-table in
-    let t = subst (TableDone (s .args .table .now) (v .last .1 .0)) (c .before .read2 .given .1) (v .ensures .1) in
-    (omega (arith, t .of .sized, t .of .stands .some), omega (arith, t .of .sized, t .of .stands .few))
-
-enum-known-accepted : tie.Need-enum-known-accepted
-enum-known-accepted c = search needs
-
-enum-known-accepted-2 : tie.Need-enum-known-accepted-2
-enum-known-accepted-2 c = search needs
-
 slice-aggregate-enquire-program : tie.Need-slice-aggregate-enquire-program
 slice-aggregate-enquire-program c = search needs
 
 enquire-program-requires : tie.Need-enquire-program-requires
 enquire-program-requires c κs =
-    let s = c .before .before .before .before .before .before .before .before .before .before .before .before .before .before .before in
-    let v = c .before .before .before .before .before .before .before .before .before .before .read-table in
-    let t = subst (TableDone (s .args .table .now) (v .last .1 .0)) (c .before .before .before .before .before .before .before .read2 .given .1) (v .ensures .1) in
-    let q = subst (ProgramDone (s .args .program .now) (c .before .before .before .before .before .before .before .read2 .given .0 .0)) (c .before .before .before .accepted2 .given .1) (c .before .before .before .before .before .read-program .ensures) in
-    record { table = t .table; of = t .of; accepted = record { some = omega (arith, t .of .sized, t .of .stands .some); few = omega (arith, t .of .sized, t .of .stands .few); program = q } }
+    let s = c .before .before .before .before .before .before .before .before .before .before .before in
+    let v = c .before .before .before .before .before .before .read-table-program in
+    let t = subst (TableProgramDone (s .args .table .now) (s .args .program .now) (v .last .1 .1 .0)) (c .before .before .before .read2 .given .1) (v .ensures) in
+    t .runs
 
 returns : tie.Need-returns
 returns c =
     let s = c .before .before .before .before .before .before .before .before .before in
-    let v = c .before .before .before .before .read-table in
+    let v = c .before .before .before .before .read-table-program in
     let r = c .before .read .given .0 .0 in
-    let e = subst (TableDone (s .args .table .now) (v .last .1 .0)) (c .before .read .given .1) (v .ensures .1) in
-    let o = enquire-no-table (s .args .table .now) (s .args .program .now) (s .args .allowance) (length (s .args .workspace .now)) r e in
-    (sym o, refused-workspace _ r o (readTable (s .args .table .now)) 3 e (table-early (s .args .table .now)) (omega arith) (s .args .workspace .now))
-
-returns-2 : tie.Need-returns-2
-returns-2 c =
-    let s = c .before .before .before .before .before .before .before .before .before .before .before .before .before in
-    let v = c .before .before .before .before .before .before .before .before .read-table in
-    let t = subst (TableDone (s .args .table .now) (v .last .1 .0)) (c .before .before .before .before .before .read2 .given .1) (v .ensures .1) in
-    let r = c .before .accepted .given .0 .0 in
-    let q : readProgram (c .before .before .before .before .before .read2 .given .0 .0) (s .args .program .now) ≡ refusal r = subst (ProgramDone (s .args .program .now) (c .before .before .before .before .before .read2 .given .0 .0)) (c .before .accepted .given .1) (c .before .before .before .read-program .ensures) in
-    let e : readProgram (t .table .size) (s .args .program .now) ≡ refusal r = ap (λ n. readProgram n (s .args .program .now)) (t .of .sized) ∙ q in
-    let o = enquire-no-program (s .args .table .now) (s .args .program .now) (s .args .allowance) (length (s .args .workspace .now)) (t .table) (t .read) r e in
-    (sym o, refused-workspace _ r o (readProgram (t .table .size) (s .args .program .now)) 6 e (program-early (t .table .size) (s .args .program .now)) (omega arith) (s .args .workspace .now))
+    let e = subst (TableProgramDone (s .args .table .now) (s .args .program .now) (v .last .1 .1 .0)) (c .before .read .given .1) (v .ensures) in
+    let o = enquire-refused (s .args .table .now) (s .args .program .now) (s .args .allowance) (length (s .args .workspace .now)) r e in
+    (o .stated, o .workspace (s .args .workspace .now))
 
 same-length : tie.Need-same-length
 same-length c = search needs
 
-returns-3 : tie.Need-returns-3
-returns-3 c =
-    let s = c .before .before .before .before .before .before .before .before .before .before .before .before .before .before .before .before .before .before in
-    let v = c .before .before .before .before .before .before .before .before .before .before .before .before .before .read-table in
-    let t = subst (TableDone (s .args .table .now) (v .last .1 .0)) (c .before .before .before .before .before .before .before .before .before .before .read2 .given .1) (v .ensures .1) in
-    let q = subst (ProgramDone (s .args .program .now) (c .before .before .before .before .before .before .before .before .before .before .read2 .given .0 .0)) (c .before .before .before .before .before .before .accepted2 .given .1) (c .before .before .before .before .before .before .before .before .read-program .ensures) in
-    let e = ap (λ n. readProgram n (s .args .program .now)) (t .of .sized) ∙ q .read in
-    let o = enquire-runs (s .args .table .now) (s .args .program .now) (s .args .allowance) (length (s .args .workspace .now)) (t .table) (t .read) (q .word) e in
+returns-2 : tie.Need-returns-2
+returns-2 c =
+    let s = c .before .before .before .before .before .before .before .before .before .before .before .before .before .before in
+    let v = c .before .before .before .before .before .before .before .before .before .read-table-program in
+    let t = subst (TableProgramDone (s .args .table .now) (s .args .program .now) (v .last .1 .1 .0)) (c .before .before .before .before .before .before .read2 .given .1) (v .ensures) in
+    let p = t .runs in
+    let q = p .accepted .program in
+    let o = enquire-runs (s .args .table .now) (s .args .program .now) (s .args .allowance) (length (s .args .workspace .now)) (p .table) (t .table-read) (q .word) (t .program-read) in
     let z = c .before .before .enquire-program .ensures in (
-      z .answers (t .table) (t .of) (q .word) (q .read) ∙ sym o,
-      z .wiped ∙ sym (ap (λ x. workspaceAfter x (s .args .workspace .now)) o ∙ zero-after (reversing (t .table) (s .args .allowance) (length (s .args .workspace .now)) (q .word)) (s .args .workspace .now)),
+      z .answers (p .table) (p .of) (q .word) (q .read) ∙ sym o,
+      z .wiped ∙ sym (ap (λ x. workspaceAfter x (s .args .workspace .now)) o ∙ zero-after (reversing (p .table) (s .args .allowance) (length (s .args .workspace .now)) (q .word)) (s .args .workspace .now)),
     )
 
 pub enquire-spec : {M : Type 1} → statement M
 enquire-spec =
     tie.close
     (tie.spec
-    slice-aggregate-read-table
-    read-table-requires
+    slice-aggregate-read-table-program
+    read-table-program-requires
     enum-known-read
     enum-known-read-2
-    read-program-requires
-    enum-known-accepted
-    enum-known-accepted-2
     slice-aggregate-enquire-program
     enquire-program-requires
     returns
-    returns-2
     same-length
-    returns-3)
+    returns-2)
