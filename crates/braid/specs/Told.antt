@@ -60,3 +60,7 @@ bytesTold k = numbers 0 k 0 0 0
 -- ways: the words and the bytes of the listing
 abbrev pub countsTold : Counts → Numbers
 countsTold c = numbers 0 (c .words) (c .bytes) 0 0
+
+-- tray: the number of logs
+abbrev pub logsTold : ℕ → Numbers
+logsTold n = numbers 0 n 0 0 0

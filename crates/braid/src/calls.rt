@@ -9,6 +9,7 @@ ghost use Rattle.model.specs.Bed.{bed};
 ghost use Rattle.model.specs.Ways.{ways, waysArea};
 ghost use Rattle.model.specs.Notation.{import};
 ghost use Rattle.model.specs.Signed.{compareSigned};
+ghost use Rattle.model.specs.Tray.{trayBytes, tray};
 ghost use Rattle.model.specs.Areas.{outputAfter, workspaceAfter, fractionBytes, remainderBytes, ChainArea, ReadsBack};
 ghost use Rattle.model.specs.Stated.{counted, counts};
 ghost use Rattle.clearing.specs.Clear.{ClearMeaning};
@@ -24,7 +25,8 @@ ghost use Rattle.bed.specs.Meaning.{BedSays};
 ghost use Rattle.ways.specs.Service.{WaysSay};
 ghost use Rattle.importing.specs.Import.{ImportSays};
 ghost use Rattle.signed_comparing.specs.Service.{SignedSays};
-ghost use Rattle.braid.specs.Told.{told, sizesTold, passedTold, verdictTold, signedTold, chainTold, remainderTold, passageTold, bytesTold, countsTold};
+ghost use Rattle.trays.specs.Meaning.{TraySays};
+ghost use Rattle.braid.specs.Told.{told, sizesTold, passedTold, verdictTold, signedTold, chainTold, remainderTold, passageTold, bytesTold, countsTold, logsTold};
 ghost use Rattle.braid.specs.Values.{Tells};
 use crate::numbers::Numbers;
 use crate::numbers::of_chained;
@@ -35,6 +37,7 @@ use crate::numbers::of_compared_signed;
 use crate::numbers::of_packed;
 use crate::numbers::of_remaining;
 use crate::numbers::of_reversed;
+use crate::numbers::of_tray_compared;
 use crate::numbers::of_ways;
 use bed::bed::bed;
 use chaining::chain::chain;
@@ -54,6 +57,7 @@ use packing::unpack_table;
 use remainders::remainder::remainder;
 use reversal::reverse::reverse;
 use signed_comparing::compare_signed::compare_signed;
+use trays::tray::tray;
 use ways::ways::ways;
 
 // Sets all four values and gives the result.
@@ -355,4 +359,23 @@ pub extern "C" fn braid_import(
 {
     let imported = import(table, text, answer);
     tell(of_packed(imported), values)
+}
+
+#[no_mangle]
+pub extern "C" fn braid_tray(
+    table: &[u8],
+    logs: &[u8],
+    pattern: &[u8],
+    allowance: u16,
+    workspace: &mut [u8],
+    answer: &mut [u8],
+    values: &mut [u64; 4],
+) -> u8
+    ensures told { λ r. ⌜ Tells (told logsTold (mapped length (tray (now (table .entry)) (now (logs .entry)) (now (pattern .entry)) allowance (length (now (workspace .entry))) (length (now (answer .entry)))))) r (now (values .exit)) ⌝ }
+    ensures answer { λ r. ⌜ now (answer .exit) ≡ outputAfter trayBytes (tray (now (table .entry)) (now (logs .entry)) (now (pattern .entry)) allowance (length (now (workspace .entry))) (length (now (answer .entry)))) (now (answer .entry)) ⌝ }
+    ensures workspace { λ r. ⌜ now (workspace .exit) ≡ workspaceAfter (tray (now (table .entry)) (now (logs .entry)) (now (pattern .entry)) allowance (length (now (workspace .entry))) (length (now (answer .entry)))) (now (workspace .entry)) ⌝ }
+    ensures meaning { λ r. ⌜ TraySays (now (table .entry)) (now (logs .entry)) (now (pattern .entry)) allowance (length (now (workspace .entry))) (mapped length (tray (now (table .entry)) (now (logs .entry)) (now (pattern .entry)) allowance (length (now (workspace .entry))) (length (now (answer .entry))))) (now (answer .exit)) ⌝ }
+{
+    let compared = tray(table, logs, pattern, allowance, workspace, answer);
+    tell(of_tray_compared(compared), values)
 }

@@ -1,7 +1,7 @@
 // How an answer is told in numbers: 0 or the refusal's number, then four values.
 ghost use mathlib.Core.Path.{_≡_};
-ghost use Rattle.model.specs.Stated.{refusal, reversed, clearedAs, compared, comparedSigned, chained, remaining, checked, packedAs, listedAs};
-ghost use Rattle.braid.specs.Told.{told, sizesTold, passedTold, verdictTold, signedTold, chainTold, remainderTold, passageTold, bytesTold, countsTold};
+ghost use Rattle.model.specs.Stated.{refusal, reversed, clearedAs, compared, comparedSigned, chained, remaining, checked, packedAs, listedAs, trayCompared};
+ghost use Rattle.braid.specs.Told.{told, sizesTold, passedTold, verdictTold, signedTold, chainTold, remainderTold, passageTold, bytesTold, countsTold, logsTold};
 use model::answers::Chained;
 use model::answers::Checked;
 use model::answers::Cleared;
@@ -11,6 +11,7 @@ use model::answers::Packed;
 use model::answers::Refusal;
 use model::answers::Remaining;
 use model::answers::Reversed;
+use model::answers::TrayCompared;
 use model::answers::Ways;
 use model::refusals::refusal_numbers;
 
@@ -193,5 +194,14 @@ pub(crate) fn of_ways(answer: Ways) -> Numbers
     match answer {
         Ways::Refused(refusal) => of_refusal(refusal),
         Ways::Listed { words, bytes } => counted(words as u64, bytes as u64),
+    }
+}
+
+pub(crate) fn of_tray_compared(answer: TrayCompared) -> Numbers
+    ensures { λ r. ⌜ r ≡ told logsTold (trayCompared answer) ⌝ }
+{
+    match answer {
+        TrayCompared::Refused(refusal) => of_refusal(refusal),
+        TrayCompared::Answered { logs } => counted(logs as u64, 0),
     }
 }

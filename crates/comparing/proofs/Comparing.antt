@@ -4,7 +4,7 @@ use mathlib.Core.List.{List, [], _∷_, _++_}
 use mathlib.Core.Bool.{Bool, true, false, cond}
 use Prim.Native.Nat.{ℕ, suc}
 use native.Mathlib.Omega.{arith}
-use borrow.Author.Tests.{eq-eqb, ne-eqb}
+use borrow.Author.Tests.{eq-eqb, ne-eqb, eqb-true}
 use lib.Dec.{eqb}
 use lib.ListN.{length, replicate}
 use Rattle.model.specs.Word.{Positive, positive, negative}
@@ -12,19 +12,18 @@ use Rattle.model.specs.Presentation.{Presentation, weigh}
 use Rattle.model.specs.Reversing.{Ending, finished, open-pair, stopped, budget, room, reversing}
 use Rattle.model.specs.Outcome.{Outcome, answered}
 use Rattle.model.specs.Checks.{cleared}
-use Rattle.model.specs.Services.{Verdict, different-after, verdictOf, comparison, compare}
+use Rattle.model.specs.Services.{Verdict, same-after, different-after, verdictOf, forwardVerdict, comparison, compare}
 use Rattle.model.specs.Areas.{Compares, workspaceAfter}
 use Rattle.model.specs.Stated.{refusal, compared, endingAnswer}
 use Rattle.model.specs.declared.answers.Ending.{Ending as EndingAnswer}
 use Rattle.model.specs.declared.answers.Refusal.{Refusal}
-use Rattle.model.specs.declared.answers.Ending.the-variants.{Finished, Undefined, Stopped}
-use Rattle.model.specs.declared.answers.Stop.the-variants.{Budget, Room}
+use Rattle.model.specs.declared.answers.Ending.the-variants.{Finished}
 use Rattle.model.proofs.Impossible.{impossible}
 use Rattle.theory.specs.Verdicts.{DemandThree}
 use Rattle.theory.proofs.Verdicts.{demand-three}
 use Rattle.engine.specs.Run.{Reverses}
 use Rattle.loading.specs.Loading.{Images, readPrograms}
-use Rattle.comparing.specs.Compare.{judgement, EndedIf, Judged, Meaning}
+use Rattle.comparing.specs.Compare.{judgement, Ended, EndedIf, Judged, Meaning}
 use Rattle.model.specs.declared.answers.Compared.{Compared}
 use Rattle.model.specs.declared.answers.Compared.the-variants.{Same, Different, Refused}
 use Rattle.loading.proofs.Outcomes.{AsFound, still-refused, goes-on}
@@ -56,67 +55,70 @@ judgement-states (open-pair a b k) = refl
 judgement-states (stopped budget) = refl
 judgement-states (stopped room) = refl
 
-judged-empty : (e : Ending) (k r : ℕ) → judgement (endingAnswer e) ≡ Same k r → e ≡ finished [] [] k r
-judged-empty (finished [] [] i j) k r h =
+verdict-empty : (e : Ending) (k r : ℕ) → verdictOf e ≡ answered (same-after k r) → e ≡ finished [] [] k r
+verdict-empty (finished [] [] i j) k r h =
     let a : i ≡ k = cc in
     let b : j ≡ r = cc in
     ap₂ (finished [] []) a b
-judged-empty (finished [] (x ∷ d) i j) k r h = let f = judged-under 0 (suc (length d)) i j refl (λ e. omega arith) in impossible (cc (f, h))
-judged-empty (finished (x ∷ n) d i j) k r h = let f = judged-over (suc (length n)) (length d) i j (λ e. omega arith) in impossible (cc (f, h))
-judged-empty (open-pair a b i) k r h = impossible (cc)
-judged-empty (stopped budget) k r h = impossible (cc)
-judged-empty (stopped room) k r h = impossible (cc)
+verdict-empty (finished [] (x ∷ d) i j) k r h = impossible (cc)
+verdict-empty (finished (x ∷ n) d i j) k r h = impossible (cc)
+verdict-empty (open-pair a b i) k r h = impossible (cc)
+verdict-empty (stopped budget) k r h = impossible (cc)
+verdict-empty (stopped room) k r h = impossible (cc)
+
+-- THE VERDICT
 
 module _ (T : Presentation) (u v : Positive) (steps width : ℕ) where
+  -- by the weights
+  weighed : Bool → Outcome Verdict
+  weighed b = cond b (verdictOf (reversing T steps width (negative u ++ positive v))) (answered (different-after 0))
+
+  pub unequal-verdict : (weigh T u ≡ weigh T v → ⊥) → compared (Different 0) ≡ forwardVerdict T u v steps width
+  unfolding weighed
+  unequal-verdict h = sym (ap weighed (ne-eqb (weigh T u) (weigh T v) h))
+
+  pub equal-verdict : weigh T u ≡ weigh T v → (area : List ℕ) → length area ≡ width → (e : EndingAnswer) → Reverses T (negative u ++ positive v) steps area e
+      → compared (judgement e) ≡ forwardVerdict T u v steps width
+  unfolding weighed
+  equal-verdict h area n e p =
+      let a : e ≡ endingAnswer (reversing T steps width (negative u ++ positive v)) = p .answer ∙ ap (λ i. endingAnswer (reversing T steps i (negative u ++ positive v))) n in
+      ap (λ x. compared (judgement x)) a
+      ∙ (judgement-states (reversing T steps width (negative u ++ positive v)) ∙ sym (ap weighed (eq-eqb (weigh T u) (weigh T v) h)))
+
   -- a table that does not clear
   pub comparison-refused : (r : Refusal) → refusal r ≡ cleared T steps width → Judged T u v steps width (Refused r)
   unfolding comparison
   comparison-refused r e = record { verdict = sym (still-refused (cleared T steps width) r (sym e) _); ended = tt }
 
-  module _ (clear : answered tt ≡ cleared T steps width) where
-    after-clear : comparison T u v steps width
-        ≡ cond (eqb (weigh T u) (weigh T v)) (verdictOf (reversing T steps width (negative u ++ positive v))) (answered (different-after 0))
-    unfolding comparison
-    after-clear = goes-on (cleared T steps width) tt (sym clear) _
+  -- a table that clears
+  pub comparison-decided : answered tt ≡ cleared T steps width → (r : Compared) → compared r ≡ forwardVerdict T u v steps width → Judged T u v steps width r
+  unfolding comparison weighed
+  comparison-decided clear r e =
+      record { verdict = e ∙ sym (goes-on (cleared T steps width) tt (sym clear) _); ended = if-same r e }
+    where
+      by-weight : (b : Bool) → eqb (weigh T u) (weigh T v) ≡ b → (k i : ℕ) → compared (Same k i) ≡ weighed b → Ended T u v steps width k i
+      by-weight true h k i q =
+          record { clear = sym clear; same-weight = eqb-true (weigh T u) (weigh T v) h; empty = verdict-empty (reversing T steps width (negative u ++ positive v)) k i (sym q) }
+      by-weight false h k i q = impossible (cc)
 
-    pub unequal-programs : (weigh T u ≡ weigh T v → ⊥) → Judged T u v steps width (Different 0)
-    unequal-programs h =
-        record {
-          verdict =
-              sym (after-clear ∙ ap (λ t. cond t (verdictOf (reversing T steps width (negative u ++ positive v))) (answered (different-after 0))) (ne-eqb (weigh T u) (weigh T v) h));
-          ended = tt;
-        }
+      if-same : (j : Compared) → compared j ≡ forwardVerdict T u v steps width → EndedIf T u v steps width j
+      if-same (Same k i) q = by-weight (eqb (weigh T u) (weigh T v)) refl k i q
+      if-same (Different k) q = tt
+      if-same (Refused r) q = tt
 
-    pub equal-programs : weigh T u ≡ weigh T v → (area : List ℕ) → length area ≡ width → (e : EndingAnswer) → Reverses T (negative u ++ positive v) steps area e
-        → Judged T u v steps width (judgement e)
-    equal-programs h area n e p =
-        let end = reversing T steps width (negative u ++ positive v) in
-        let a : e ≡ endingAnswer end = p .answer ∙ ap (λ i. endingAnswer (reversing T steps i (negative u ++ positive v))) n in
-        record {
-          verdict =
-              ap (λ x. compared (judgement x)) a
-              ∙ (judgement-states end
-              ∙ sym (after-clear ∙ ap (λ t. cond t (verdictOf end) (answered (different-after 0))) (eq-eqb (weigh T u) (weigh T v) h)));
-          ended = if-same (judgement e) (sym (ap judgement a));
-        }
-      where
-        if-same : (j : Compared) → judgement (endingAnswer (reversing T steps width (negative u ++ positive v))) ≡ j → EndedIf T u v steps width j
-        if-same (Same k r) q =
-            record { clear = sym clear; same-weight = h; empty = judged-empty (reversing T steps width (negative u ++ positive v)) k r q }
-        if-same (Different k) q = tt
-        if-same (Refused r) q = tt
+  -- after any verdict of a table that cleared the workspace is all zero
+  pub verdict-wipes : (area : List ℕ) → workspaceAfter (forwardVerdict T u v steps width) area ≡ replicate (length area) 0
+  verdict-wipes area = by-weight (eqb (weigh T u) (weigh T v))
+    where
+      by-ending : (e : Ending) → workspaceAfter (verdictOf e) area ≡ replicate (length area) 0
+      by-ending (finished n d k r) = refl
+      by-ending (open-pair a b k) = refl
+      by-ending (stopped budget) = refl
+      by-ending (stopped room) = refl
 
--- after any verdict of a reversing the workspace is all zero
-pub judged-wipe : (e : EndingAnswer) (area : List ℕ) → workspaceAfter (compared (judgement e)) area ≡ replicate (length area) 0
-judged-wipe (Finished n d k r) area = by-tests (eqb n 0) (eqb d 0)
-  where
-    by-tests : (s t : Bool) → workspaceAfter (compared (cond s (cond t (Same k r) (Different k)) (Different k))) area ≡ replicate (length area) 0
-    by-tests true true = refl
-    by-tests true false = refl
-    by-tests false t = refl
-judged-wipe (Undefined p k) area = refl
-judged-wipe (Stopped Budget) area = refl
-judged-wipe (Stopped Room) area = refl
+      by-weight : (b : Bool) → workspaceAfter (cond b (verdictOf (reversing T steps width (negative u ++ positive v))) (answered (different-after 0))) area ≡ replicate (length area) 0
+      by-weight true = by-ending (reversing T steps width (negative u ++ positive v))
+      by-weight false = refl
 
 -- THE SERVICE
 

@@ -10,7 +10,7 @@ use Rattle.model.specs.Presentation.{Presentation, weigh}
 use Rattle.model.specs.Reversing.{finished, reversing}
 use Rattle.model.specs.Outcome.{Outcome, answered}
 use Rattle.model.specs.Checks.{cleared}
-use Rattle.model.specs.Services.{Verdict, readForward, comparison}
+use Rattle.model.specs.Services.{Verdict, readForward, forwardVerdict, comparison}
 use Rattle.model.specs.Areas.{Compares, workspaceAfter}
 use Rattle.model.specs.declared.answers.Ending.{Ending}
 use Rattle.model.specs.declared.answers.Ending.the-variants.{Finished, Undefined, Stopped}
@@ -45,6 +45,12 @@ pub record Judges (cells : List ℕ) (size : ℕ) (first second : List ℕ) (bud
   pub workspace : after ≡ workspaceAfter (compared r) before
   pub judged : (T : Presentation) → Of cells size T → (u v : Positive) → readForward size first ≡ answered u → readForward size second ≡ answered v
       → Judged T u v budget (length before) r
+
+-- two programs under a table that has cleared: the verdict, and the workspace as it was
+pub record Decides (cells : List ℕ) (size : ℕ) (first second : List ℕ) (budget : ℕ) (before after : List ℕ) (r : Compared) : Type 0 where
+  pub workspace : after ≡ before
+  pub decided : (T : Presentation) → Of cells size T → (u v : Positive) → readForward size first ≡ answered u → readForward size second ≡ answered v
+      → compared r ≡ forwardVerdict T u v budget (length before)
 
 -- WHAT A VERDICT MEANS (specification 6.5), of the programs in the images; `after` is how the service tells a verdict under a table
 abbrev pub Meaning : List ℕ → List ℕ → List ℕ → ℕ → ℕ → (Presentation → Verdict → Outcome Verdict) → Outcome Verdict → Type 0

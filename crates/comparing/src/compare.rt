@@ -1,12 +1,12 @@
 // Compare (specification 6.4): two programs of forward letters under a table that must clear first.
 ghost use mathlib.Core.Path.{_≡_};
-ghost use lib.ListN.{length};
+ghost use lib.ListN.{length, replicate};
 ghost use Rattle.model.specs.Outcome.{answered};
 ghost use Rattle.model.specs.Services.{compare};
 ghost use Rattle.model.specs.Areas.{workspaceAfter};
 ghost use Rattle.model.specs.Stated.{compared};
 ghost use Rattle.loading.specs.Loading.{Forward};
-ghost use Rattle.comparing.specs.Compare.{judgement, Judges, Meaning};
+ghost use Rattle.comparing.specs.Compare.{judgement, Decides, Judges, Meaning};
 use areas::bytes::wipe;
 use cells::layout::CELLS;
 use clearing::clear::clear_cells;
@@ -43,6 +43,31 @@ pub fn judge(ending: Ending) -> Compared
     }
 }
 
+// Two accepted forward programs under a table that has cleared. The workspace is all zero before and after.
+pub fn compare_cleared(
+    cells: &[u8],
+    size: u8,
+    first: &[u8],
+    m: u16,
+    second: &[u8],
+    n: u16,
+    budget: u16,
+    workspace: &mut [u8],
+) -> Compared
+    requires programs { ⌜ Forward (now cells) size (now first) m (now second) n ⌝ }
+    requires zero { ⌜ now workspace ≡ replicate (length (now workspace)) 0 ⌝ }
+    ensures { λ r. ⌜ Decides (now (cells .entry)) size (now (first .entry)) (now (second .entry)) budget (now (workspace .entry)) (now (workspace .exit)) r ⌝ }
+{
+    let one = program_weight(cells, size, first, m);
+    let two = program_weight(cells, size, second, n);
+    if one != two {
+        return Compared::Different { steps: 0 };
+    }
+    let ending = run_programs(cells, size, first, m, second, n, budget, workspace);
+    wipe(workspace);
+    judge(ending)
+}
+
 // Two accepted forward programs under a table that was loaded. The workspace is wiped, unless the weight check refused.
 pub fn compare_programs(
     cells: &[u8],
@@ -60,16 +85,7 @@ pub fn compare_programs(
     let clear = clear_cells(cells, size, budget, workspace);
     match clear {
         Cleared::Refused(refusal) => Compared::Refused(refusal),
-        Cleared::Passed => {
-            let one = program_weight(cells, size, first, m);
-            let two = program_weight(cells, size, second, n);
-            if one != two {
-                return Compared::Different { steps: 0 };
-            }
-            let ending = run_programs(cells, size, first, m, second, n, budget, workspace);
-            wipe(workspace);
-            judge(ending)
-        }
+        Cleared::Passed => compare_cleared(cells, size, first, m, second, n, budget, workspace),
     }
 }
 

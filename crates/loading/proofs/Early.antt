@@ -128,4 +128,4 @@ pub refusal-workspace : {A : Type 0} (B : Type 0) (r : Refusal) (o : Outcome A) 
     → workspaceAfter {A = B} (refusal r) area ≡ area
 refusal-workspace B r o k e h few area =
     let small : numbered r .0 ≤ k = subst (Early k) e h in
-    ap (λ b. cond (b || eqb (numbered r .0) 16) area (replicate (length area) 0)) (le-leb (numbered r .0) 8 (omega arith))
+    ap (λ b. cond (b || (eqb (numbered r .0) 16 || (eqb (numbered r .0) 23 || eqb (numbered r .0) 24))) area (replicate (length area) 0)) (le-leb (numbered r .0) 8 (omega arith))

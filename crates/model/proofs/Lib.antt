@@ -28,3 +28,4 @@ pub mod WaysCases
 pub mod EnquiryCases
 pub mod NotationCases
 pub mod SignedCases
+pub mod TrayCases

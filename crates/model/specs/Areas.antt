@@ -39,9 +39,9 @@ abbrev pub remainderBytes : Remainder Positive → List ℕ
 remainderBytes (moves-after m k) = m
 remainderBytes (none-after k) = []
 
--- 6.1: the refusals that come before the work begins: 1 to 8, and 16
+-- 6.1: the refusals that come before the work begins: 1 to 8, 16, and 23 and 24
 abbrev pub beforeWork : ℕ → Bool
-beforeWork n = leb n 8 || eqb n 16
+beforeWork n = leb n 8 || (eqb n 16 || (eqb n 23 || eqb n 24))
 
 -- 6.1: the workspace: as found after these, all zero after answers and the other refusals
 abbrev pub workspaceAfter : {A : Type 0} → Outcome A → List ℕ → List ℕ

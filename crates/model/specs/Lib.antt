@@ -16,5 +16,6 @@ pub mod Areas
 pub mod Ways
 pub mod Notation
 pub mod Signed
+pub mod Tray
 pub mod Stated
 pub mod Refusals

@@ -10,7 +10,7 @@ use Rattle.model.specs.declared.answers.Stop.the-variants.{Budget, Room}
 use Rattle.model.specs.declared.answers.Ending.{Ending as EndingAnswer}
 use Rattle.model.specs.declared.answers.Ending.the-variants.{Finished, Undefined, Stopped}
 use Rattle.model.specs.declared.answers.Refusal.{Refusal}
-use Rattle.model.specs.declared.answers.Refusal.the-variants.{TableEnds, TableField, TableTail, ImageEnds, ImageField, ImageTail, BackMove, UnequalWeights, CubeFails, OpenPair, AllowanceUsed, WorkspaceShort, AnswerShort, NotBraidTable, NoMirror, MirrorFails, OtherNumbers, NotPattern, TooManyMoves, SetOpenPair, SetTooLarge}
+use Rattle.model.specs.declared.answers.Refusal.the-variants.{TableEnds, TableField, TableTail, ImageEnds, ImageField, ImageTail, BackMove, UnequalWeights, CubeFails, OpenPair, AllowanceUsed, WorkspaceShort, AnswerShort, NotBraidTable, NoMirror, MirrorFails, OtherNumbers, NotPattern, TooManyMoves, SetOpenPair, SetTooLarge, TooManyLogs, NotTray}
 use Rattle.model.specs.declared.answers.Reversed.{Reversed}
 use Rattle.model.specs.declared.answers.Reversed.the-variants.{Answer, Refused as ReverseRefused}
 use Rattle.model.specs.declared.answers.Cleared.{Cleared}
@@ -29,6 +29,8 @@ use Rattle.model.specs.declared.answers.Packed.{Packed}
 use Rattle.model.specs.declared.answers.Packed.the-variants.{Written, Refused as PackRefused}
 use Rattle.model.specs.declared.answers.Ways.{Ways}
 use Rattle.model.specs.declared.answers.Ways.the-variants.{Listed as WordsListed, Refused as WaysRefused}
+use Rattle.model.specs.declared.answers.TrayCompared.{TrayCompared}
+use Rattle.model.specs.declared.answers.TrayCompared.the-variants.{Answered as TrayAnswered, Refused as TrayRefused}
 use Rattle.model.specs.Word.{Positive}
 use Rattle.model.specs.Reversing.{Stop, budget, room, Ending, finished, open-pair, stopped}
 use Rattle.model.specs.Outcome.{Place, unplaced, pair-of, triple-of, mirror-triple-of, the-set, Outcome, answered, refused}
@@ -66,6 +68,8 @@ numbered NotPattern = (19, unplaced)
 numbered TooManyMoves = (20, unplaced)
 numbered (SetOpenPair p) = (21, pair-of (p .a) (p .b))
 numbered SetTooLarge = (22, unplaced)
+numbered TooManyLogs = (23, unplaced)
+numbered NotTray = (24, unplaced)
 
 -- 7.1: the outcome, whatever the answer would have been
 abbrev pub refusal : {A : Type 0} → Refusal → Outcome A
@@ -137,6 +141,11 @@ counts vs = record { words = length vs; bytes = length (listingBytes vs) }
 abbrev pub listedAs : Ways → Outcome Counts
 listedAs (WordsListed w k) = answered (record { words = w; bytes = k })
 listedAs (WaysRefused r) = refusal r
+
+-- 6.19: the answer of tray: the number of logs
+abbrev pub trayCompared : TrayCompared → Outcome ℕ
+trayCompared (TrayAnswered n) = answered n
+trayCompared (TrayRefused r) = refusal r
 
 -- 3.2: how a reversing ends, by lengths: the answer that each ending of the model has
 abbrev pub stopAnswer : Stop → StopAnswer

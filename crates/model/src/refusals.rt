@@ -119,5 +119,7 @@ pub fn refusal_numbers(refusal: Refusal) -> RefusalNumbers
         Refusal::TooManyMoves => alone(20),
         Refusal::SetOpenPair(pair) => with_pair(21, pair),
         Refusal::SetTooLarge => alone(22),
+        Refusal::TooManyLogs => alone(23),
+        Refusal::NotTray => alone(24),
     }
 }

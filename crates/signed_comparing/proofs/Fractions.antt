@@ -1,28 +1,16 @@
--- N and D as a finished reversing leaves them, and as they are compared.
+-- N and D as a finished reversing leaves them.
 use mathlib.Core.Path.{_≡_, refl, sym, ap, subst, _∙_}
 use mathlib.Core.List.{List, _++_}
-use mathlib.Core.Bool.{true, false, cond}
 use Prim.Native.Nat.{ℕ, _+_, _-_}
 use native.Mathlib.Omega.{arith}
-use lib.Dec.{eqb}
 use lib.ListN.{length, take, drop, length-append, length-drop}
 use lib.Seq.{take-at, drop-at, take-add, length-take-le}
 use Rattle.model.specs.Word.{Word, Positive, positive, negative, inverse}
-use Rattle.model.specs.Presentation.{Presentation, weigh}
+use Rattle.model.specs.Presentation.{Presentation}
 use Rattle.model.specs.Range.{LetterInRange, Lettered}
-use Rattle.model.specs.Reversing.{reversing}
-use Rattle.model.specs.Outcome.{answered}
-use Rattle.model.specs.Services.{different-after, verdictOf, forwardVerdict}
-use Rattle.model.specs.Stated.{compared, endingAnswer}
-use Rattle.model.specs.declared.answers.Ending.{Ending}
-use Rattle.model.specs.declared.answers.Compared.{Compared}
-use Rattle.model.specs.declared.answers.Compared.the-variants.{Different}
 use Rattle.theory.proofs.Letters.{all-first, all-second, lettered-positive, inverse-lettered}
-use Rattle.comparing.specs.Compare.{judgement}
-use Rattle.comparing.proofs.Comparing.{judgement-states}
 use Rattle.engine.specs.Gap.{letters}
 use Rattle.engine.specs.Words.{Inverted, Moved}
-use Rattle.engine.specs.Run.{Reverses}
 use Rattle.engine.proofs.Letters.{letters-append, letters-forward, length-letters}
 use Rattle.engine.proofs.Lettering.{length-positive}
 use Rattle.reversal.proofs.Fractions.{inverse-inverse}
@@ -101,16 +89,3 @@ module _ (cells before : List ℕ) (numerator denominator : ℕ) (T : Presentati
       where
         positive-letters : letters d ≡ positive d
         positive-letters = ap letters (sym second-bytes) ∙ i .inverted ∙ ap inverse (parts .1) ∙ inverse-inverse (positive d)
-
--- THE VERDICT
-
-module _ (T : Presentation) (n d : Positive) (steps width : ℕ) where
-  pub weights-differ : false ≡ eqb (weigh T n) (weigh T d) → compared (Different 0) ≡ forwardVerdict T n d steps width
-  weights-differ e = ap (λ b. cond b (verdictOf (reversing T steps width (negative n ++ positive d))) (answered (different-after 0))) e
-
-  pub weights-agree : true ≡ eqb (weigh T n) (weigh T d) → (ending : Ending) (bytes : List ℕ) → length bytes ≡ width → Reverses T (negative n ++ positive d) steps bytes ending
-      → (r : Compared) → r ≡ judgement ending → compared r ≡ forwardVerdict T n d steps width
-  weights-agree e ending bytes long v r j =
-      ap compared (j ∙ ap judgement (v .answer ∙ ap (λ k. endingAnswer (reversing T steps k (negative n ++ positive d))) long))
-      ∙ judgement-states (reversing T steps width (negative n ++ positive d))
-      ∙ ap (λ b. cond b (verdictOf (reversing T steps width (negative n ++ positive d))) (answered (different-after 0))) e

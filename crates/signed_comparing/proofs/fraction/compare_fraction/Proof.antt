@@ -1,13 +1,16 @@
 -- `signed_comparing::fraction::compare_fraction` meets its contract.
-use mathlib.Core.Path.{_≡_, sym, subst, _∙_}
+use mathlib.Core.Path.{_≡_, sym, ap, subst, _∙_}
 use Prim.Native.Nat.{_-_, _≤_}
 use native.Mathlib.Omega.{arith}
 use lib.ListN.{length, take, drop, length-drop}
 use lib.Seq.{take-all}
-use borrow.Author.Tests.{not-true, not-false}
+use borrow.Author.Tests.{eqb-true, eqb-false, not-true, not-false}
 use Rattle.areas.proofs.Parts.{part-back, part-length}
 use Rattle.engine.specs.Words.{Inverted}
-use Rattle.signed_comparing.proofs.Fractions.{two-words, laid, weights-differ, weights-agree}
+use Rattle.model.specs.Presentation.{weigh}
+use Rattle.model.specs.Stated.{compared}
+use Rattle.comparing.proofs.Comparing.{unequal-verdict, equal-verdict}
+use Rattle.signed_comparing.proofs.Fractions.{two-words, laid}
 use borrow.Author.Needs.{needs}
 use Rattle.signed_comparing.proofs.fraction.compare_fraction.Statement.{statement}
 use Rattle.signed_comparing.proofs.fraction.compare_fraction.Tie as tie
@@ -39,8 +42,8 @@ returns c =
     let bytes = s .args .workspace .now in
     let part = i .invert .last .0 in (
       part-length n bytes part (reaches s) (i .invert .ensures .same-length),
-      λ T u v l. weights-differ T u v (s .args .budget) (length bytes)
-          (sym (not-true (c .before .same-weight .result) (c .if1 .taken)) ∙ c .before .same-weight .ensures T u v (two-words (s .args .cells .now) bytes n (s .args .denominator) T u v l part _ (turned i) (part-back n bytes part (reaches s)))),
+      λ T u v l. unequal-verdict T u v (s .args .budget) (length bytes)
+          (eqb-false (weigh T u) (weigh T v) (sym (c .before .same-weight .ensures T u v (two-words (s .args .cells .now) bytes n (s .args .denominator) T u v l part _ (turned i) (part-back n bytes part (reaches s)))) ∙ not-true (c .before .same-weight .result) (c .if1 .taken))),
     )
 
 reverse-pair-requires : tie.Need-reverse-pair-requires
@@ -65,9 +68,10 @@ returns-2 c =
       long,
       λ T u v l.
           let put = part-back n bytes part (reaches s) in
-          weights-agree T u v (s .args .budget) (length bytes)
-          (sym (not-false (c .before .before .before .before .before .before .before .before .before .before .same-weight .result) (c .before .before .before .before .before .before .before .before .before .if1 .left)) ∙ c .before .before .before .before .before .before .before .before .before .before .same-weight .ensures T u v (two-words (s .args .cells .now) bytes n (s .args .denominator) T u v l part _ (turned i) put))
-          (r .result) (r .last .1 .0) long (r .ensures .1 T u v (laid (s .args .cells .now) bytes n (s .args .denominator) T u v l part _ (turned i) put (m .last .0) (m .ensures))) (c .judge .result) (c .judge .ensures),
+          ap compared (c .judge .ensures)
+          ∙ equal-verdict T u v (s .args .budget) (length bytes)
+          (eqb-true (weigh T u) (weigh T v) (sym (c .before .before .before .before .before .before .before .before .before .before .same-weight .ensures T u v (two-words (s .args .cells .now) bytes n (s .args .denominator) T u v l part _ (turned i) put)) ∙ not-false (c .before .before .before .before .before .before .before .before .before .before .same-weight .result) (c .before .before .before .before .before .before .before .before .before .if1 .left)))
+          (r .last .1 .0) long (r .result) (r .ensures .1 T u v (laid (s .args .cells .now) bytes n (s .args .denominator) T u v l part _ (turned i) put (m .last .0) (m .ensures))),
     )
 
 pub compare-fraction-spec : {M : Type 1} → statement M

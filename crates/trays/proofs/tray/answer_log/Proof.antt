@@ -1,0 +1,78 @@
+-- `trays::tray::answer_log` meets its contract.
+use mathlib.Core.Path.{_≡_, ap, _∙_}
+use Prim.Native.Nat.{_+_, _-_}
+use native.Mathlib.Omega.{arith}
+use lib.ListN.{length, take, drop}
+use Rattle.model.specs.Areas.{written}
+use Rattle.model.specs.Stated.{compared}
+use Rattle.model.specs.Tray.{logBytes}
+use Rattle.trays.specs.Logs.{lengthAt}
+use Rattle.trays.specs.Tray.{logVerdict}
+use Rattle.trays.proofs.Answering.{written-long}
+use borrow.Author.Needs.{needs}
+use Rattle.trays.proofs.tray.answer_log.Statement.{statement}
+use Rattle.trays.proofs.tray.answer_log.Tie as tie
+
+add-start : tie.Need-add-start
+add-start c = search needs
+
+log-length-requires : tie.Need-log-length-requires
+log-length-requires c κs = search needs
+
+add-end : tie.Need-add-end
+add-end c = search needs
+
+sub-compare-log : tie.Need-sub-compare-log
+sub-compare-log c = search needs
+
+part-compare-log-start : tie.Need-part-compare-log-start
+part-compare-log-start c = search needs
+
+part-compare-log-end : tie.Need-part-compare-log-end
+part-compare-log-end c = search needs
+
+compare-log-requires : tie.Need-compare-log-requires
+compare-log-requires c κs = search needs
+
+write-answer-requires : tie.Need-write-answer-requires
+write-answer-requires c κs = search needs
+
+same-length : tie.Need-same-length
+same-length c = search needs
+
+same-length-2 : tie.Need-same-length-2
+same-length-2 c = search needs
+
+returns : tie.Need-returns
+returns c =
+    let s = c .before .before .before .before .before .before .before .before .before .before .before .before .before .before .before in
+    let l = c .before .before .before .before .before .before .before .before .before .log-length in
+    let x = c .before .before .before .before .before .before .compare-log in
+    let w = c .before .before .write-answer in
+    let start = s .args .at + 2 in
+    let bytes : start + l .result - start ≡ lengthAt (s .args .tray .now) (s .args .at) = omega (arith, l .ensures) in
+    record {
+      workspace = x .ensures .workspace;
+      ends = ap (λ k. start + k) (l .ensures);
+      same-length = ap length (w .ensures) ∙ written-long (s .args .answer .now) (s .args .place) (compared (x .result)) (s .pre .1 .1 .1);
+      answer = λ T o v e.
+          w .ensures
+          ∙ ap (λ q. written (s .args .answer .now) (s .args .place) (logBytes q))
+          (x .ensures .verdict T o v e ∙ ap (λ k. logVerdict (s .args .size) T v (s .args .budget) (length (s .args .workspace .now)) (take k (drop start (s .args .tray .now)))) bytes);
+    }
+
+pub answer-log-spec : {M : Type 1} → statement M
+answer-log-spec =
+    tie.close
+    (tie.spec
+    add-start
+    log-length-requires
+    add-end
+    sub-compare-log
+    part-compare-log-start
+    part-compare-log-end
+    compare-log-requires
+    write-answer-requires
+    same-length
+    same-length-2
+    returns)

@@ -1,0 +1,92 @@
+-- `trays::tray::answer_logs` meets its contract. The loop's invariant: the first logs are answered.
+use mathlib.Core.Path.{_≡_, refl, sym, ap, subst, _∙_}
+use Prim.Native.Nat.{_+_, _-_}
+use native.Mathlib.Omega.{arith}
+use lib.ListN.{length, replicate}
+use Rattle.model.specs.Areas.{written}
+use Rattle.model.specs.Tray.{logBytes}
+use Rattle.trays.specs.Logs.{imageAt, LogsOf}
+use Rattle.trays.specs.Tray.{logVerdict}
+use Rattle.trays.proofs.Answering.{Answered, none-answered, next-inside, one-answered, all-answered}
+use Rattle.trays.proofs.tray.answer_logs.Statement.{statement}
+use Rattle.trays.proofs.tray.answer_logs.Tie as tie
+
+abbrev Inv-loop : tie.InvT-loop
+Inv-loop cells size tray logs pattern n budget workspace₀ answer₀ at₀ place₀ left₀ workspace answer at place left =
+    (workspace ≡ workspace₀) × ((l : LogsOf tray logs) → Answered cells size tray pattern budget (length workspace₀) (l .images) answer₀ answer at place left)
+
+abbrev μ-loop : tie.MeasureT-loop
+μ-loop cells size tray logs pattern n budget workspace₀ answer₀ at₀ place₀ left₀ workspace answer at place left = left
+
+loop-holds : tie.Need-loop-holds Inv-loop μ-loop
+loop-holds c =
+    let s = c .before .before .before .before .before in
+    (refl, λ l. none-answered (s .args .cells .now) (s .args .size) (s .args .tray .now) (s .args .pattern .now) (s .args .budget) (length (s .args .workspace .now)) (s .args .answer .now) (s .args .logs) l (s .pre .1 .1 .1))
+
+answer-log-requires : tie.Need-answer-log-requires Inv-loop μ-loop
+answer-log-requires c κs =
+    let s = c .before .before .before .before .before .before .before .before .before in
+    let l = c .before .before .before .loop in
+    let a = l .inv .1 (s .pre .1 .1 .0) in (
+      s .pre .0,
+      (
+        subst (λ w. w ≡ replicate (length w) 0) (sym (l .inv .0)) (s .pre .1 .0),
+        (
+          next-inside (s .args .cells .now) (s .args .size) (s .args .tray .now) (s .args .pattern .now) (s .args .budget) (length (s .args .workspace .now)) (s .args .answer .now) (s .pre .1 .1 .0 .images) (l .answer) (l .at) (l .place) (l .left) a (c .before .before .loop-test .taken),
+          omega (arith, a .room, a .same-length, c .before .before .loop-test .taken),
+        ),
+      ),
+    )
+
+add-place : tie.Need-add-place Inv-loop μ-loop
+add-place c = let s = c .before .before .before .before .before .before .before .before .before .before .before .before .before .before in let a = c .before .before .before .before .before .before .before .before .loop .inv .1 (s .pre .1 .1 .0) in omega (arith, a .room, c .before .before .before .before .before .before .before .loop-test .taken, s .good)
+
+sub-left : tie.Need-sub-left Inv-loop μ-loop
+sub-left c = omega (arith, c .before .before .before .before .before .before .before .loop-test .taken)
+
+loop-less : tie.Need-loop-less Inv-loop μ-loop
+loop-less c = omega (arith, c .before .before .before .before .before .before .before .loop-test .taken)
+
+loop-again : tie.Need-loop-again Inv-loop μ-loop
+loop-again c =
+    let s = c .before .before .before .before .before .before .before .before .before .before .before .before .before .before in
+    let l = c .before .before .before .before .before .before .before .before .loop in
+    let x = c .before .before .before .before .answer-log in
+    let width = length (s .args .workspace .now) in (
+      x .ensures .workspace ∙ l .inv .0,
+      λ logs.
+          subst (λ k. Answered (s .args .cells .now) (s .args .size) (s .args .tray .now) (s .args .pattern .now) (s .args .budget) width (logs .images) (s .args .answer .now) (x .last .1 .1 .1 .1 .1 .1 .1 .1 .0) k (l .place + 3) (l .left - 1)) (sym (x .ensures .ends))
+          (one-answered (s .args .cells .now) (s .args .size) (s .args .tray .now) (s .args .pattern .now) (s .args .budget) width (s .args .answer .now) (logs .images) (l .answer) (l .at) (l .place) (l .left) (l .inv .1 logs) (c .before .before .before .before .before .before .before .loop-test .taken) (x .last .1 .1 .1 .1 .1 .1 .1 .1 .0) (x .ensures .same-length)
+          (λ T o v e. x .ensures .answer T o v e ∙ ap (λ w. written (l .answer) (l .place) (logBytes (logVerdict (s .args .size) T v (s .args .budget) (length w) (imageAt (s .args .tray .now) (l .at))))) (l .inv .0))),
+    )
+
+same-length : tie.Need-same-length Inv-loop μ-loop
+same-length c = ap length (c .before .loop .inv .0)
+
+same-length-2 : tie.Need-same-length-2 Inv-loop μ-loop
+same-length-2 c = c .before .loop .inv .1 (c .before .before .before .before .before .before .before .pre .1 .1 .0) .same-length
+
+returns : tie.Need-returns Inv-loop μ-loop
+returns c =
+    let s = c .before .before .before .before .before .before .before in
+    let l = c .before .loop in
+    record {
+      workspace = l .inv .0;
+      answer = λ logs. all-answered (s .args .cells .now) (s .args .size) (s .args .tray .now) (s .args .pattern .now) (s .args .budget) (length (s .args .workspace .now)) (s .args .answer .now) (logs .images) (l .answer) (l .at) (l .place) (l .left) (l .inv .1 logs) (omega (arith, c .loop-test .left));
+    }
+
+pub answer-logs-spec : {M : Type 1} → statement M
+answer-logs-spec =
+    tie.close
+    (tie.spec
+    Inv-loop
+    μ-loop
+    loop-holds
+    answer-log-requires
+    add-place
+    sub-left
+    loop-less
+    loop-again
+    same-length
+    same-length-2
+    returns)

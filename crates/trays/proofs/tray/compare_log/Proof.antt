@@ -1,0 +1,68 @@
+-- `trays::tray::compare_log` meets its contract.
+use mathlib.Core.Path.{refl, sym, subst, _∙_}
+use native.Mathlib.Omega.{arith}
+use lib.ListN.{length}
+use Rattle.model.specs.Services.{readForward, forwardVerdict}
+use Rattle.images.specs.Programs.{ForwardDone}
+use Rattle.loading.proofs.Outcomes.{still-refused, goes-on}
+use borrow.Author.Needs.{needs}
+use Rattle.trays.proofs.tray.compare_log.Statement.{statement}
+use Rattle.trays.proofs.tray.compare_log.Tie as tie
+
+read-forward-requires : tie.Need-read-forward-requires
+read-forward-requires c κs = search needs
+
+enum-known-read : tie.Need-enum-known-read
+enum-known-read c = search needs
+
+enum-known-read-2 : tie.Need-enum-known-read-2
+enum-known-read-2 c = search needs
+
+compare-cleared-requires : tie.Need-compare-cleared-requires
+compare-cleared-requires c κs =
+    let s = c .before .before .before .before .before .before .before .before .before in
+    let p = s .pre .0 in
+    let f = subst (ForwardDone (s .args .log .now) (s .args .size)) (c .before .before .read2 .given .1) (c .before .before .before .before .read-forward .ensures) in (
+      record {
+        table = p .table;
+        of = p .of;
+        pair = record { some = omega (arith, p .of .sized, p .of .stands .some); few = omega (arith, p .of .sized, p .of .stands .few); one = f; two = p .forward };
+      },
+      s .pre .1,
+    )
+
+returns : tie.Need-returns
+returns c =
+    let s = c .before .before .before .before .before .before .before .before in
+    let e = subst (ForwardDone (s .args .log .now) (s .args .size)) (c .before .read .given .1) (c .before .before .before .read-forward .ensures) in
+    record {
+      workspace = refl;
+      verdict = λ T o v ev. sym (still-refused (readForward (s .args .size) (s .args .log .now)) (c .before .read .given .0 .0) e _);
+    }
+
+same-length : tie.Need-same-length
+same-length c = search needs
+
+returns-2 : tie.Need-returns-2
+returns-2 c =
+    let s = c .before .before .before .before .before .before .before .before .before .before .before .before in
+    let f = subst (ForwardDone (s .args .log .now) (s .args .size)) (c .before .before .before .before .before .read2 .given .1) (c .before .before .before .before .before .before .before .read-forward .ensures) in
+    let x = c .before .before .compare-cleared in
+    record {
+      workspace = x .ensures .workspace;
+      verdict = λ T o v ev.
+          x .ensures .decided T o (f .word) v (f .read) ev
+          ∙ sym (goes-on (readForward (s .args .size) (s .args .log .now)) (f .word) (f .read) (λ u. forwardVerdict T u v (s .args .budget) (length (s .args .workspace .now))));
+    }
+
+pub compare-log-spec : {M : Type 1} → statement M
+compare-log-spec =
+    tie.close
+    (tie.spec
+    read-forward-requires
+    enum-known-read
+    enum-known-read-2
+    compare-cleared-requires
+    returns
+    same-length
+    returns-2)

@@ -1,0 +1,3 @@
+pub mod Logs
+pub mod Tray
+pub mod Meaning
