@@ -3,8 +3,8 @@
  * bit; section numbers below are its.
  *
  * What a caller must keep (8.2). Each pointer is not null, also where its length is 0 (as an empty vector's may be), and points to memory of that
- * length which may be read, that of areas and values also written; values points to four aligned numbers. No two images, texts, areas or values of one call
- * overlap: first and second are two places, also for equal programs. During the call no other thread writes to images or texts, or touches areas and values.
+ * length which may be read, that of areas and values also written; values points to four aligned numbers. No two images, texts, trays, areas or values of one call
+ * overlap: first and second are two places, also for equal programs. During the call no other thread writes to images, texts or trays, or touches areas and values.
  * Nothing is promised where this is broken, and no call checks it. A call writes the workspace, the answer area and the four values, each only as
  * said below, and no other memory; it keeps nothing, so calls with different areas and values may run at the same time, also on the same images.
  *
@@ -24,7 +24,9 @@
 extern "C" {
 #endif
 
-#define BRAID_VERSION_MAJOR 1
+/* The minor number rises where calls, values or refusals are added, the major one where an image, a call or a value that was there has changed: since 1.0 tables have weights, and with them the
+ * images of tables and chains and their plain forms are others. */
+#define BRAID_VERSION_MAJOR 2
 #define BRAID_VERSION_MINOR 0
 
 /* A result must be looked at, and no pointer may be null; told to the compiler where it can be. */
@@ -43,6 +45,8 @@ enum {
     BRAID_MOST_MOVES = 4095,        /* moves of a program in an image or in plain form */
     BRAID_MOST_ENTRIES = 65535,     /* entries of a chain */
     BRAID_MOST_SET = 256,           /* words of the set that braid_compare_signed grows */
+    BRAID_MOST_LOGS = 64,           /* logs of a tray */
+    BRAID_LOG_BYTES = 3,            /* bytes of the answer for a log */
     BRAID_MOST_ALLOWANCE = 65535,   /* the largest allowance */
     BRAID_MOST_TABLE_BYTES = 1942,  /* the longest table image */
     BRAID_MOST_PLAIN_BYTES = 3857,  /* the longest plain table */
@@ -108,10 +112,12 @@ enum braid_result {
     BRAID_NOT_PATTERN = 19,
     BRAID_TOO_MANY_MOVES = 20,
     BRAID_SET_OPEN_PAIR = 21,
-    BRAID_SET_TOO_LARGE = 22
+    BRAID_SET_TOO_LARGE = 22,
+    BRAID_TOO_MANY_LOGS = 23,
+    BRAID_NOT_TRAY = 24
 };
 
-/* What values[0] means follows from call and result. An answer of compare, compare_signed or chain: */
+/* What values[0] means follows from call and result. An answer of compare, compare_signed or chain, and the first byte of the answer for a log of a tray that isn't refused: */
 enum braid_verdict { BRAID_SAME = 0, BRAID_DIFFERENT = 1 };
 
 /* An answer of remainder: */
@@ -150,7 +156,9 @@ static inline const char *braid_text(uint8_t result)
         "the text is no pattern",
         "the pattern means more than 4,095 moves",
         "growing the set met an open pair",
-        "the set would have more than 256 words"
+        "the set would have more than 256 words",
+        "the tray has more than 64 logs",
+        "the tray ends too early, or bytes follow it"
     };
     return result < sizeof texts / sizeof *texts && texts[result] ? texts[result] : "no result of this library";
 }
@@ -162,14 +170,15 @@ static inline const char *braid_text(uint8_t result)
  *   pattern, chain
  *   plain                                  a plain table or program (5.7, 5.8); only read
  *   text                                   a pattern as it is written (6.17); only read
+ *   tray                                   logs, each with its length before it (5.11); only read
  *   allowance                              the most steps of one reversing
- *   workspace                              a byte holds a move; what it holds on entry plays no part. After refusals 1 to 8 and 16 it is as found,
- *                                          after every other outcome all its bytes are zero
+ *   workspace                              a byte holds a move; what it holds on entry plays no part. After refusals 1 to 8, 16, 23 and 24 it is as
+ *                                          found, after every other outcome all its bytes are zero
  *   answer                                 begins with the answer's bytes after an answer; every other byte is as found, and so are all after a
  *                                          refusal, but for 13 of braid_ways
  *   values                                 all four are set by every call
  *
- * A larger allowance, workspace or answer area changes no outcome but 11, 12 and 13. A workspace of 32,768 bytes is usual.
+ * A larger allowance, workspace or answer area changes no outcome but 11, 12 and 13, and of the answer for a log no other than 11 and 12. A workspace of 32,768 bytes is usual.
  */
 
 /*
@@ -261,6 +270,17 @@ BRAID_CALL uint8_t braid_chain(const uint8_t *table, size_t table_length, const 
 BRAID_CALL uint8_t braid_remainder(const uint8_t *table, size_t table_length, const uint8_t *done, size_t done_length, const uint8_t *pattern,
                                    size_t pattern_length, uint16_t allowance, uint8_t *workspace, size_t workspace_length, uint8_t *answer,
                                    size_t answer_length, uint64_t *values);
+
+/*
+ * Compares up to BRAID_MOST_LOGS logs with one pattern, all programs of forward moves, and clears the table once for all of them (6.19). The tray is a byte with the number of logs, then for each
+ * log its image's length in two bytes, high byte first, and the image (5.11). Answer area: BRAID_LOG_BYTES bytes for each log, in the order of the tray: BRAID_SAME, BRAID_DIFFERENT or the number of
+ * a refusal of this log (4 to 7, 11, 12), then the steps in two bytes, high byte first, 0 after a refusal. They are what braid_compare says of this log as first and the pattern as second, with the
+ * same table, allowance and workspace length: a log that is refused changes the answer for no other, and the call is answered. 13 is judged after the clearing, before the first log.
+ * Values: logs, 0, 0, 0. Refusals: 23 (by the first byte alone), 24 (the tray ends early, or bytes follow it), 1 to 3, 4 to 7 (of the pattern), 8, then 9, 11 or 12 (with a triple), then 13.
+ */
+BRAID_CALL uint8_t braid_tray(const uint8_t *table, size_t table_length, const uint8_t *tray, size_t tray_length, const uint8_t *pattern,
+                              size_t pattern_length, uint16_t allowance, uint8_t *workspace, size_t workspace_length, uint8_t *answer,
+                              size_t answer_length, uint64_t *values);
 
 /*
  * Follows a given chain from the first program of forward moves; the table need not clear. The workspace holds the word on its way; one
