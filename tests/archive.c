@@ -1,6 +1,6 @@
 /*
  * What the header says of sizes and of stack, held against the library: each call runs on a stack of its own that is painted before, and the
- * longest forms are packed. Then texts of some megabytes are imported, whose time must be in proportion to their bytes. The last line is
+ * longest forms are packed, and the largest tray of logs that can be read is compared. Then texts of some megabytes are imported, whose time must be in proportion to their bytes. The last line is
  * 'N passed, M failed'.
  */
 #define _XOPEN_SOURCE 700
@@ -97,6 +97,10 @@ static void list(void)
 static void remains(void)
 {
     result = braid_remainder(table, table_length, program, program_length, answer, program_length, 65535, workspace, AREA, plain, AREA, values);
+}
+static void tray(void)
+{
+    result = braid_tray(table, table_length, text, text_length, program, program_length, 65535, workspace, AREA, answer, answer_length, values);
 }
 static void check(void)
 {
@@ -202,7 +206,7 @@ static void engine(void)
     hold("the moves of a table", braid_table_moves(table) == 3);
     hold("a move field's bits", braid_move_bits(1) == 0 && braid_move_bits(2) == 1 && braid_move_bits(9) == 4 && braid_move_bits(16) == 4);
     hold("the largest allowance", (uint16_t)BRAID_MOST_ALLOWANCE == BRAID_MOST_ALLOWANCE && (uint16_t)(BRAID_MOST_ALLOWANCE + 1) == 0);
-    hold("the last text", strcmp(braid_text(BRAID_SET_TOO_LARGE), "the set would have more than 256 words") == 0);
+    hold("the last text", strcmp(braid_text(BRAID_NOT_TRAY), "the tray ends too early, or bytes follow it") == 0 && strcmp(braid_text(BRAID_NOT_TRAY + 1), braid_text(200)) == 0);
     hold("texts", strcmp(braid_text(BRAID_OPEN_PAIR), "the reversing met an open pair") == 0 && strcmp(braid_text(14), braid_text(200)) == 0);
 }
 
@@ -267,6 +271,43 @@ static void long_listing(void)
     answer_length--;
     ways();
     hold("an area one byte too short for a listing", result == BRAID_ANSWER_SHORT && answer[0] == 0);
+}
+
+/* As many logs as a tray holds, each of the longest image, against the same program, under the heaviest braid table of 16 moves. */
+static void largest_tray(void)
+{
+    int i, same = 0;
+    fill_braid_table(BRAID_MOST_TABLE_MOVES);
+    pack_table();
+    table_length = (size_t)values[0];
+    memset(plain, BRAID_MOST_TABLE_MOVES, BRAID_MOST_MOVES);
+    plain_length = BRAID_MOST_MOVES;
+    pack_program();
+    program_length = (size_t)values[0];
+    text[0] = BRAID_MOST_LOGS;
+    for (text_length = 1, i = 0; i < BRAID_MOST_LOGS; i++) {
+        text[text_length] = (uint8_t)(program_length / 256);
+        text[text_length + 1] = (uint8_t)(program_length % 256);
+        memcpy(text + text_length + 2, program, program_length);
+        text_length += 2 + program_length;
+    }
+    memset(answer, PAINT, AREA);
+    answer_length = BRAID_MOST_LOGS * BRAID_LOG_BYTES;
+    answers("tray", tray);
+    for (i = 0; i < BRAID_MOST_LOGS; i++) {
+        const uint8_t *log = answer + i * BRAID_LOG_BYTES;
+        same += log[0] == BRAID_SAME && log[1] * 256 + log[2] == BRAID_MOST_MOVES;
+    }
+    hold("64 logs are the same after a step for each move", values[0] == BRAID_MOST_LOGS && same == BRAID_MOST_LOGS && answer[answer_length] == PAINT);
+    answer_length--;
+    tray();
+    hold("an area one byte too short for the answers", result == BRAID_ANSWER_SHORT);
+    text_length--;
+    tray();
+    hold("a tray one byte too short", result == BRAID_NOT_TRAY);
+    text[0]++;
+    tray();
+    hold("a log too many", result == BRAID_TOO_MANY_LOGS && values[0] == BRAID_NO_PLACE);
 }
 
 /* A text of one item again and again, with a space between, as often as it fits between a beginning and an end. */
@@ -371,6 +412,7 @@ int main(void)
     engine();
     longest_bed();
     long_listing();
+    largest_tray();
     long_texts();
     printf("%d passed, %d failed\n", passed, failed);
     return failed != 0;

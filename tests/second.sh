@@ -5,6 +5,6 @@ cd "$(dirname "$0")/.." || exit 1
 sh tests/library.sh || exit 1
 export CARGO_TARGET_DIR=target/second
 package=tests/second/Cargo.toml
-cargo test --release --offline --quiet --manifest-path $package --test sheet --test judged --test notation --test imported --test signed || exit 1
+cargo test --release --offline --quiet --manifest-path $package --test sheet --test judged --test notation --test imported --test signed --test tray || exit 1
 [ $# -gt 0 ] || set -- --calls 1000000
 cargo run --release --offline --quiet --manifest-path $package --bin soak -- "$@"

@@ -663,6 +663,96 @@ static void signed_comparing(void)
          nothing, 0);
 }
 
+/* Compares the logs of a tray with 2 1 2 under a table, with an allowance of 65,535, in an answer area of so many bytes. */
+static uint8_t compared_logs(const uint8_t *table, size_t table_length, const uint8_t *tray, size_t tray_length, size_t length)
+{
+    return braid_tray(table, table_length, tray, tray_length, ALL_OF(image_212), MOST_STEPS, ALL_OF(workspace), answer, length, values);
+}
+
+/* A tray that is none, or has too many logs, is refused before an empty table image is. */
+static void no_tray(const char *name, const uint8_t *tray, size_t tray_length, enum braid_result expected)
+{
+    hold(name, compared_logs(nothing, 0, tray, tray_length, AREA), expected, "0 0 0 0", 0, nothing, 0);
+}
+
+static void traying(void)
+{
+    /* 1 2 1 and 1 1 2; no logs; 1 2 1 alone. */
+    static const uint8_t two_logs[] = {0x02, 0x00, 0x03, 0x00, 0x30, 0x40, 0x00, 0x03, 0x00, 0x30, 0x08}, two_said[] = {0, 0, 5, 1, 0, 6};
+    static const uint8_t no_logs[] = {0x00}, one_log[] = {0x01, 0x00, 0x03, 0x00, 0x30, 0x40};
+    /* 1 2 1; an empty image; a field that is no move; a set bit behind 1 2 1; -1; 2 1 2. */
+    static const uint8_t faulty[] = {0x06, 0x00, 0x03, 0x00, 0x30, 0x40, 0x00, 0x00, 0x00, 0x02, 0x00, 0x36, 0x00,
+                                     0x03, 0x00, 0x30, 0x41, 0x00, 0x02, 0x00, 0x18, 0x00, 0x03, 0x00, 0x32, 0x08};
+    static const uint8_t faulty_said[] = {0, 0, 5, 4, 0, 0, 5, 0, 0, 6, 0, 0, 7, 0, 0, 0, 0, 3};
+    /* 2 1 2 3, 1 2 1 3, 1 1 2 3 and 1. */
+    static const uint8_t stopped[] = {0x04, 0x00, 0x03, 0x00, 0x42, 0x0A, 0x00, 0x03, 0x00, 0x40, 0x42, 0x00, 0x03, 0x00, 0x40, 0x0A, 0x00, 0x02, 0x00, 0x10};
+    static const uint8_t image_2123[] = {0x00, 0x42, 0x0A}, stopped_said[] = {0, 0, 4, 11, 0, 0, 12, 0, 0, 1, 0, 0};
+    /* Under n = 2: 2 and 1, and 1 again. */
+    static const uint8_t two_and_one[] = {0x02, 0x00, 0x02, 0x00, 0x14, 0x00, 0x02, 0x00, 0x10}, one[] = {0x00, 0x10}, open_said[] = {1, 0, 0, 0, 0, 1};
+    /* -1 under n = 3; a number of logs alone. */
+    static const uint8_t back[] = {0x00, 0x18}, one_more[] = {BRAID_MOST_LOGS + 1}, most[] = {BRAID_MOST_LOGS}, single[] = {0x01, 0x00};
+    static const uint8_t short_log[] = {0x01, 0x00, 0x04, 0x00, 0x30, 0x40}, behind[] = {0x01, 0x00, 0x03, 0x00, 0x30, 0x40, 0x00}, behind_none[] = {0x00, 0x00};
+    static const uint8_t many[] = {0xFF, 0x00}, steps_256[] = {0, 1, 0}, tail[] = {6, 0, 0};
+    static uint8_t full[1 + (BRAID_MOST_LOGS + 1) * 5], full_said[BRAID_MOST_LOGS * BRAID_LOG_BYTES], long_tray[3 + 34], long_pattern[34], longest[3 + 65535];
+    size_t i;
+    hold("1 2 1 is the same as 2 1 2, and 1 1 2 is not", compared_logs(ALL_OF(braid3), ALL_OF(two_logs), 6), BRAID_ANSWER, "2 0 0 0", AREA, ALL_OF(two_said));
+    hold("a longer area", compared_logs(ALL_OF(braid3), ALL_OF(two_logs), AREA), BRAID_ANSWER, "2 0 0 0", AREA, ALL_OF(two_said));
+    hold("5 bytes give 13", compared_logs(ALL_OF(braid3), ALL_OF(two_logs), 5), BRAID_ANSWER_SHORT, "0 0 0 0", AREA, nothing, 0);
+    hold("no logs", compared_logs(ALL_OF(braid3), ALL_OF(no_logs), 0), BRAID_ANSWER, "0 0 0 0", AREA, nothing, 0);
+    hold("no logs under a table that breaks the cube rule", compared_logs(ALL_OF(broken_cube), ALL_OF(no_logs), 0), BRAID_CUBE_FAILS, "2 1 2 3", AREA, nothing, 0);
+    hold("no logs under unequal weights",
+         braid_tray(ALL_OF(unequal), ALL_OF(no_logs), ALL_OF(empty_program), MOST_STEPS, ALL_OF(workspace), answer, 0, values), BRAID_UNEQUAL_WEIGHTS,
+         "1 1 2 0", 0, nothing, 0);
+    no_tray("the empty tray gives 24", nothing, 0, BRAID_NOT_TRAY);
+    for (i = 1; i < sizeof two_logs; i++) {
+        no_tray("a tray that ends early gives 24", two_logs, i, BRAID_NOT_TRAY);
+    }
+    no_tray("half a length gives 24", ALL_OF(single), BRAID_NOT_TRAY);
+    no_tray("a log that is too short gives 24", ALL_OF(short_log), BRAID_NOT_TRAY);
+    no_tray("a byte behind no logs gives 24", ALL_OF(behind_none), BRAID_NOT_TRAY);
+    no_tray("a byte behind a log gives 24", ALL_OF(behind), BRAID_NOT_TRAY);
+    no_tray("64 logs that are missing give 24", ALL_OF(most), BRAID_NOT_TRAY);
+    no_tray("65 that are missing give 23", ALL_OF(one_more), BRAID_TOO_MANY_LOGS);
+    no_tray("255 give it, too", ALL_OF(many), BRAID_TOO_MANY_LOGS);
+    hold("a whole tray under no table gives 1", compared_logs(nothing, 0, ALL_OF(two_logs), AREA), BRAID_TABLE_ENDS, "0 0 0 0", 0, nothing, 0);
+    for (i = 0; i <= BRAID_MOST_LOGS; i++) {
+        full[1 + 5 * i + 1] = sizeof image_212;
+        memcpy(full + 1 + 5 * i + 2, image_212, sizeof image_212);
+    }
+    for (i = 0; i < BRAID_MOST_LOGS; i++) {
+        full_said[BRAID_LOG_BYTES * i + 2] = 3;
+    }
+    full[0] = BRAID_MOST_LOGS;
+    hold("64 logs", compared_logs(ALL_OF(braid3), full, sizeof full - 5, sizeof full_said), BRAID_ANSWER, "64 0 0 0", AREA, ALL_OF(full_said));
+    hold("191 bytes give 13", compared_logs(ALL_OF(braid3), full, sizeof full - 5, sizeof full_said - 1), BRAID_ANSWER_SHORT, "0 0 0 0", AREA, nothing, 0);
+    full[0] = BRAID_MOST_LOGS + 1;
+    hold("65 logs give 23", compared_logs(ALL_OF(braid3), ALL_OF(full), AREA), BRAID_TOO_MANY_LOGS, "0 0 0 0", 0, nothing, 0);
+    hold("faulty logs between sound ones", compared_logs(ALL_OF(braid3), ALL_OF(faulty), AREA), BRAID_ANSWER, "6 0 0 0", AREA, ALL_OF(faulty_said));
+    hold("an area too short comes before faulty logs", compared_logs(ALL_OF(braid3), ALL_OF(faulty), 17), BRAID_ANSWER_SHORT, "0 0 0 0", AREA, nothing, 0);
+    hold("logs that are stopped", braid_tray(ALL_OF(braid3), ALL_OF(stopped), ALL_OF(image_2123), 5, workspace, 11, ALL_OF(answer), values), BRAID_ANSWER,
+         "4 0 0 0", 11, ALL_OF(stopped_said));
+    hold("a back move in the pattern gives 7", braid_tray(ALL_OF(braid3), ALL_OF(one_log), ALL_OF(back), MOST_STEPS, ALL_OF(workspace), ALL_OF(answer), values),
+         BRAID_BACK_MOVE, "0 0 0 0", 0, nothing, 0);
+    hold("an empty pattern gives 4", braid_tray(ALL_OF(braid3), ALL_OF(one_log), nothing, 0, MOST_STEPS, ALL_OF(workspace), ALL_OF(answer), values),
+         BRAID_IMAGE_ENDS, "0 0 0 0", 0, nothing, 0);
+    hold("allowance 4 gives 11 at a triple", braid_tray(ALL_OF(braid3), ALL_OF(one_log), ALL_OF(image_212), 4, ALL_OF(workspace), answer, 0, values),
+         BRAID_ALLOWANCE_USED, "2 1 2 3", AREA, nothing, 0);
+    hold("10 bytes give 12 at a triple", braid_tray(ALL_OF(braid3), ALL_OF(one_log), ALL_OF(image_212), MOST_STEPS, workspace, 10, answer, 0, values),
+         BRAID_WORKSPACE_SHORT, "2 1 2 3", 10, nothing, 0);
+    long_pattern[0] = 0x10;
+    long_tray[0] = 1;
+    long_tray[2] = sizeof long_pattern;
+    memcpy(long_tray + 3, long_pattern, sizeof long_pattern);
+    hold("256 steps", braid_tray(ALL_OF(one_move), ALL_OF(long_tray), ALL_OF(long_pattern), MOST_STEPS, ALL_OF(workspace), ALL_OF(answer), values),
+         BRAID_ANSWER, "1 0 0 0", AREA, ALL_OF(steps_256));
+    longest[0] = 1;
+    longest[1] = longest[2] = 0xFF;
+    hold("a log of 65,535 bytes", braid_tray(ALL_OF(one_move), ALL_OF(longest), ALL_OF(long_pattern), MOST_STEPS, ALL_OF(workspace), ALL_OF(answer), values),
+         BRAID_ANSWER, "1 0 0 0", AREA, ALL_OF(tail));
+    hold("different at an open pair, and the same", braid_tray(ALL_OF(open_pair), ALL_OF(two_and_one), ALL_OF(one), 1, workspace, 2, ALL_OF(answer), values),
+         BRAID_ANSWER, "2 0 0 0", 2, ALL_OF(open_said));
+}
+
 int main(void)
 {
     as_found();
@@ -681,6 +771,7 @@ int main(void)
     enquiring();
     importing();
     signed_comparing();
+    traying();
     printf("%d passed, %d failed\n", passed, failed);
     return failed != 0;
 }

@@ -5,6 +5,7 @@ mod enquiry;
 mod import;
 mod mirror;
 mod signed;
+mod tray;
 mod ways;
 
 use crate::chain::follow;
@@ -24,6 +25,7 @@ pub use import::Imported;
 pub use mirror::Mirrored;
 pub use signed::Signed;
 use std::collections::BTreeMap;
+pub use tray::Trayed;
 
 /// What comes of weights where lengths alone would say otherwise.
 #[derive(Clone, Copy, Debug, PartialEq, Eq, PartialOrd, Ord)]
@@ -123,6 +125,9 @@ pub struct Tally {
     pub imports: [usize; 2],
     pub imported: BTreeMap<Imported, usize>,
     pub signed: BTreeMap<Signed, usize>,
+    /// Answers for logs held against compare of the same log: verdicts, and refusals of the log.
+    pub logs: [usize; 2],
+    pub trayed: BTreeMap<Trayed, usize>,
 }
 
 impl Tally {
@@ -164,6 +169,12 @@ impl Tally {
         for (key, count) in &other.signed {
             *self.signed.entry(*key).or_default() += count;
         }
+        for (total, more) in self.logs.iter_mut().zip(other.logs) {
+            *total += more;
+        }
+        for (key, count) in &other.trayed {
+            *self.trayed.entry(*key).or_default() += count;
+        }
     }
 
     fn note(&mut self, what: Weighed, holds: bool) {
@@ -191,6 +202,7 @@ fn name(call: &Call) -> &'static str {
         Call::CompareSigned { .. } => "compare signed",
         Call::Chain { .. } => "chain",
         Call::Remainder { .. } => "remainder",
+        Call::Tray { .. } => "tray",
         Call::Check { .. } => "check",
         Call::PackTable { .. } => "pack table",
         Call::UnpackTable { .. } => "unpack table",
@@ -225,7 +237,7 @@ type Held<T> = Result<T, String>;
 /// Runs the case of a seed; the error has all that is needed to see it again.
 pub fn run(seed: u64, tally: &mut Tally) -> Held<()> {
     let mut case = Case { random: Random::new(seed), tally };
-    let held = match case.random.below(120) {
+    let held = match case.random.below(130) {
         0..=15 => case.reversing(),
         16..=23 => case.clearing(),
         24..=36 => case.comparing(),
@@ -238,6 +250,7 @@ pub fn run(seed: u64, tally: &mut Tally) -> Held<()> {
         94..=99 => case.enquiry(),
         100..=109 => case.import(),
         110..=119 => case.signed(),
+        120..=129 => case.tray(),
         _ => match case.random.below(16) {
             0..=1 => case.many_steps(),
             2..=3 => case.given_growth(),

@@ -118,6 +118,20 @@ extern "C" {
         answer_length: usize,
         values: *mut u64,
     ) -> u8;
+    fn braid_tray(
+        table: *const u8,
+        table_length: usize,
+        tray: *const u8,
+        tray_length: usize,
+        pattern: *const u8,
+        pattern_length: usize,
+        allowance: u16,
+        workspace: *mut u8,
+        workspace_length: usize,
+        answer: *mut u8,
+        answer_length: usize,
+        values: *mut u64,
+    ) -> u8;
     fn braid_check(
         table: *const u8,
         table_length: usize,
@@ -332,6 +346,25 @@ pub fn remainder(table: &[u8], done: &[u8], pattern: &[u8], allowance: u16, work
             table.len(),
             done.as_ptr(),
             done.len(),
+            pattern.as_ptr(),
+            pattern.len(),
+            allowance,
+            workspace.as_mut_ptr(),
+            workspace.len(),
+            answer.as_mut_ptr(),
+            answer.len(),
+            values,
+        )
+    })
+}
+
+pub fn tray(table: &[u8], tray: &[u8], pattern: &[u8], allowance: u16, workspace: &mut [u8], answer: &mut [u8]) -> Told {
+    told(|values| unsafe {
+        braid_tray(
+            table.as_ptr(),
+            table.len(),
+            tray.as_ptr(),
+            tray.len(),
             pattern.as_ptr(),
             pattern.len(),
             allowance,

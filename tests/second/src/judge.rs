@@ -6,6 +6,7 @@ use crate::outcome::{Listing, Passage, Place, Refusal, Remainder, Verdict};
 use crate::reversing::{Limits, Most};
 use crate::services;
 use crate::signed::Decision;
+use crate::tray::{self, LOG_BYTES};
 use crate::word::bytes;
 
 /// What a call must leave. The answer area begins with `written`; after 'same' a chain call's area begins instead with a chain of exactly as many
@@ -89,6 +90,8 @@ pub fn expected(call: &Call, workspace: usize, answer: usize, most: &mut Most) -
                 Remainder::None => Expected::answer([1, 0, steps as u64, 0], Vec::new()),
             })
         }
+        Call::Tray { table, tray, pattern, allowance } => tray::tray(table, tray, pattern, limits(allowance), answer, most)
+            .map(|answers| Expected::answer([(answers.len() / LOG_BYTES) as u64, 0, 0, 0], answers)),
         Call::Check { table, first, second, entries } => {
             services::check(table, first, second, entries, workspace, &mut most.bytes).map(|passage| {
                 let values = match passage {
@@ -149,7 +152,7 @@ pub fn judge(call: &Call, expected: &Expected, workspace: &[u8], answer: &[u8], 
     if (left.result, left.values) != (expected.result, expected.values) {
         return Err(format!("result {} {:?}, not {} {:?}", left.result, left.values, expected.result, expected.values));
     }
-    let kept = !has_workspace(call) || (1..=8).contains(&left.result) || left.result == 16;
+    let kept = !has_workspace(call) || matches!(left.result, 23 | 24) || (1..=8).contains(&left.result) || left.result == 16;
     let after = if kept { workspace.to_vec() } else { vec![0; workspace.len()] };
     if left.workspace != after {
         return Err(format!("the workspace is not {}", if kept { "as found" } else { "all zero" }));

@@ -23,4 +23,5 @@ pub mod services;
 pub mod signed;
 pub mod table;
 pub mod tables;
+pub mod tray;
 pub mod word;

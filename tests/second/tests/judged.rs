@@ -9,10 +9,16 @@ use second::services::check;
 use second::table::Table;
 use second::tables::mirror::clears_alone;
 use second::tables::{braid, doubled, growing};
+use second::tray::laid;
 
 fn signed(table: &Table, first: &[i8], second: &[i8], allowance: u16) -> Call {
     let [first, second] = [first, second].map(|word| program_image(table.moves, word));
     Call::CompareSigned { table: table_image(table), first, second, allowance }
+}
+
+fn tray(table: &[u8], logs: &[&[u8]], pattern: &[u8], allowance: u16) -> Call {
+    let logs: Vec<Vec<u8>> = logs.iter().map(|log| log.to_vec()).collect();
+    Call::Tray { table: table.to_vec(), tray: laid(&logs), pattern: pattern.to_vec(), allowance }
 }
 
 /// A call, and whether it is refused with the workspace as found.
@@ -75,6 +81,16 @@ fn calls() -> Vec<(Call, bool)> {
         (Call::Remainder { table: t.clone(), done: program_image(3, &[2]), pattern: f.clone(), allowance: 100 }, false),
         (Call::Remainder { table: t.clone(), done: f.clone(), pattern: program_image(3, &[2]), allowance: 100 }, false),
         (Call::Remainder { table: t.clone(), done: f.clone(), pattern: program.clone(), allowance: 100 }, true),
+        (tray(&t, &[&f, &s, &[]], &s, 100), false),
+        (tray(&t, &[&f, &program], &s, 5), false),
+        (tray(&t, &[], &s, 100), false),
+        (tray(&t, &[&f], &s, 4), false),
+        (tray(&t, &[&f[..]; 22], &s, 100), false),
+        (tray(&t, &[&f], &program, 100), true),
+        (tray(&[], &[&f], &s, 100), true),
+        (tray(&[0x10, 0x25, 0x0C], &[&f], &[0x00, 0x00], 100), true),
+        (tray(&t, &[&f[..]; 65], &s, 100), true),
+        (Call::Tray { table: t.clone(), tray: vec![0x01, 0x00], pattern: s.clone(), allowance: 100 }, true),
         (Call::Check { table: t.clone(), first: f, second: s, entries }, false),
         (Call::PackTable { plain: plain_table(&braid(3)) }, true),
         (Call::UnpackTable { table: t.clone() }, true),

@@ -13,6 +13,7 @@ use second::signed::Decision;
 use second::table::Table;
 use second::tables::mirror::clears_alone;
 use second::tables::{braid, doubled, growing, twins};
+use second::tray::{images, laid, tray};
 
 const WIDE: Limits = Limits { allowance: 65_535, workspace: 32_768 };
 
@@ -447,4 +448,51 @@ fn signed_comparisons() {
     assert_eq!(signed(&doubled().weighing(vec![1, 1]), &[], &[], 32_768), pair(8, 1, 2));
     assert_eq!(signed(&no_cube(), &[], &[], 32_768), pair(16, 2, 3));
     assert_eq!(signed(&clears_alone(), &[], &[], 32_768), Err(Refusal::at(17, Place::MirrorTriple(1, 3, 2))));
+}
+
+/// The answers for logs under a table against a pattern, with an allowance and areas of such lengths.
+fn answers(table: &Table, logs: &[Vec<u8>], pattern: &[i8], limits: Limits, area: usize) -> Result<Vec<u8>, Refusal> {
+    tray(&table_image(table), &laid(logs), &program_image(table.moves, pattern), limits, area, &mut Most::default())
+}
+
+#[test]
+fn trays() {
+    let logs = |words: &[&[i8]]| words.iter().map(|word| program_image(3, word)).collect::<Vec<_>>();
+    let two = logs(&[&[1, 2, 1], &[1, 1, 2]]);
+    assert_eq!(laid(&two), [0x02, 0x00, 0x03, 0x00, 0x30, 0x40, 0x00, 0x03, 0x00, 0x30, 0x08]);
+    assert_eq!(answers(&braid(3), &two, &[2, 1, 2], WIDE, 6), Ok(vec![0, 0, 5, 1, 0, 6]));
+    assert_eq!(answers(&braid(3), &two, &[2, 1, 2], WIDE, 5), Err(Refusal::plain(13)));
+    assert_eq!(answers(&braid(3), &[], &[2, 1, 2], WIDE, 0), Ok(vec![]));
+    assert_eq!(answers(&no_cube(), &[], &[2, 1, 2], WIDE, 0), Err(Refusal::at(9, Place::Triple(1, 2, 3))));
+    let unequal = doubled().weighing(vec![1, 1]);
+    assert_eq!(answers(&unequal, &[], &[], WIDE, 0), Err(Refusal::at(8, Place::Pair(1, 2))));
+    let refused = |number| Err(Refusal::plain(number));
+    let trays: [&[u8]; 8] =
+        [&[], &[2, 0, 3, 0x00, 0x30, 0x40], &[1], &[1, 0], &[1, 0, 4, 0x00, 0x30, 0x40], &[0, 0], &[1, 0, 3, 0x00, 0x30, 0x40, 0], &[64]];
+    for bytes in trays {
+        assert_eq!(images(bytes), refused(24));
+        assert_eq!(tray(&[], bytes, &[], WIDE, 0, &mut Most::default()), Err(Refusal::plain(24)));
+    }
+    for bytes in [&[65][..], &[255, 0]] {
+        assert_eq!(images(bytes), refused(23));
+        assert_eq!(tray(&[], bytes, &[], WIDE, 0, &mut Most::default()), Err(Refusal::plain(23)));
+    }
+    let pattern = program_image(3, &[2, 1, 2]);
+    assert_eq!(answers(&braid(3), &vec![pattern.clone(); 64], &[2, 1, 2], WIDE, 192), Ok([0, 0, 3].repeat(64)));
+    assert_eq!(answers(&braid(3), &vec![pattern.clone(); 65], &[2, 1, 2], WIDE, 200), Err(Refusal::plain(23)));
+    let faulty = [vec![0x00, 0x30, 0x40], vec![], vec![0x00, 0x36], vec![0x00, 0x30, 0x41], vec![0x00, 0x18], pattern];
+    let said = vec![0, 0, 5, 4, 0, 0, 5, 0, 0, 6, 0, 0, 7, 0, 0, 0, 0, 3];
+    assert_eq!(answers(&braid(3), &faulty, &[2, 1, 2], WIDE, 18), Ok(said));
+    let four = logs(&[&[2, 1, 2, 3], &[1, 2, 1, 3], &[1, 1, 2, 3], &[1]]);
+    let tight = Limits { allowance: 5, workspace: 11 };
+    assert_eq!(answers(&braid(3), &four, &[2, 1, 2, 3], tight, 12), Ok(vec![0, 0, 4, 11, 0, 0, 12, 0, 0, 1, 0, 0]));
+    assert_eq!(answers(&braid(3), &two, &[-1], WIDE, 6), Err(Refusal::plain(7)));
+    let at_triple = |number| Err(Refusal::at(number, Place::Triple(1, 2, 3)));
+    assert_eq!(answers(&braid(3), &two, &[2, 1, 2], Limits { allowance: 4, ..WIDE }, 0), at_triple(11));
+    assert_eq!(answers(&braid(3), &two, &[2, 1, 2], Limits { workspace: 10, ..WIDE }, 0), at_triple(12));
+    assert_eq!(answers(&braid(1), &[program_image(1, &[1; 256])], &[1; 256], WIDE, 3), Ok(vec![0, 1, 0]));
+    assert_eq!(answers(&braid(1), &[vec![0; 65_535]], &[1; 256], WIDE, 3), Ok(vec![6, 0, 0]));
+    let open = Table::light(2, vec![None]);
+    let least = Limits { allowance: 1, workspace: 2 };
+    assert_eq!(answers(&open, &[vec![0x00, 0x14], vec![0x00, 0x10]], &[1], least, 6), Ok(vec![1, 0, 0, 0, 0, 1]));
 }

@@ -3,7 +3,7 @@
 //!     soak [--calls N | --minutes M] [--seed S] [--case SEED]
 //!
 //! Cases are numbered from the seed on. A case that fails is printed with its number and bytes; `--case` runs that one again.
-use second::cases::{run, Enquired, Imported, Listed, Mirrored, Signed, Tally, Weighed};
+use second::cases::{run, Enquired, Imported, Listed, Mirrored, Signed, Tally, Trayed, Weighed};
 use std::process::ExitCode;
 use std::sync::atomic::{AtomicBool, AtomicU64, AtomicUsize, Ordering};
 use std::sync::Mutex;
@@ -56,6 +56,8 @@ fn met(tally: &Tally) -> Vec<String> {
     }
     want("compare signed", &[(0, 0), (0, 1), (1, 0), (2, 0), (3, 0), (4, 0), (5, 0), (6, 0), (8, 1), (9, 2), (16, 1), (17, 3)]);
     want("compare signed", &[(11, 0), (11, 2), (11, 3), (11, 4), (12, 0), (12, 2), (12, 3), (12, 4), (21, 1), (22, 0)]);
+    want("tray", &[(0, 0), (1, 0), (2, 0), (3, 0), (4, 0), (5, 0), (6, 0), (7, 0), (8, 1), (9, 2), (11, 2), (12, 2)]);
+    want("tray", &[(13, 0), (23, 0), (24, 0)]);
     want("chain", &[(13, 0)]);
     want("remainder", &[(13, 0)]);
     want("check", &[(0, 0), (0, 1), (0, 2), (1, 0), (2, 0), (3, 0), (4, 0), (5, 0), (6, 0), (7, 0), (12, 0)]);
@@ -102,6 +104,12 @@ fn met(tally: &Tally) -> Vec<String> {
     }
     for what in Signed::ALL.iter().filter(|what| !tally.signed.contains_key(what)) {
         missing.push(format!("programs of any signs never led to {what:?}"));
+    }
+    if tally.logs.contains(&0) {
+        missing.push("no verdict on a log, or no refusal of one, was held against compare".into());
+    }
+    for what in Trayed::ALL.iter().filter(|what| !tally.trayed.contains_key(what)) {
+        missing.push(format!("trays never led to {what:?}"));
     }
     missing
 }
@@ -167,6 +175,9 @@ fn main() -> ExitCode {
     for (what, count) in &tally.signed {
         println!("{what:?} {count}");
     }
+    for (what, count) in &tally.trayed {
+        println!("{what:?} {count}");
+    }
     for failure in &failures {
         println!("DIFFERENCE in {failure}");
     }
@@ -183,6 +194,7 @@ fn main() -> ExitCode {
     println!("left reversings read backward under the mirror: {answers} answers, {open} open pairs, {stops} stops");
     let [answers, open, stops, others] = tally.committed;
     println!("commits beside reverse: {answers} answers, {open} open pairs, {stops} stops, {others} with other numbers");
+    println!("logs of trays beside compare: {} verdicts, {} refusals", tally.logs[0], tally.logs[1]);
     println!("imports: {} beside their moves one by one, {} beside their undoing", tally.imports[0], tally.imports[1]);
     if failures.is_empty() && missing.is_empty() {
         ExitCode::SUCCESS

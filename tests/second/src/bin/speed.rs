@@ -12,7 +12,8 @@ use second::plain::plain_table;
 use second::random::Random;
 use second::reversing::{self, Ending, Limits, Most};
 use second::table::Table;
-use second::tables::{braid, forward_word};
+use second::tables::{braid, forward_word, walk};
+use second::tray::{laid, MOST_LOGS};
 use second::word::{bytes, undoing, Word};
 use second::{firmware, firmware::Told};
 use std::cell::Cell;
@@ -26,6 +27,8 @@ const SLICES: u32 = 40;
 const BESIDE_RUST: f64 = 1.25;
 /// A listing in an area of 32,768 bytes, and one that does not fit there, may take that many milliseconds.
 const LISTING: f64 = 500.0;
+/// A tray of 64 equal logs may take that many times the time of 64 single compares of that log.
+const TRAY: f64 = 0.2;
 /// A step's cost at 4,000 moves may be that many times the cost at 50.
 const FLAT: f64 = 1.3;
 
@@ -318,6 +321,54 @@ fn ways(measures: &mut Measures) -> bool {
     target("ways, 2,520 words in 22,680 bytes, milliseconds", whole, LISTING) & target("ways, refused with 13 in 32,768 bytes, milliseconds", refused, LISTING)
 }
 
+/// The times of a tray of 64 times this log, and of 64 single compares of it with the pattern, both by the firmware, in milliseconds. The two take turns, three
+/// turns of 20 rounds each, and the middle one counts. Each call reads its images and wipes the workspace of 32,768 bytes; that the tray says of each
+/// log what compare does is looked at before.
+fn tray_beside_compares(areas: &mut Areas, table: &Table, log: &[i8], pattern: &[i8]) -> [f64; 2] {
+    let (image, moves) = (table_image(table), pattern.len());
+    let [log, pattern] = [log, pattern].map(|word| program_image(table.moves, word));
+    let tray = laid(&vec![log.clone(); MOST_LOGS]);
+    let whole = |areas: &mut Areas| firmware::tray(&image, &tray, &pattern, 65_535, &mut areas.workspace, &mut areas.answer);
+    let single = |areas: &mut Areas| firmware::compare(&image, &log, &pattern, 65_535, &mut areas.workspace);
+    let (told, (result, [verdict, steps, ..])) = (whole(areas), single(areas));
+    let [high, low] = (steps as u16).to_be_bytes();
+    assert_eq!((told, result), ((0, [MOST_LOGS as u64, 0, 0, 0]), 0));
+    assert!(areas.answer.starts_with(&[verdict as u8, high, low].repeat(MOST_LOGS)));
+    let mut times = [[0.0; 3]; 2];
+    for turn in 0..3 {
+        let sides: [(&dyn Fn(&mut Areas) -> Told, usize); 2] = [(&whole, 1), (&single, MOST_LOGS)];
+        for (times, (call, calls)) in times.iter_mut().zip(sides) {
+            let begun = Instant::now();
+            for _ in 0..20 * calls {
+                black_box(call(areas));
+            }
+            times[turn] = begun.elapsed().as_secs_f64() * 1_000.0 / 20.0;
+        }
+    }
+    let middle = times.map(|mut times| {
+        times.sort_by(f64::total_cmp);
+        times[1]
+    });
+    println!("tray, {moves} moves, {steps} steps a log: {:.3} milliseconds, 64 compares {:.3}", middle[0], middle[1]);
+    middle
+}
+
+/// 64 equal logs of 100 moves under the braid table of 15, beside as many single compares. Two logs, both the same as the pattern: one after 100 random swaps, as of a
+/// machine that lays the pattern in another order, with few steps more than moves; and one with as many steps between as joined words of that length
+/// have, the dearest for the tray, since it saves the clearing alone.
+fn tray(measures: &mut Measures) -> bool {
+    let (mut random, table) = (Random::new(15), braid(15));
+    let pattern = forward_word(&mut random, table.moves, 100);
+    let (_, swapped) = walk(&mut random, &table, &pattern, 100);
+    let [far, other] = joined(&mut random, &table, 100);
+    let mut met = true;
+    for (name, log, pattern) in [("after 100 swaps", &swapped, &pattern), ("far from it", &far, &other)] {
+        let [tray, compares] = tray_beside_compares(&mut measures.areas, &table, log, pattern);
+        met &= target(&format!("tray, 64 equal logs of the pattern {name}, beside 64 compares"), tray / compares, TRAY);
+    }
+    met
+}
+
 fn main() -> ExitCode {
     let (mut milliseconds, mut steps, mut words) = (1_000, 100_000, usize::MAX);
     let mut arguments = std::env::args().skip(1);
@@ -354,6 +405,7 @@ fn main() -> ExitCode {
         met &= target(&format!("{name}, a step at 4,000 moves beside one at 50"), flat, FLAT);
     }
     met &= ways(&mut measures);
+    met &= tray(&mut measures);
     if met {
         ExitCode::SUCCESS
     } else {
