@@ -47,7 +47,7 @@ module _ (n d k r : ℕ) where
     judged-same z = only-under ∙ ap (λ t. cond t (Same k r) (Different k)) (eq-eqb d 0 z)
 
 -- what is judged of each ending: a verdict `same` is that of an empty word, and any other is `different` or a stop
-pub judgement-states : (e : Ending) → compared (judgement (endingAnswer e)) ≡ verdictOf e
+judgement-states : (e : Ending) → compared (judgement (endingAnswer e)) ≡ verdictOf e
 judgement-states (finished [] [] k r) = refl
 judgement-states (finished [] (x ∷ d) k r) = ap compared (judged-under 0 (suc (length d)) k r refl (λ e. omega arith))
 judgement-states (finished (x ∷ n) d k r) = ap compared (judged-over (suc (length n)) (length d) k r (λ e. omega arith))

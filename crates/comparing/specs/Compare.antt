@@ -2,7 +2,7 @@
 use mathlib.Core.List.{List, [], _++_}
 use mathlib.Core.Bool.{cond}
 use mathlib.Core.Path.{_≡_}
-use Prim.Native.Nat.{ℕ, _-_}
+use Prim.Native.Nat.{ℕ}
 use lib.Dec.{eqb}
 use lib.ListN.{length}
 use Rattle.model.specs.Word.{Positive, positive, negative}

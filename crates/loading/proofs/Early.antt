@@ -23,9 +23,10 @@ abbrev pub Early : {A : Type 0} → ℕ → Outcome A → Type 0
 Early k (answered x) = Unit {0}
 Early k (refused n ps) = n ≤ k
 
-then : {A B : Type 0} (k : ℕ) (o : Outcome A) (f : A → Outcome B) → Early k o → ((x : A) → Early k (f x)) → Early k (o >>= f)
-then k (answered x) f e g = g x
-then k (refused n ps) f e g = e
+-- one reading and another after it
+pub early-then : {A B : Type 0} (k : ℕ) (o : Outcome A) (f : A → Outcome B) → Early k o → ((x : A) → Early k (f x)) → Early k (o >>= f)
+early-then k (answered x) f e g = g x
+early-then k (refused n ps) f e g = e
 
 test : {A : Type 0} (k : ℕ) (t : Bool) (n : ℕ) (x : A) → n ≤ k → Early k (unless t n x)
 test k true n x h = h
@@ -46,82 +47,83 @@ module _ (k : ℕ) where
 
   letter-early : (early wrong n : ℕ) (bits : List ℕ) → early ≤ k → wrong ≤ k → Early k (letterField early wrong n bits)
   letter-early early wrong n bits h i =
-      then k (field early (letterWidth n) bits) (λ r. unless (leb n (r .value)) wrong (record { value = r .value + 1; rest = r .rest }))
+      early-then k (field early (letterWidth n) bits) (λ r. unless (leb n (r .value)) wrong (record { value = r .value + 1; rest = r .rest }))
       (field-early early (letterWidth n) bits h)
       (λ r. test k (leb n (r .value)) wrong (record { value = r .value + 1; rest = r .rest }) i)
 
   several-early : {A : Type 0} (reader : List ℕ → Outcome (Read A)) → ((bits : List ℕ) → Early k (reader bits)) → (j : ℕ) (bits : List ℕ) → Early k (several reader j bits)
   several-early reader h zero bits = tt
   several-early reader h (suc j) bits =
-      then k (reader bits) _ (h bits) (λ r. then k (several reader j (r .rest)) _ (several-early reader h j (r .rest)) (λ rs. tt))
+      early-then k (reader bits) _ (h bits) (λ r. early-then k (several reader j (r .rest)) _ (several-early reader h j (r .rest)) (λ rs. tt))
 
   rows-early : {A : Type 0} (reader : List ℕ → Outcome (Read A)) → ((bits : List ℕ) → Early k (reader bits)) → (j : ℕ) (bits : List ℕ) → Early k (rowsOf reader j bits)
   rows-early reader h zero bits = tt
   rows-early reader h (suc j) bits =
-      then k (several reader j bits) _ (several-early reader h j bits) (λ r. then k (rowsOf reader j (r .rest)) _ (rows-early reader h j (r .rest)) (λ rs. tt))
+      early-then k (several reader j bits) _ (several-early reader h j bits) (λ r. early-then k (rowsOf reader j (r .rest)) _ (rows-early reader h j (r .rest)) (λ rs. tt))
 
 word-early : (n : ℕ) (bits : List ℕ) → Early 3 (wordField n bits)
 word-early n bits =
-    then 3 (field 1 4 bits) _ (field-early 3 1 4 bits (omega arith))
+    early-then 3 (field 1 4 bits) _ (field-early 3 1 4 bits (omega arith))
     (λ c. several-early 3 (letterField 1 2 n) (λ b. letter-early 3 1 2 n b (omega arith) (omega arith)) (c .value) (c .rest))
 
 pair-early : (n : ℕ) (bits : List ℕ) → Early 3 (pairField n bits)
 pair-early n bits =
-    then 3 (field 1 1 bits) _ (field-early 3 1 1 bits (omega arith))
+    early-then 3 (field 1 1 bits) _ (field-early 3 1 1 bits (omega arith))
     (λ b. choice 3 (eqb (b .value) 0) _ (definedField n (b .rest)) tt
-    (then 3 (wordField n (b .rest)) _ (word-early n (b .rest)) (λ x. then 3 (wordField n (x .rest)) _ (word-early n (x .rest)) (λ y. tt))))
+    (early-then 3 (wordField n (b .rest)) _ (word-early n (b .rest)) (λ x. early-then 3 (wordField n (x .rest)) _ (word-early n (x .rest)) (λ y. tt))))
 
 pub table-early : (bytes : List ℕ) → Early 3 (readTable bytes)
 unfolding readTable
 table-early bytes =
-    then 3 (field 1 4 (bitsOf bytes)) _ (field-early 3 1 4 (bitsOf bytes) (omega arith))
-    (λ h. then 3 (several (field 1 weightWidth) (h .value + 1) (h .rest)) _
+    early-then 3 (field 1 4 (bitsOf bytes)) _ (field-early 3 1 4 (bitsOf bytes) (omega arith))
+    (λ h. early-then 3 (several (field 1 weightWidth) (h .value + 1) (h .rest)) _
     (several-early 3 (field 1 weightWidth) (λ b. field-early 3 1 weightWidth b (omega arith)) (h .value + 1) (h .rest))
-    (λ ws. then 3 (rowsOf (pairField (h .value + 1)) (h .value + 1) (ws .rest)) _
+    (λ ws. early-then 3 (rowsOf (pairField (h .value + 1)) (h .value + 1) (ws .rest)) _
     (rows-early 3 (pairField (h .value + 1)) (pair-early (h .value + 1)) (h .value + 1) (ws .rest))
     (λ rs. finish-early 3 3 (record { value = record { size = h .value + 1; excess = ws .value; rows = rs .value }; rest = rs .rest }) (omega arith))))
 
 signed-early : (n : ℕ) (bits : List ℕ) → Early 6 (signedField n bits)
 signed-early n bits =
-    then 6 (field 4 1 bits) _ (field-early 6 4 1 bits (omega arith))
-    (λ s. then 6 (letterField 4 5 n (s .rest)) _ (letter-early 6 4 5 n (s .rest) (omega arith) (omega arith)) (λ a. tt))
+    early-then 6 (field 4 1 bits) _ (field-early 6 4 1 bits (omega arith))
+    (λ s. early-then 6 (letterField 4 5 n (s .rest)) _ (letter-early 6 4 5 n (s .rest) (omega arith) (omega arith)) (λ a. tt))
 
 pub program-early : (n : ℕ) (bytes : List ℕ) → Early 6 (readProgram n bytes)
 unfolding readProgram
 program-early n bytes =
-    then 6 (field 4 12 (bitsOf bytes)) _ (field-early 6 4 12 (bitsOf bytes) (omega arith))
-    (λ c. then 6 (several (signedField n) (c .value) (c .rest)) _ (several-early 6 (signedField n) (signed-early n) (c .value) (c .rest))
+    early-then 6 (field 4 12 (bitsOf bytes)) _ (field-early 6 4 12 (bitsOf bytes) (omega arith))
+    (λ c. early-then 6 (several (signedField n) (c .value) (c .rest)) _ (several-early 6 (signedField n) (signed-early n) (c .value) (c .rest))
     (λ w. finish-early 6 6 w (omega arith)))
 
 entry-early : (n : ℕ) (bits : List ℕ) → Early 6 (entryField n bits)
 entry-early n bits =
-    then 6 (field 4 offsetWidth bits) _ (field-early 6 4 offsetWidth bits (omega arith))
-    (λ o. then 6 (letterField 4 5 n (o .rest)) _ (letter-early 6 4 5 n (o .rest) (omega arith) (omega arith))
-    (λ a. then 6 (letterField 4 5 n (a .rest)) _ (letter-early 6 4 5 n (a .rest) (omega arith) (omega arith)) (λ b. tt)))
+    early-then 6 (field 4 offsetWidth bits) _ (field-early 6 4 offsetWidth bits (omega arith))
+    (λ o. early-then 6 (letterField 4 5 n (o .rest)) _ (letter-early 6 4 5 n (o .rest) (omega arith) (omega arith))
+    (λ a. early-then 6 (letterField 4 5 n (a .rest)) _ (letter-early 6 4 5 n (a .rest) (omega arith) (omega arith)) (λ b. tt)))
 
 pub chain-early : (n : ℕ) (bytes : List ℕ) → Early 6 (readChain n bytes)
 unfolding readChain
 chain-early n bytes =
-    then 6 (field 4 16 (bitsOf bytes)) _ (field-early 6 4 16 (bitsOf bytes) (omega arith))
-    (λ c. then 6 (several (entryField n) (c .value) (c .rest)) _ (several-early 6 (entryField n) (entry-early n) (c .value) (c .rest))
+    early-then 6 (field 4 16 (bitsOf bytes)) _ (field-early 6 4 16 (bitsOf bytes) (omega arith))
+    (λ c. early-then 6 (several (entryField n) (c .value) (c .rest)) _ (several-early 6 (entryField n) (entry-early n) (c .value) (c .rest))
     (λ es. finish-early 6 6 es (omega arith)))
 
-wider : {A : Type 0} (j k : ℕ) (o : Outcome A) → j ≤ k → Early j o → Early k o
+-- a bound that is larger
+pub wider : {A : Type 0} (j k : ℕ) (o : Outcome A) → j ≤ k → Early j o → Early k o
 wider j k (answered x) h e = tt
 wider j k (refused n ps) h e = omega arith
 
 pub forward-early : (n : ℕ) (bytes : List ℕ) → Early 7 (readForward n bytes)
 unfolding readForward
 forward-early n bytes =
-    then 7 (readProgram n bytes) _ (wider 6 7 (readProgram n bytes) (omega arith) (program-early n bytes))
+    early-then 7 (readProgram n bytes) _ (wider 6 7 (readProgram n bytes) (omega arith) (program-early n bytes))
     (λ w. test 7 (not (isForward w)) 7 (forwards w) (omega arith))
 
 pub images-early : (table first second : List ℕ) → Early 7 (readPrograms table first second)
 unfolding readPrograms
 images-early table first second =
-    then 7 (readTable table) _ (wider 3 7 (readTable table) (omega arith) (table-early table))
-    (λ T. then 7 (readForward (T .size) first) _ (forward-early (T .size) first)
-    (λ u. then 7 (readForward (T .size) second) _ (forward-early (T .size) second) (λ v. tt)))
+    early-then 7 (readTable table) _ (wider 3 7 (readTable table) (omega arith) (table-early table))
+    (λ T. early-then 7 (readForward (T .size) first) _ (forward-early (T .size) first)
+    (λ u. early-then 7 (readForward (T .size) second) _ (forward-early (T .size) second) (λ v. tt)))
 
 -- an early refusal leaves the workspace as found
 pub refusal-workspace : {A : Type 0} (B : Type 0) (r : Refusal) (o : Outcome A) (k : ℕ) → o ≡ refusal r → Early k o → k ≤ 8 → (area : List ℕ)

@@ -13,8 +13,8 @@ use Rattle.model.specs.Stated.{refusal}
 use Rattle.model.specs.declared.answers.Refusal.{Refusal}
 use Rattle.images.specs.Programs.{ProgramOf, ForwardOf}
 use Rattle.images.specs.Tables.{Loaded, TableOf}
-use Rattle.loading.specs.Loading.{TableWord, readTableProgram, ProgramLoaded, Images, readPrograms, ProgramsLoaded}
-use Rattle.loading.proofs.Early.{Early, table-early, program-early, images-early}
+use Rattle.loading.specs.Loading.{readTableProgram, ProgramLoaded, Images, readPrograms, ProgramsLoaded}
+use Rattle.loading.proofs.Early.{Early, early-then, wider, table-early, program-early, images-early}
 use Rattle.loading.proofs.Outcomes.{AsFound, still-refused, goes-on, reading-refused}
 
 -- a reading of two parts, and then the rest
@@ -51,15 +51,9 @@ module _ (table program : List ℕ) where
 
   table-program-early : Early 6 (readTableProgram table program)
   unfolding readTableProgram
-  table-program-early = from (readTable table) (table-early table)
-    where
-      after : {A B : Type 0} (o : Outcome A) (x : A → B) → Early 6 o → Early 6 (o >>= λ w. answered (x w))
-      after (answered w) x e = tt
-      after (refused n place) x e = e
-
-      from : (o : Outcome Presentation) → Early 3 o → Early {A = TableWord} 6 (o >>= λ T. readProgram (T .size) program >>= λ w. answered (record { table = T; word = w }))
-      from (answered T) e = after {B = TableWord} (readProgram (T .size) program) (λ w. record { table = T; word = w }) (program-early (T .size) program)
-      from (refused n place) e = omega (arith, e)
+  table-program-early =
+      early-then 6 (readTable table) _ (wider 3 6 (readTable table) (omega arith) (table-early table))
+      (λ T. early-then 6 (readProgram (T .size) program) _ (program-early (T .size) program) (λ w. tt))
 
   -- a service that reads the two images, and then has only the rest to do
   module _ {A : Type 0} (rest : Presentation → Word → Outcome A) where

@@ -2,7 +2,7 @@
 use mathlib.Core.Path.{_≡_, refl, sym, ap, subst, _∙_}
 use mathlib.Core.List.{List, [], _∷_, _++_}
 use mathlib.Core.Bool.{Bool, true, false, cond}
-use Prim.Native.Nat.{ℕ, _+_, _≤_}
+use Prim.Native.Nat.{ℕ, _+_}
 use native.Mathlib.Omega.{arith}
 use lib.Dec.{eqb}
 use lib.ListN.{length, replicate}
@@ -32,7 +32,7 @@ use Rattle.images.proofs.RoundTrip.{table-in-range, program-in-range}
 use Rattle.engine.specs.Run.{LeavesLetters, Reverses}
 use Rattle.engine.proofs.Ended.{done, finishable, met, halted, stop-numbered}
 use Rattle.cells.specs.Stands.{Stands}
-use Rattle.loading.proofs.Early.{Early, table-early, program-early}
+use Rattle.loading.proofs.Early.{Early, table-early, program-early, early-then, wider}
 use Rattle.loading.proofs.Outcomes.{AsFound, still-refused, goes-on, reading-refused}
 use Rattle.signed_comparing.specs.Running.{SignedImages, readSigned}
 use Rattle.signed_comparing.specs.Preparing.{prepared}
@@ -128,20 +128,11 @@ module _ (T : Presentation) (w v : Word) (steps width : ℕ) where
 
 -- THE SERVICE
 
--- a reading that refuses early, and another after it
-early-then : {A B : Type 0} (k : ℕ) (o : Outcome A) (f : A → Outcome B) → Early k o → ((x : A) → Early k (f x)) → Early k (o >>= f)
-early-then k (answered x) f e g = g x
-early-then k (refused n place) f e g = e
-
-earlier : {A : Type 0} (j k : ℕ) (o : Outcome A) → j ≤ k → Early j o → Early k o
-earlier j k (answered x) h e = tt
-earlier j k (refused n place) h e = omega (arith, h, e)
-
 module _ (table first second : List ℕ) where
   read-early : Early 6 (readSigned table first second)
   unfolding readSigned
   read-early =
-      early-then 6 (readTable table) _ (earlier 3 6 (readTable table) (omega arith) (table-early table))
+      early-then 6 (readTable table) _ (wider 3 6 (readTable table) (omega arith) (table-early table))
       (λ T. early-then 6 (readProgram (T .size) first) _ (program-early (T .size) first) (λ w. early-then 6 (readProgram (T .size) second) _ (program-early (T .size) second) (λ v. tt)))
 
   module _ (steps width : ℕ) where
