@@ -13,7 +13,7 @@ use model::answers::Remaining;
 use model::answers::Reversed;
 use model::answers::TrayCompared;
 use model::answers::Ways;
-use model::refusals::refusal_numbers;
+use numbering::refusals::refusal_numbers;
 
 pub struct Numbers {
     pub code: u8,

@@ -18,4 +18,3 @@ pub mod Notation
 pub mod Signed
 pub mod Tray
 pub mod Stated
-pub mod Refusals

@@ -6,7 +6,7 @@ ghost use Rattle.text.specs.Text.{outcomeText};
 ghost use Rattle.text.specs.Put.{Put};
 use crate::lines::put_numbers_line;
 use model::answers::Refusal;
-use model::refusals::refusal_numbers;
+use numbering::refusals::refusal_numbers;
 
 pub fn put_refusal(out: &mut [u8], refused: Refusal) -> usize
     requires { ⌜ 32 ≤ length (now out) ⌝ }

@@ -11,8 +11,8 @@ use Rattle.model.specs.Images.{several}
 use Rattle.model.specs.Services.{Verdict, same-after, different-after}
 use Rattle.model.specs.Areas.{written}
 use Rattle.model.specs.Tray.{readLog, logBytes, trayBytes}
-use Rattle.model.specs.Refusals.{numbersTold, RefusalTold}
-use Rattle.model.specs.declared.refusals.RefusalNumbers.{RefusalNumbers}
+use Rattle.numbering.specs.Refusals.{numbersTold, RefusalTold}
+use Rattle.numbering.specs.declared.refusals.RefusalNumbers.{RefusalNumbers}
 use Rattle.bits.proofs.Appending.{written-more}
 use Rattle.images.proofs.Plainly.{wrote-byte}
 use Rattle.model.proofs.Impossible.{answer-of, same-answer}

@@ -7,7 +7,7 @@ ghost use Rattle.model.specs.Areas.{written};
 ghost use Rattle.model.specs.Stated.{compared};
 ghost use Rattle.model.specs.Tray.{logBytes};
 use model::answers::Compared;
-use model::refusals::refusal_numbers;
+use numbering::refusals::refusal_numbers;
 
 // The bytes of a log's answer.
 pub const LOG_BYTES: usize = 3;

@@ -5,7 +5,7 @@ use Prim.Native.Nat.{_≤_}
 use native.Mathlib.Omega.{arith}
 use lib.ListN.{length, take}
 use lib.Seq.{length-take-le}
-use Rattle.model.specs.declared.refusals.RefusalNumbers.{RefusalNumbers}
+use Rattle.numbering.specs.declared.refusals.RefusalNumbers.{RefusalNumbers}
 use Rattle.text.specs.Text.{line, refusedLabel, numbersText}
 use Rattle.text.proofs.Putting.{put-as}
 use borrow.Author.Needs.{needs}

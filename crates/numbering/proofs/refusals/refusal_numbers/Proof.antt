@@ -1,7 +1,7 @@
--- `model::refusals::refusal_numbers` meets its contract.
+-- `numbering::refusals::refusal_numbers` meets its contract.
 use borrow.Author.Needs.{needs}
-use Rattle.model.proofs.refusals.refusal_numbers.Statement.{statement}
-use Rattle.model.proofs.refusals.refusal_numbers.Tie as tie
+use Rattle.numbering.proofs.refusals.refusal_numbers.Statement.{statement}
+use Rattle.numbering.proofs.refusals.refusal_numbers.Tie as tie
 
 -- for each arm what it knows of the refusal and what its call asks; then, in the same order, what each arm gives
 pub refusal-numbers-spec : {M : Type 1} → statement M

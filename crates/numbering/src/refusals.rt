@@ -1,11 +1,11 @@
 // A refusal in numbers, as the bench reader and C are told it.
 ghost use Rattle.model.specs.Outcome.{unplaced, pair-of, triple-of, mirror-triple-of, the-set};
 ghost use Rattle.model.specs.Stated.{numbered, placed};
-ghost use Rattle.model.specs.Refusals.{RefusalTold};
-use crate::answers::Pair;
-use crate::answers::Place;
-use crate::answers::Refusal;
-use crate::answers::Triple;
+ghost use Rattle.numbering.specs.Refusals.{RefusalTold};
+use model::answers::Pair;
+use model::answers::Place;
+use model::answers::Refusal;
+use model::answers::Triple;
 
 // `place` is what the place is: 0 none or the programs, 1 a pair, 2 a triple of the table, 3 a triple of the mirror, 4 the set. `count` of `number`, `a`, `b` and `c` are the numbers to tell; the
 // others are 0.

@@ -1,7 +1,7 @@
--- `model::refusals::with_place` meets its contract.
+-- `numbering::refusals::with_place` meets its contract.
 use borrow.Author.Needs.{needs}
-use Rattle.model.proofs.refusals.with_place.Statement.{statement}
-use Rattle.model.proofs.refusals.with_place.Tie as tie
+use Rattle.numbering.proofs.refusals.with_place.Statement.{statement}
+use Rattle.numbering.proofs.refusals.with_place.Tie as tie
 
 -- for each arm what it knows of the place and what its call asks; then what each arm gives
 pub with-place-spec : {M : Type 1} → statement M

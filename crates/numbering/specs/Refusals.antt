@@ -3,8 +3,8 @@ use mathlib.Core.List.{[], _∷_}
 use mathlib.Core.Path.{_≡_}
 use Prim.Native.Nat.{ℕ, _≤_}
 use lib.ListN.{take}
 use Rattle.model.specs.Outcome.{Place, unplaced, pair-of, triple-of, mirror-triple-of, the-set, placeNumbers}
-use Rattle.model.specs.declared.refusals.RefusalNumbers.{RefusalNumbers}
+use Rattle.numbering.specs.declared.refusals.RefusalNumbers.{RefusalNumbers}
 
 -- 8.3: what the place is (0 none or the programs, 1 a pair, 2 a triple of the table, 3 a triple of the mirror, 4 the set), its numbers, and how many
 -- numbers there are with the refusal's own
