@@ -5,7 +5,7 @@ use mathlib.Core.Bool.{Bool, true, false, cond}
 use mathlib.Core.Option.{Option, none, some}
 use Prim.Native.Nat.{ℕ, suc, _+_, _-_, _≤_, _<_}
 use native.Mathlib.Omega.{arith}
-use borrow.Author.Tests.{lt-ltb, le-ltb}
+use borrow.Author.Tests.{lt-ltb}
 use lib.Dec.{ltb}
 use lib.ListN.{length, take, drop, replicate, length-append, length-take, length-drop}
 use lib.Seq.{drop-length}
@@ -23,7 +23,7 @@ use Rattle.model.proofs.Impossible.{answer-of}
 use Rattle.model.proofs.Words.{plain-positive}
 use Rattle.theory.specs.Passages.{Passes, arrives, broken, elsewhere, starts-long, grows-long}
 use Rattle.model.proofs.Impossible.{impossible}
-use Rattle.theory.proofs.Passages.{passage-exactly}
+use Rattle.theory.proofs.Passages.{passage-exactly, passage-fits}
 use Rattle.images.specs.Programs.{ForwardOf}
 use Rattle.swaps.specs.Held.{heldAt, Placed, Carried}
 use Rattle.swaps.proofs.Applying.{held-length}
@@ -93,13 +93,10 @@ module _ (T : Presentation) (width : ℕ) where
     pub passage-long : width < length u → passage T width u es v ≡ refused 12 unplaced
     passage-long h = ap (λ t. cond t (refused 12 unplaced) (followed T width 0 u es v)) (lt-ltb width (length u) h)
 
-    pub passage-fits : length u ≤ width → passage T width u es v ≡ followed T width 0 u es v
-    passage-fits h = ap (λ t. cond t (refused 12 unplaced) (followed T width 0 u es v)) (le-ltb width (length u) h)
-
     -- from the first program as it is loaded
     pub passed : (unpacked : List ℕ) (right : ℕ) → length unpacked ≡ width → heldAt unpacked 0 right ≡ u → length u ≤ width
         → passage T width u es v ≡ followed T (length unpacked) 0 (heldAt unpacked 0 right) es v
-    passed unpacked right l held h = passage-fits h ∙ ap₂ (λ w x. followed T w 0 x es v) (sym l) (sym held)
+    passed unpacked right l held h = passage-fits T width u es v h ∙ ap₂ (λ w x. followed T w 0 x es v) (sym l) (sym held)
 
 -- THE SERVICE
 

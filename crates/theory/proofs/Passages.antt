@@ -80,13 +80,13 @@ module _ (T : Presentation) (width : ℕ) where
       ∙ (past before (suc k) next w (l .0 .2, l .1 .1) rest v ∙ ap (λ i. followed T width i w rest v) (omega arith)))
 
   module _ (u : Positive) (es : List Entry) (v : Positive) where
-    starts : length u ≤ width → passage T width u es v ≡ followed T width 0 u es v
-    starts h = ap (λ t. cond t (refused 12 unplaced) (followed T width 0 u es v)) (le-ltb width (length u) h)
+    pub passage-fits : length u ≤ width → passage T width u es v ≡ followed T width 0 u es v
+    passage-fits h = ap (λ t. cond t (refused 12 unplaced) (followed T width 0 u es v)) (le-ltb width (length u) h)
 
     goes : (before rest : List Entry) (w : Positive) → es ≡ before ++ rest → LeadsWithin T width u before w
         → passage T width u es v ≡ followed T width (length before) w rest v
     goes before rest w p l =
-        starts (first-fits u before w l)
+        passage-fits (first-fits u before w l)
         ∙ (ap (λ x. followed T width 0 u x v) p ∙ (past before 0 u w l rest v ∙ ap (λ i. followed T width i w rest v) (omega arith)))
 
     to-end : (w : Positive) (t : Bool) → LeadsWithin T width u es w → equal w v ≡ t → passage T width u es v ≡ answered (cond t joins ends-elsewhere)

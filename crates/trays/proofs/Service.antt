@@ -197,11 +197,11 @@ answer-of-log f earlier later log area =
     ∙ (ap (take 3) (append-assoc L R D) ∙ take-at L (R ++ D) 3 (log-bytes-long (f log)))))
 
 -- a tray that is answered has a pattern that was read, and its verdicts
-pub record Answers (table logs pattern : List ℕ) (steps width area : ℕ) (images : List (List ℕ)) (T : Presentation) (vs : List (Outcome Verdict)) : Type 0 where
-  pub word : Positive
-  pub pattern-read : readForward (T .size) pattern ≡ answered word
-  pub clear : cleared T steps width ≡ answered tt
-  pub verdicts-are : vs ≡ map (logVerdict (T .size) T word steps width) images
+record AnswerShows (pattern : List ℕ) (steps width : ℕ) (images : List (List ℕ)) (T : Presentation) (vs : List (Outcome Verdict)) : Type 0 where
+  word : Positive
+  pattern-read : readForward (T .size) pattern ≡ answered word
+  clear : cleared T steps width ≡ answered tt
+  verdicts-are : vs ≡ map (logVerdict (T .size) T word steps width) images
 
 module _ (table logs pattern : List ℕ) (steps width area : ℕ) (vs : List (Outcome Verdict)) (e : tray table logs pattern steps width area ≡ answered vs)
     (images : List (List ℕ)) (tray-read : readTray logs ≡ answered images) (T : Presentation) (table-read : readTable table ≡ answered T) where
@@ -211,8 +211,8 @@ module _ (table logs pattern : List ℕ) (steps width area : ℕ) (vs : List (Ou
       answer-of (readForward (T .size) pattern) (λ v. cleared T steps width >>= λ ok. unless (ltb area (3 * length images)) 13 (map (λ image. compare table image pattern steps width) images)) vs
       (sym (goes-on (readTray logs) images tray-read _ ∙ goes-on (readTable table) T table-read _) ∙ e)
 
-  answers : Answers table logs pattern steps width area images T vs
-  answers =
+  answer-shows : AnswerShows pattern steps width images T vs
+  answer-shows =
       let v = pattern-answered .0 in
       let f = logVerdict (T .size) T v steps width in
       let h = answer-of (cleared T steps width) (λ ok. unless (ltb area (3 * length images)) 13 (map f images)) vs
@@ -237,10 +237,10 @@ module _ (table logs pattern : List ℕ) (steps width : ℕ) (before : List ℕ)
   log-means : LogMeans table log pattern steps width bytes-here
   log-means = record {
     refused-log = λ T table-read n place r.
-        let p = answers table logs pattern steps width (length before) vs e (earlier ++ (log ∷ later)) read T table-read in
+        let p = answer-shows table logs pattern steps width (length before) vs e (earlier ++ (log ∷ later)) read T table-read in
         told-here T (p .word) (p .verdicts-are) ∙ ap (λ o. logBytes (o >>= λ u. forwardVerdict T u (p .word) steps width)) r;
     compared-log = λ T u v c.
-        let p = answers table logs pattern steps width (length before) vs e (earlier ++ (log ∷ later)) read T (c .table-read) in
+        let p = answer-shows table logs pattern steps width (length before) vs e (earlier ++ (log ∷ later)) read T (c .table-read) in
         let same : p .word ≡ v = same-answer (p .word) v (sym (p .pattern-read) ∙ c .second-read) in
         let here : logVerdict (T .size) T (p .word) steps width log ≡ comparison T u v steps width =
         ap (λ w. logVerdict (T .size) T w steps width log) same ∙ goes-on (readForward (T .size) log) u (c .first-read) _ ∙ forward-compared T u v steps width (p .clear) in
