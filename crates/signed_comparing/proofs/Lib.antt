@@ -3,3 +3,4 @@ pub mod Loading
 pub mod Prepared
 pub mod Fractions
 pub mod Service
+pub mod LargeCases
