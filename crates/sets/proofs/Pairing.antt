@@ -32,7 +32,7 @@ use Rattle.sets.specs.declared.growing.Held.{Held}
 use Rattle.sets.specs.declared.growing.Step.{Step}
 use Rattle.sets.specs.declared.growing.Grown.the-variants.{OpenPair}
 use Rattle.sets.specs.declared.growing.Grown.the-variants.{Stopped as GrownStopped}
-use Rattle.sets.specs.Room.{Fit, Loaded, Lays, ReversesBehind}
+use Rattle.sets.specs.Room.{Fit, Loaded, AtEnds, ReversesBehind}
 use Rattle.sets.specs.Growing.{stoppedAs, grownAs, Growing, StepMeans, pairWord, afterPair, Paired}
 use Rattle.sets.proofs.Spelling.{used-is, word-named, word-part, word-inside}
 
@@ -137,8 +137,8 @@ module _ {cells area : List ℕ} {h : Held} {u v : Span} {T : Presentation} {vs 
     pair-fits = record { u-before = u-inside; v-before = v-inside; fit = omega (arith, inside) }
 
     module _ {mid : List ℕ} (l : Loaded area (h .used) u v mid) where
-      pub pair-lays : Lays cells (drop (h .used) mid) (u .letters) (v .letters) T x y
-      pair-lays =
+      pub pair-at-ends : AtEnds cells (drop (h .used) mid) (u .letters) (v .letters) T x y
+      pair-at-ends =
           let d : length (drop (h .used) mid) ≡ length mid - h .used = length-drop (h .used) mid in
           let n = l .same-length in
           let k : h .used + (length (drop (h .used) mid) - v .letters) ≡ length mid - v .letters = omega (arith, d, n, inside) in
@@ -164,7 +164,7 @@ module _ {cells area : List ℕ} {h : Held} {u v : Span} {T : Presentation} {vs 
         after-length = b .same-length ∙ l .same-length
 
         reverses : Reverses T (pairWord vs p) steps (drop (h .used) after) r
-        reverses = b .reverses T x y pair-lays
+        reverses = b .reverses T x y pair-at-ends
 
         abbrev pub ending : Ending
         ending = reversing T steps (length (drop (h .used) after)) (pairWord vs p)

@@ -18,7 +18,7 @@ use Rattle.engine.proofs.Lettering.{letters-positive}
 use Rattle.swaps.proofs.Putting.{word-length}
 use Rattle.sets.specs.declared.words.Span.{Span}
 use Rattle.sets.specs.Words.{spanned}
-use Rattle.sets.specs.Room.{Fit, Loaded, Lays}
+use Rattle.sets.specs.Room.{Fit, Loaded, AtEnds}
 
 -- the part of an area from a place on
 pub part-whole : (kept : ℕ) (xs : List ℕ) → drop kept xs ≡ take (length xs - kept) (drop kept xs)
@@ -105,7 +105,7 @@ module _ (area mid after : List ℕ) (used : ℕ) (u v : Span) (f : Fit area use
       }
 
 -- the word at the room's start inverted: both are loaded
-module _ (cells room mid : List ℕ) (left right : ℕ) (T : Presentation) (u v : Positive) (s : Lays cells room left right T u v)
+module _ (cells room mid : List ℕ) (left right : ℕ) (T : Presentation) (u v : Positive) (s : AtEnds cells room left right T u v)
     (i : Inverted room left mid) where
   left-word : letters (take left mid) ≡ negative u
   left-word = i .inverted ∙ ap inverse (ap letters (s .u-is) ∙ letters-positive (T .size) (s .stands .few) u (s .u-named))

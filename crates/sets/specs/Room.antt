@@ -25,8 +25,8 @@ pub record Loaded (before : List ℕ) (used : ℕ) (u v : Span) (after : List �
   pub start : take (u .letters) (drop used after) ≡ spanned u before
   pub end : drop (length after - v .letters) after ≡ spanned v before
 
--- the words u and v of a table in the cells at a room's start and end
-pub record Lays (cells room : List ℕ) (left right : ℕ) (T : Presentation) (u v : Positive) : Type 0 where
+-- the words u and v of a table in the cells stand at a room's start and end
+pub record AtEnds (cells room : List ℕ) (left right : ℕ) (T : Presentation) (u v : Positive) : Type 0 where
   pub stands : Stands cells T
   pub fit : left + right ≤ length room
   pub u-is : take left room ≡ u
@@ -34,17 +34,17 @@ pub record Lays (cells room : List ℕ) (left right : ℕ) (T : Presentation) (u
   pub u-named : Lettered (T .size) (positive u)
   pub v-named : Lettered (T .size) (positive v)
 
-abbrev pub LaidOut : List ℕ → List ℕ → ℕ → ℕ → Type 0
-LaidOut cells room left right = (T : Presentation) × (u v : Positive) × Lays cells room left right T u v
+abbrev pub PairAtEnds : List ℕ → List ℕ → ℕ → ℕ → Type 0
+PairAtEnds cells room left right = (T : Presentation) × (u v : Positive) × AtEnds cells room left right T u v
 
--- .. in the room behind the first bytes
-abbrev pub Laid : List ℕ → List ℕ → ℕ → ℕ → ℕ → Type 0
-Laid cells area used left right = LaidOut cells (drop used area) left right
+-- .. of the room behind the first bytes
+abbrev pub PairBehind : List ℕ → List ℕ → ℕ → ℕ → ℕ → Type 0
+PairBehind cells area used left right = PairAtEnds cells (drop used area) left right
 
 -- the inverse of u, then v, was reversed
 abbrev pub PairReverses : List ℕ → List ℕ → ℕ → ℕ → ℕ → List ℕ → EndingAnswer → Type 0
 PairReverses cells room left right budget after r =
-    (T : Presentation) (u v : Positive) → Lays cells room left right T u v → Reverses T (negative u ++ positive v) budget after r
+    (T : Presentation) (u v : Positive) → AtEnds cells room left right T u v → Reverses T (negative u ++ positive v) budget after r
 
 pub record ReversesBehind (cells before : List ℕ) (used left right budget : ℕ) (after : List ℕ) (r : EndingAnswer) : Type 0 where
   pub same-length : length after ≡ length before

@@ -2,7 +2,7 @@
 ghost use mathlib.Core.Path.{_≡_};
 ghost use Prim.Native.Nat.{_≤_};
 ghost use lib.ListN.{length};
-ghost use Rattle.sets.specs.Room.{Fit, Loaded, Laid, LaidOut, PairReverses, ReversesBehind};
+ghost use Rattle.sets.specs.Room.{Fit, Loaded, PairBehind, PairAtEnds, PairReverses, ReversesBehind};
 use crate::words::Span;
 use areas::bytes::copy_on;
 use engine::gap::Gap;
@@ -22,7 +22,7 @@ pub fn load_pair(area: &mut [u8], used: usize, u: Span, v: Span)
 
 // Inverts the word of `left` letters at the room's start; then it and the word of `right` letters at the room's end are reversed.
 pub fn reverse_pair(cells: &[u8], room: &mut [u8], left: usize, right: usize, budget: u16) -> Ending
-    requires { ⌜ LaidOut (now cells) (now room) left right ⌝ }
+    requires { ⌜ PairAtEnds (now cells) (now room) left right ⌝ }
     ensures length { λ r. ⌜ length (now (room .exit)) ≡ length (now (room .entry)) ⌝ }
     ensures reverses { λ r. ⌜ PairReverses (now (cells .entry)) (now (room .entry)) left right budget (now (room .exit)) r ⌝ }
 {
@@ -48,7 +48,7 @@ pub fn reverse_behind(
     right: usize,
     budget: u16,
 ) -> Ending
-    requires { ⌜ (used ≤ length (now area)) × Laid (now cells) (now area) used left right ⌝ }
+    requires { ⌜ (used ≤ length (now area)) × PairBehind (now cells) (now area) used left right ⌝ }
     ensures { λ r. ⌜ ReversesBehind (now (cells .entry)) (now (area .entry)) used left right budget (now (area .exit)) r ⌝ }
 {
     reverse_pair(cells, &mut area[used..], left, right, budget)

@@ -14,7 +14,7 @@ use Rattle.engine.specs.Words.{Inverted, Moved}
 use Rattle.engine.proofs.Letters.{letters-append, letters-forward, length-letters}
 use Rattle.engine.proofs.Lettering.{length-positive}
 use Rattle.reversal.proofs.Fractions.{inverse-inverse}
-use Rattle.sets.specs.Room.{Lays}
+use Rattle.sets.specs.Room.{AtEnds}
 use Rattle.signed_comparing.specs.Weight.{Stand}
 use Rattle.signed_comparing.specs.Fraction.{Left}
 
@@ -77,8 +77,8 @@ module _ (cells before : List ℕ) (numerator denominator : ℕ) (T : Presentati
 
   -- D moved to the workspace's end
   module _ (moved : List ℕ) (m : Moved after numerator denominator moved) where
-    pub laid : Lays cells moved numerator denominator T n d
-    laid = record {
+    pub at-ends : AtEnds cells moved numerator denominator T n d
+    at-ends = record {
       stands = l .stands;
       fit = omega (arith, l .inside, after-long, m .same-length);
       u-is = m .kept ∙ first-after;

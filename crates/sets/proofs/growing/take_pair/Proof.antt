@@ -2,7 +2,7 @@
 use mathlib.Core.Path.{refl, _∙_}
 use native.Mathlib.Omega.{arith}
 use borrow.Author.Needs.{needs}
-use Rattle.sets.proofs.Pairing.{pair-long, pair-fits, pair-lays, pair-growing, pair-open, pair-stopped, pair-numerator, pair-room, pair-added}
+use Rattle.sets.proofs.Pairing.{pair-long, pair-fits, pair-at-ends, pair-growing, pair-open, pair-stopped, pair-numerator, pair-room, pair-added}
 use Rattle.sets.proofs.growing.take_pair.Statement.{statement}
 use Rattle.sets.proofs.growing.take_pair.Tie as tie
 
@@ -30,7 +30,7 @@ reverse-behind-requires c κs =
     let q = s .pre .3 in
     let l = c .before .before .before .load-pair in (
       omega (arith, q .growing .lists .inside, l .ensures .same-length),
-      (s .pre .0, _, _, pair-lays q (s .args .budget) (c .before .before .before .before .before .before .before .before .if1 .left) (c .before .before .before .before .before .if2 .left) (l .ensures)),
+      (s .pre .0, _, _, pair-at-ends q (s .args .budget) (c .before .before .before .before .before .before .before .before .if1 .left) (c .before .before .before .before .before .if2 .left) (l .ensures)),
     )
 
 enum-known-ending : tie.Need-enum-known-ending

@@ -2,7 +2,7 @@
 use mathlib.Core.Path.{subst}
 use borrow.Author.Needs.{needs}
 use Rattle.areas.proofs.Parts.{part-front, part-end, part-length}
-use Rattle.sets.specs.Room.{Lays, LaidOut}
+use Rattle.sets.specs.Room.{AtEnds, PairAtEnds}
 use Rattle.sets.proofs.Rooms.{part-whole}
 use Rattle.sets.proofs.room.reverse_behind.Statement.{statement}
 use Rattle.sets.proofs.room.reverse_behind.Tie as tie
@@ -19,7 +19,7 @@ part-reverse-pair-end c = search needs
 reverse-pair-requires : tie.Need-reverse-pair-requires
 reverse-pair-requires c κs =
     let s = c .before .before .before in
-    subst (λ l. LaidOut (s .args .cells .now) l (s .args .left) (s .args .right)) (part-whole (s .args .used) (s .args .area .now)) (s .pre .1)
+    subst (λ l. PairAtEnds (s .args .cells .now) l (s .args .left) (s .args .right)) (part-whole (s .args .used) (s .args .area .now)) (s .pre .1)
 
 same-length : tie.Need-same-length
 same-length c = search needs
@@ -35,7 +35,7 @@ returns c =
       front = part-front (s .args .used) xs (v .last .1 .0) (s .pre .0);
       reverses =
           λ T x y h.
-          rw e (v .ensures .1 T x y (subst (λ l. Lays (s .args .cells .now) l (s .args .left) (s .args .right) T x y) (part-whole (s .args .used) xs) h));
+          rw e (v .ensures .1 T x y (subst (λ l. AtEnds (s .args .cells .now) l (s .args .left) (s .args .right) T x y) (part-whole (s .args .used) xs) h));
     }
 
 pub reverse-behind-spec : {M : Type 1} → statement M

@@ -10,7 +10,7 @@ use Rattle.engine.specs.Words.{Inverted}
 use Rattle.model.specs.Presentation.{weigh}
 use Rattle.model.specs.Stated.{compared}
 use Rattle.comparing.proofs.Comparing.{unequal-verdict, equal-verdict}
-use Rattle.signed_comparing.proofs.Fractions.{two-words, laid}
+use Rattle.signed_comparing.proofs.Fractions.{two-words, at-ends}
 use borrow.Author.Needs.{needs}
 use Rattle.signed_comparing.proofs.fraction.compare_fraction.Statement.{statement}
 use Rattle.signed_comparing.proofs.fraction.compare_fraction.Tie as tie
@@ -53,7 +53,7 @@ reverse-pair-requires c κs =
     let i = c .before .before .before .before .before .before .before .before .before .before in
     let part = i .invert .last .0 in
     let m = c .before .before .before .move-to-end in
-    (p .0, p .1, p .2, laid (s .args .cells .now) (s .args .workspace .now) (s .args .numerator) (s .args .denominator) (p .0) (p .1) (p .2) (p .3) part _ (turned i) (part-back (s .args .numerator) (s .args .workspace .now) part (reaches s)) (m .last .0) (m .ensures))
+    (p .0, p .1, p .2, at-ends (s .args .cells .now) (s .args .workspace .now) (s .args .numerator) (s .args .denominator) (p .0) (p .1) (p .2) (p .3) part _ (turned i) (part-back (s .args .numerator) (s .args .workspace .now) part (reaches s)) (m .last .0) (m .ensures))
 
 returns-2 : tie.Need-returns-2
 returns-2 c =
@@ -71,7 +71,7 @@ returns-2 c =
           ap compared (c .judge .ensures)
           ∙ equal-verdict T u v (s .args .budget) (length bytes)
           (eqb-true (weigh T u) (weigh T v) (sym (c .before .before .before .before .before .before .before .before .before .before .same-weight .ensures T u v (two-words (s .args .cells .now) bytes n (s .args .denominator) T u v l part _ (turned i) put)) ∙ not-false (c .before .before .before .before .before .before .before .before .before .before .same-weight .result) (c .before .before .before .before .before .before .before .before .before .if1 .left)))
-          (r .last .1 .0) long (r .result) (r .ensures .1 T u v (laid (s .args .cells .now) bytes n (s .args .denominator) T u v l part _ (turned i) put (m .last .0) (m .ensures))),
+          (r .last .1 .0) long (r .result) (r .ensures .1 T u v (at-ends (s .args .cells .now) bytes n (s .args .denominator) T u v l part _ (turned i) put (m .last .0) (m .ensures))),
     )
 
 pub compare-fraction-spec : {M : Type 1} → statement M
