@@ -20,11 +20,12 @@ use Rattle.model.specs.Stated.{refusal, packedAs}
 use Rattle.model.specs.Bed.{isBraid, readBraid, bedAfter, bedBytes, bed}
 use Rattle.model.proofs.Impossible.{impossible}
 use Rattle.model.proofs.Fitted.{short-area, long-area}
-use Rattle.images.proofs.Refusals.{refused-on}
+use Rattle.model.proofs.Outcomes.{still-refused}
 use Rattle.images.proofs.RoundTrip.{table-in-range, program-in-range}
 use Rattle.images.specs.Tables.{TableOf}
 use Rattle.theory.specs.Beds.{BedMeaning}
 use Rattle.theory.proofs.Totals.{bed-meaning}
+use Rattle.cells.proofs.Rules.{of-some, of-few}
 use Rattle.bed.specs.BraidTable.{BraidOf}
 use Rattle.bed.specs.Shown.{Answers}
 use Rattle.bed.specs.Meaning.{BedSays}
@@ -33,7 +34,7 @@ use Rattle.bed.specs.Meaning.{BedSays}
 
 pub table-refused : (image : List ℕ) (r : Refusal) → readTable image ≡ refusal r → readBraid image ≡ refusal r
 unfolding readBraid
-table-refused image r e = refused-on (readTable image) (λ T. unless (not (isBraid T)) 15 T) r e
+table-refused image r e = still-refused (readTable image) r e (λ T. unless (not (isBraid T)) 15 T)
 
 module _ (image : List ℕ) (T : Presentation) (e : readTable image ≡ answered T) where
   read-is : readBraid image ≡ unless (not (isBraid T)) 15 T
@@ -52,8 +53,8 @@ braid-of image cells size t b =
       table = t .table;
       read = braid-read image (t .table) (t .read) b;
       size-is = t .of .sized;
-      some = omega (arith, t .of .sized, t .of .stands .some);
-      few = omega (arith, t .of .sized, t .of .stands .few);
+      some = of-some (t .of);
+      few = of-few (t .of);
     }
 
 -- THE OUTCOME
@@ -64,7 +65,7 @@ module _ (table program : List ℕ) (moves area : ℕ) where
 
   pub bed-no-table : (r : Refusal) → readBraid table ≡ refusal r → bed table program moves area ≡ refusal r
   unfolding bed shown
-  bed-no-table r e = refused-on (readBraid table) shown r e
+  bed-no-table r e = still-refused (readBraid table) r e shown
 
   module _ (T : Presentation) (e : readBraid table ≡ answered T) where
     bed-is : bed table program moves area ≡ shown T
@@ -74,7 +75,7 @@ module _ (table program : List ℕ) (moves area : ℕ) where
     pub bed-no-program : (size : ℕ) → T .size ≡ size → (r : Refusal) → readProgram size program ≡ refusal r → bed table program moves area ≡ refusal r
     unfolding shown
     bed-no-program size s r p =
-        bed-is ∙ refused-on (readProgram (T .size) program) (λ w. fitted area (bedBytes (bedAfter (T .size) moves w))) r (ap (λ n. readProgram n program) s ∙ p)
+        bed-is ∙ still-refused (readProgram (T .size) program) r (ap (λ n. readProgram n program) s ∙ p) (λ w. fitted area (bedBytes (bedAfter (T .size) moves w)))
 
     pub bed-shows : (size : ℕ) → T .size ≡ size → (w : Word) → readProgram size program ≡ answered w → bed table program moves area ≡ fitted area (bedBytes (bedAfter size moves w))
     unfolding shown

@@ -19,8 +19,14 @@ lettered-all n (a ∷ x) p = (p .0, lettered-all n x (p .1))
 -- LETTERS OF A TABLE OF SO MANY
 
 module _ {cells : List ℕ} {size : ℕ} {T : Presentation} (o : Of cells size T) where
+  pub of-some : 1 ≤ size
+  of-some = omega (arith, o .sized, o .stands .some)
+
   pub of-few : size ≤ 16
   of-few = omega (arith, o .sized, o .stands .few)
+
+  pub of-size : (1 ≤ size) × (size ≤ 16)
+  of-size = (of-some, of-few)
 
   pub of-range : (a : ℕ) → 1 ≤ a → a ≤ size → InRange (T .size) a
   of-range a low high = record { low = low; high = omega (arith, o .sized) }

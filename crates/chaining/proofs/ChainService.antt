@@ -29,18 +29,19 @@ use Rattle.theory.proofs.Comparison.{answered-clear}
 use Rattle.theory.specs.Verdicts.{DemandThree}
 use Rattle.theory.proofs.Verdicts.{demand-three-told}
 use Rattle.model.specs.Range.{ProgramInRange, Lettered}
+use Rattle.model.proofs.Outcomes.{still-refused}
 use Rattle.images.specs.Programs.{ForwardOf}
 use Rattle.images.proofs.RoundTrip.{chain-reads-back, program-in-range}
 use Rattle.cells.specs.Stands.{Of}
-use Rattle.cells.proofs.Rules.{weight-within}
+use Rattle.cells.proofs.Rules.{of-few, weight-within}
 use Rattle.engine.proofs.Lettering.{length-positive, length-negative}
 use Rattle.chains.specs.Listing.{Chained}
 use Rattle.chains.specs.Listing.{Compared as Listed-from}
-use Rattle.loading.specs.Loading.{Images, readPrograms}
+use Rattle.loading.specs.Loading.{Images, readImages}
 use Rattle.comparing.specs.Compare.{Ended, Judged, Meaning}
 use Rattle.loading.specs.Comparison.{LoadedPrograms}
 use Rattle.chaining.specs.Chain.{Area, ListedAs, JoinsChecked, ListedChecks}
-use Rattle.loading.proofs.Outcomes.{AsFound, still-refused}
+use Rattle.loading.proofs.Outcomes.{AsFound}
 use Rattle.loading.proofs.Reading.{programs-refused, programs-run}
 use Rattle.checking.proofs.CheckService.{check-runs}
 
@@ -126,7 +127,7 @@ module _ (cells : List ℕ) (size : ℕ) (T : Presentation) (o : Of cells size T
     (two : ForwardOf second size n) (eu : one .word ≡ u) (ev : two .word ≡ v) (steps width k r : ℕ) (e : Ended T u v steps width k r) (bytes : List ℕ) (right : ℕ)
     (same-width : length bytes ≡ width) (l : LoadedPrograms cells T u v bytes m right) (room : ℕ) (enough : chainBytes size r ≤ room) where
   few : size ≤ 16
-  few = omega (arith, o .sized, o .stands .few)
+  few = of-few o
 
   named : (w : Positive) (image : List ℕ) → readProgram size image ≡ answered (positive w) → ProgramInRange size (positive w)
   named w image q = program-in-range size few image (positive w) q
@@ -161,10 +162,10 @@ module _ (cells : List ℕ) (size : ℕ) (T : Presentation) (o : Of cells size T
 -- THE SERVICE
 
 module _ (table first second : List ℕ) (steps width area : ℕ) where
-  abbrev lists : Images → Outcome ChainAnswer
+  abbrev lists : Images Positive → Outcome ChainAnswer
   lists p = mapped (chainAnswer (p .table .size)) (comparison (p .table) (p .first) (p .second) steps width >>= listable (p .table .size) area)
 
-  pub chain-refused : (r : Refusal) → readPrograms table first second ≡ refusal r → AsFound (chain table first second steps width area) r
+  pub chain-refused : (r : Refusal) → readImages readForward table first second ≡ refusal r → AsFound (chain table first second steps width area) r
   unfolding chain
   chain-refused = programs-refused table first second lists
 

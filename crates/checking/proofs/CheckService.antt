@@ -23,14 +23,15 @@ use Rattle.model.proofs.Impossible.{answer-of}
 use Rattle.model.proofs.Words.{plain-positive}
 use Rattle.theory.specs.Passages.{Passes, arrives, broken, elsewhere, starts-long, grows-long}
 use Rattle.model.proofs.Impossible.{impossible}
+use Rattle.model.proofs.Outcomes.{goes-on}
 use Rattle.theory.proofs.Passages.{passage-exactly, passage-fits}
 use Rattle.images.specs.Programs.{ForwardOf}
 use Rattle.swaps.specs.Held.{heldAt, Placed, Carried}
 use Rattle.swaps.proofs.Applying.{held-length}
-use Rattle.loading.specs.Loading.{Images, readPrograms}
+use Rattle.loading.specs.Loading.{Images, readImages}
 use Rattle.checking.specs.Check.{CheckMeaning}
 use Rattle.loading.proofs.Early.{chain-early}
-use Rattle.loading.proofs.Outcomes.{AsFound, goes-on, reading-refused}
+use Rattle.loading.proofs.Outcomes.{AsFound, reading-refused}
 use Rattle.loading.proofs.Programs.{written-end}
 use Rattle.loading.proofs.Reading.{programs-refused, programs-run}
 
@@ -101,10 +102,10 @@ module _ (T : Presentation) (width : ℕ) where
 -- THE SERVICE
 
 module _ (table first second entries : List ℕ) (width : ℕ) where
-  abbrev follows : Images → Outcome Passage
+  abbrev follows : Images Positive → Outcome Passage
   follows p = readChain (p .table .size) entries >>= λ es. passage (p .table) width (p .first) es (p .second)
 
-  pub check-refused : (r : Refusal) → readPrograms table first second ≡ refusal r → AsFound (check table first second entries width) r
+  pub check-refused : (r : Refusal) → readImages readForward table first second ≡ refusal r → AsFound (check table first second entries width) r
   unfolding check
   check-refused = programs-refused table first second follows
 

@@ -16,6 +16,7 @@ use Rattle.model.specs.declared.answers.Stop.the-variants.{Budget, Room}
 use Rattle.model.specs.declared.answers.Refusal.{Refusal}
 use Rattle.model.specs.declared.answers.Refusal.the-variants.{UnequalWeights}
 use Rattle.model.specs.declared.answers.Cleared.the-variants.{Refused}
+use Rattle.model.proofs.Outcomes.{still-refused, goes-on}
 use Rattle.theory.proofs.Balance.{weight-meaning}
 use Rattle.theory.proofs.Checked.{cube-exactly}
 use Rattle.checks.specs.Table.{triplesAs, WeightsMean, TriplesMean}
@@ -23,7 +24,6 @@ use Rattle.checks.specs.declared.table.Weights.the-variants.{Equal, Unequal}
 use Rattle.checks.specs.declared.table.Triples.{Triples}
 use Rattle.checks.specs.declared.table.Triples.the-variants.{Hold, Fail, Halt}
 use Rattle.clearing.specs.Clear.{triplesRefusal, ClearMeans, ChecksMeaning, ClearMeaning}
-use Rattle.loading.proofs.Outcomes.{still-refused, goes-on}
 
 -- what is said of the triples is what is answered
 triples-stated : (f : Triples) → clearedAs (triplesRefusal f) ≡ triplesAs f

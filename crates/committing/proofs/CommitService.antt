@@ -24,7 +24,8 @@ use Rattle.model.specs.declared.answers.Reversed.the-variants.{Refused}
 use Rattle.model.proofs.Impossible.{impossible, answer-of}
 use Rattle.engine.specs.Run.{Reverses}
 use Rattle.engine.proofs.Ended.{end, done, met, halted}
-use Rattle.loading.specs.Loading.{readTableProgram}
+use Rattle.loading.specs.Loading.{readTableWith}
+use Rattle.loading.proofs.Early.{program-early}
 use Rattle.loading.proofs.Outcomes.{AsFound}
 use Rattle.loading.proofs.Reading.{program-refused, program-runs}
 use Rattle.reversal.specs.Reverse.{Answers}
@@ -109,13 +110,13 @@ committed-zero z area (stopped s) workspace = zero-after area (stopped s) worksp
 -- THE SERVICE
 
 module _ (table program : List ℕ) (steps width : ℕ) (z : Sizes) (area : ℕ) where
-  pub commit-refused : (r : Refusal) → readTableProgram table program ≡ refusal r → AsFound (commit table program steps width z area) r
+  pub commit-refused : (r : Refusal) → readTableWith readProgram table program ≡ refusal r → AsFound (commit table program steps width z area) r
   unfolding commit
-  commit-refused = program-refused table program (λ T w. committedOf z area (reversing T steps width w))
+  commit-refused = program-refused readProgram table program (λ T w. committedOf z area (reversing T steps width w)) program-early
 
   pub commit-runs : (T : Presentation) → readTable table ≡ answered T → (w : Word) → readProgram (T .size) program ≡ answered w → commit table program steps width z area ≡ committedOf z area (reversing T steps width w)
   unfolding commit
-  commit-runs T e w f = program-runs table program (λ T w. committedOf z area (reversing T steps width w)) T w e f
+  commit-runs T e w f = program-runs readProgram table program (λ T w. committedOf z area (reversing T steps width w)) T w e f
 
   -- AND ENQUIRE AND REVERSE
 

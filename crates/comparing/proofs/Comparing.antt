@@ -12,7 +12,7 @@ use Rattle.model.specs.Presentation.{Presentation, weigh}
 use Rattle.model.specs.Reversing.{Ending, finished, open-pair, stopped, budget, room, reversing}
 use Rattle.model.specs.Outcome.{Outcome, answered}
 use Rattle.model.specs.Checks.{cleared}
-use Rattle.model.specs.Services.{Verdict, same-after, different-after, verdictOf, forwardVerdict, comparison, compare}
+use Rattle.model.specs.Services.{Verdict, same-after, different-after, readForward, verdictOf, forwardVerdict, comparison, compare}
 use Rattle.model.specs.Areas.{Compares, workspaceAfter}
 use Rattle.model.specs.Stated.{refusal, compared, endingAnswer}
 use Rattle.model.specs.declared.answers.Ending.{Ending as EndingAnswer}
@@ -22,11 +22,12 @@ use Rattle.model.proofs.Impossible.{impossible}
 use Rattle.theory.specs.Verdicts.{DemandThree}
 use Rattle.theory.proofs.Verdicts.{demand-three}
 use Rattle.engine.specs.Run.{Reverses}
-use Rattle.loading.specs.Loading.{Images, readPrograms}
+use Rattle.loading.specs.Loading.{Images, readImages}
 use Rattle.comparing.specs.Compare.{judgement, Ended, EndedIf, Judged, Meaning}
 use Rattle.model.specs.declared.answers.Compared.{Compared}
 use Rattle.model.specs.declared.answers.Compared.the-variants.{Same, Different, Refused}
-use Rattle.loading.proofs.Outcomes.{AsFound, still-refused, goes-on}
+use Rattle.model.proofs.Outcomes.{still-refused, goes-on}
+use Rattle.loading.proofs.Outcomes.{AsFound}
 use Rattle.loading.proofs.Reading.{programs-refused, programs-run}
 
 -- JUDGING AN ENDING
@@ -123,10 +124,10 @@ module _ (T : Presentation) (u v : Positive) (steps width : ℕ) where
 -- THE SERVICE
 
 module _ (table first second : List ℕ) (steps width : ℕ) where
-  abbrev judges : Images → Outcome Verdict
+  abbrev judges : Images Positive → Outcome Verdict
   judges p = comparison (p .table) (p .first) (p .second) steps width
 
-  pub compare-refused : (r : Refusal) → readPrograms table first second ≡ refusal r → AsFound (compare table first second steps width) r
+  pub compare-refused : (r : Refusal) → readImages readForward table first second ≡ refusal r → AsFound (compare table first second steps width) r
   unfolding compare
   compare-refused = programs-refused table first second judges
 

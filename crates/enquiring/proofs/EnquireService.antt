@@ -12,7 +12,8 @@ use Rattle.model.specs.Services.{sizesOf, enquire}
 use Rattle.model.specs.Areas.{workspaceAfter}
 use Rattle.model.specs.Stated.{refusal, reversed, endingAnswer}
 use Rattle.model.specs.declared.answers.Refusal.{Refusal}
-use Rattle.loading.specs.Loading.{readTableProgram}
+use Rattle.loading.specs.Loading.{readTableWith}
+use Rattle.loading.proofs.Early.{program-early}
 use Rattle.loading.proofs.Outcomes.{AsFound}
 use Rattle.loading.proofs.Reading.{program-refused, program-runs}
 use Rattle.enquiring.specs.Enquire.{sizesTold}
@@ -31,10 +32,10 @@ zero-after (stopped budget) workspace = refl
 zero-after (stopped room) workspace = refl
 
 module _ (table program : List ℕ) (steps width : ℕ) where
-  pub enquire-refused : (r : Refusal) → readTableProgram table program ≡ refusal r → AsFound (enquire table program steps width) r
+  pub enquire-refused : (r : Refusal) → readTableWith readProgram table program ≡ refusal r → AsFound (enquire table program steps width) r
   unfolding enquire
-  enquire-refused = program-refused table program (λ T w. sizesOf (reversing T steps width w))
+  enquire-refused = program-refused readProgram table program (λ T w. sizesOf (reversing T steps width w)) program-early
 
   pub enquire-runs : (T : Presentation) → readTable table ≡ answered T → (w : Word) → readProgram (T .size) program ≡ answered w → enquire table program steps width ≡ sizesOf (reversing T steps width w)
   unfolding enquire
-  enquire-runs T e w f = program-runs table program (λ T w. sizesOf (reversing T steps width w)) T w e f
+  enquire-runs T e w f = program-runs readProgram table program (λ T w. sizesOf (reversing T steps width w)) T w e f

@@ -11,8 +11,8 @@ use Rattle.model.specs.Outcome.{unplaced, Outcome, answered, refused, _>>=_, un
 use Rattle.model.specs.Images.{readProgram}
 use Rattle.model.specs.Services.{isForward, readForward}
 use Rattle.model.specs.Stated.{refusal}
+use Rattle.model.proofs.Outcomes.{still-refused}
 use Rattle.images.specs.Programs.{ProgramOf, ForwardOf}
-use Rattle.images.proofs.Refusals.{refused-on}
 
 positive-forwards : (w : Word) → isForward w ≡ true → w ≡ positive (forwards w)
 positive-forwards [] e = refl
@@ -25,7 +25,7 @@ module _ (image : List ℕ) (size : ℕ) where
 
   pub forward-refused : (r : Refusal) → readProgram size image ≡ refusal r → readForward size image ≡ refusal r
   unfolding readForward forwardOf
-  forward-refused r e = refused-on (readProgram size image) forwardOf r e
+  forward-refused r e = still-refused (readProgram size image) r e forwardOf
 
   module _ (count : ℕ) (p : ProgramOf image size count) where
     read-is : readForward size image ≡ unless (not (isForward (p .word))) 7 (forwards (p .word))

@@ -10,7 +10,6 @@ pub mod Letters
 pub mod Words
 pub mod Pairs
 pub mod Rows
-pub mod Refusals
 pub mod Entries
 pub mod Forward
 pub mod Appending

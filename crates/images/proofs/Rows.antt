@@ -24,6 +24,7 @@ use Rattle.model.proofs.Complete.{complete-same}
 use Rattle.cells.specs.Stands.{HoldsFirst, HoldsWeights, Stands, Blank}
 use Rattle.cells.specs.Kept.{SameCell, HoldsPair}
 use Rattle.cells.proofs.Kept.{holds-kept, same-cell-after, swap-letters}
+use Rattle.cells.proofs.Rules.{of-some, of-few}
 use Rattle.images.specs.Tables.{HoldsRow, PairFrom, RowFrom, RowAt, RowsHeld, rowsThen, plainRowsThen, LoadedOr, TableOf, TableDone, SizeDone, bytesFrom, PlainTableOf, PlainTableDone}
 use Rattle.images.specs.declared.tables.TableRead.{TableRead}
 use Rattle.images.specs.declared.tables.TableRead.the-variants.{Table, Refused}
@@ -372,8 +373,8 @@ size-done image cells (Table size) t =
       table = t .table;
       read = t .read;
       size-is = t .of .sized;
-      some = subst (λ n. 1 ≤ n) (t .of .sized) (t .of .stands .some);
-      few = subst (λ n. n ≤ 16) (t .of .sized) (t .of .stands .few);
+      some = of-some (t .of);
+      few = of-few (t .of);
     }
 size-done image cells (Refused r) e = e
 

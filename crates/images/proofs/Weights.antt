@@ -16,6 +16,7 @@ use Rattle.model.specs.Plain.{plainWeight}
 use Rattle.model.specs.Range.{InRange}
 use Rattle.cells.specs.Layout.{cellAt, weightAt}
 use Rattle.cells.specs.Stands.{HoldsWeights}
+use Rattle.cells.proofs.Rules.{of-some, of-few}
 use Rattle.images.specs.Tables.{WeightsFrom, bytesFrom, Loaded}
 use Rattle.images.specs.Held.{HoldsSomeTable}
 use Rattle.images.proofs.Several.{after, after-none, several-step, several-refused, several-done}
@@ -165,8 +166,8 @@ loaded-weights {cells} t = subst (λ n. HoldsWeights n cells (t .table .excess))
 pub loaded-table : {o : Outcome Presentation} {cells : List ℕ} {size : ℕ} → Loaded o cells size → HoldsSomeTable size cells
 loaded-table t =
     record {
-      some = subst (λ n. 1 ≤ n) (t .of .sized) (t .of .stands .some);
-      few = subst (λ n. n ≤ 16) (t .of .sized) (t .of .stands .few);
+      some = of-some (t .of);
+      few = of-few (t .of);
       excess = t .table .excess;
       weights = loaded-weights t;
       rows = t .table .rows;

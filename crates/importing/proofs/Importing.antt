@@ -23,8 +23,8 @@ use Rattle.model.specs.Areas.{begins, outputAfter}
 use Rattle.model.specs.Stated.{refusal, packedAs}
 use Rattle.model.specs.Notation.{Pattern, mostNested, PatternInRange, meaning, moves, highest, patternText, noPattern, readPattern, readText, imported, import}
 use Rattle.model.proofs.Impossible.{impossible}
+use Rattle.model.proofs.Outcomes.{still-refused}
 use Rattle.theory.proofs.Notation.{notation-meaning}
-use Rattle.images.proofs.Refusals.{refused-on}
 use Rattle.loading.proofs.Early.{Early, table-early}
 use Rattle.engine.specs.Gap.{letters}
 use Rattle.engine.proofs.Letters.{letter-forward, letter-back}
@@ -197,7 +197,7 @@ module _ (table text : List ℕ) (area : ℕ) where
 
   pub no-table : (q : Refusal) → readTable table ≡ refusal q → import table text area ≡ refusal q
   unfolding import outcome
-  no-table q e = refused-on (readTable table) outcome q e
+  no-table q e = still-refused (readTable table) q e outcome
 
   pub with-table : (T : Presentation) (size : ℕ) → readTable table ≡ answered T → T .size ≡ size → import table text area ≡ textOutcome text size area
   unfolding import outcome

@@ -17,10 +17,12 @@ use Rattle.model.specs.declared.answers.Refusal.{Refusal}
 use Rattle.model.specs.declared.answers.Refusal.the-variants.{NoMirror}
 use Rattle.model.specs.declared.answers.Reversed.{Reversed}
 use Rattle.model.specs.declared.answers.Reversed.the-variants.{Refused}
+use Rattle.model.proofs.Outcomes.{still-refused, goes-on}
 use Rattle.theory.specs.Mirrors.{readBackward}
 use Rattle.theory.proofs.Mirroring.{left-is-right}
-use Rattle.loading.specs.Loading.{readTableProgram}
-use Rattle.loading.proofs.Outcomes.{AsFound, still-refused, goes-on}
+use Rattle.loading.specs.Loading.{readTableWith}
+use Rattle.loading.proofs.Early.{program-early}
+use Rattle.loading.proofs.Outcomes.{AsFound}
 use Rattle.loading.proofs.Reading.{program-refused, program-runs}
 use Rattle.reversal.proofs.Answers.{zero-after}
 use Rattle.left_reversal.specs.Backward.{AnswersBackward}
@@ -66,13 +68,13 @@ module _ (T : Presentation) (w : Word) (steps : ℕ) (workspace before : List �
 -- THE SERVICE
 
 module _ (table program : List ℕ) (steps width area : ℕ) where
-  pub left-refused : (r : Refusal) → readTableProgram table program ≡ refusal r → AsFound (leftReverse table program steps width area) r
+  pub left-refused : (r : Refusal) → readTableWith readProgram table program ≡ refusal r → AsFound (leftReverse table program steps width area) r
   unfolding leftReverse
-  left-refused = program-refused table program (λ T w. leftFraction T w steps width area)
+  left-refused = program-refused readProgram table program (λ T w. leftFraction T w steps width area) program-early
 
   pub left-runs : (T : Presentation) → readTable table ≡ answered T → (w : Word) → readProgram (T .size) program ≡ answered w → leftReverse table program steps width area ≡ leftFraction T w steps width area
   unfolding leftReverse
-  left-runs T e w f = program-runs table program (λ T w. leftFraction T w steps width area) T w e f
+  left-runs T e w f = program-runs readProgram table program (λ T w. leftFraction T w steps width area) T w e f
 
 module _ (table program : List ℕ) (steps : ℕ) (workspace before : List ℕ) where
   abbrev outcome : Outcome Fraction

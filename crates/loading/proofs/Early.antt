@@ -1,5 +1,5 @@
 -- Reading refuses with small numbers only: 1 to 3 of a table, 4 to 6 of a program or chain, 7 of one that must be forward. So what is refused
--- before the work begins leaves the workspace as found.
+-- before the work begins leaves the workspace as found. 7 is the bound of both ways to read a program.
 use mathlib.Core.Path.{_≡_, ap, subst}
 use mathlib.Core.List.{List}
 use mathlib.Core.Bool.{Bool, true, false, not, _||_, cond}
@@ -16,7 +16,6 @@ use Rattle.model.specs.Services.{isForward, readForward}
 use Rattle.model.specs.Areas.{workspaceAfter}
 use Rattle.model.specs.Stated.{numbered, refusal}
 use Rattle.model.specs.declared.answers.Refusal.{Refusal}
-use Rattle.loading.specs.Loading.{readPrograms}
 
 -- a refusal, if it is one, has a number of at most k
 abbrev pub Early : {A : Type 0} → ℕ → Outcome A → Type 0
@@ -82,17 +81,17 @@ table-early bytes =
     (rows-early 3 (pairField (h .value + 1)) (pair-early (h .value + 1)) (h .value + 1) (ws .rest))
     (λ rs. finish-early 3 3 (record { value = record { size = h .value + 1; excess = ws .value; rows = rs .value }; rest = rs .rest }) (omega arith))))
 
-signed-early : (n : ℕ) (bits : List ℕ) → Early 6 (signedField n bits)
+signed-early : (n : ℕ) (bits : List ℕ) → Early 7 (signedField n bits)
 signed-early n bits =
-    early-then 6 (field 4 1 bits) _ (field-early 6 4 1 bits (omega arith))
-    (λ s. early-then 6 (letterField 4 5 n (s .rest)) _ (letter-early 6 4 5 n (s .rest) (omega arith) (omega arith)) (λ a. tt))
+    early-then 7 (field 4 1 bits) _ (field-early 7 4 1 bits (omega arith))
+    (λ s. early-then 7 (letterField 4 5 n (s .rest)) _ (letter-early 7 4 5 n (s .rest) (omega arith) (omega arith)) (λ a. tt))
 
-pub program-early : (n : ℕ) (bytes : List ℕ) → Early 6 (readProgram n bytes)
+pub program-early : (n : ℕ) (bytes : List ℕ) → Early 7 (readProgram n bytes)
 unfolding readProgram
 program-early n bytes =
-    early-then 6 (field 4 12 (bitsOf bytes)) _ (field-early 6 4 12 (bitsOf bytes) (omega arith))
-    (λ c. early-then 6 (several (signedField n) (c .value) (c .rest)) _ (several-early 6 (signedField n) (signed-early n) (c .value) (c .rest))
-    (λ w. finish-early 6 6 w (omega arith)))
+    early-then 7 (field 4 12 (bitsOf bytes)) _ (field-early 7 4 12 (bitsOf bytes) (omega arith))
+    (λ c. early-then 7 (several (signedField n) (c .value) (c .rest)) _ (several-early 7 (signedField n) (signed-early n) (c .value) (c .rest))
+    (λ w. finish-early 7 6 w (omega arith)))
 
 entry-early : (n : ℕ) (bits : List ℕ) → Early 6 (entryField n bits)
 entry-early n bits =
@@ -115,15 +114,8 @@ wider j k (refused n ps) h e = omega arith
 pub forward-early : (n : ℕ) (bytes : List ℕ) → Early 7 (readForward n bytes)
 unfolding readForward
 forward-early n bytes =
-    early-then 7 (readProgram n bytes) _ (wider 6 7 (readProgram n bytes) (omega arith) (program-early n bytes))
+    early-then 7 (readProgram n bytes) _ (program-early n bytes)
     (λ w. test 7 (not (isForward w)) 7 (forwards w) (omega arith))
-
-pub images-early : (table first second : List ℕ) → Early 7 (readPrograms table first second)
-unfolding readPrograms
-images-early table first second =
-    early-then 7 (readTable table) _ (wider 3 7 (readTable table) (omega arith) (table-early table))
-    (λ T. early-then 7 (readForward (T .size) first) _ (forward-early (T .size) first)
-    (λ u. early-then 7 (readForward (T .size) second) _ (forward-early (T .size) second) (λ v. tt)))
 
 -- an early refusal leaves the workspace as found
 pub refusal-workspace : {A : Type 0} (B : Type 0) (r : Refusal) (o : Outcome A) (k : ℕ) → o ≡ refusal r → Early k o → k ≤ 8 → (area : List ℕ)

@@ -22,6 +22,7 @@ use Rattle.engine.specs.Run.{Reverses}
 use Rattle.engine.proofs.Lettering.{length-positive, length-negative}
 use Rattle.engine.proofs.Loads.{loaded, load-searched, load-serves}
 use Rattle.engine.specs.Words.{Inverted}
+use Rattle.cells.proofs.Rules.{of-few}
 use Rattle.loading.specs.Comparison.{LoadedPrograms}
 use Rattle.loading.proofs.Programs.{byte-letters, written-end, too-long}
 
@@ -35,7 +36,7 @@ module _ (cells : List ℕ) (size : ℕ) (T : Presentation) (o : Of cells size T
   both = written turned (length start - n) (plainProgram (positive v))
 
   few : size ≤ 16
-  few = omega (arith, o .sized, o .stands .few)
+  few = of-few o
 
   plain-length : (w : Positive) → length (plainProgram (positive w)) ≡ length w
   plain-length w = length-map (positive w) byte ∙ length-positive w

@@ -2,16 +2,14 @@
 use mathlib.Core.Path.{_≡_, sym, ap, _∙_}
 use mathlib.Core.List.{List}
 use Prim.Native.Nat.{ℕ, _≤_}
-use Rattle.model.specs.Outcome.{Outcome, answered, _>>=_, mapped}
+use Rattle.model.specs.Outcome.{Outcome, _>>=_, mapped}
 use Rattle.model.specs.Areas.{outputAfter, workspaceAfter}
 use Rattle.model.specs.Stated.{refusal}
 use Rattle.model.specs.declared.answers.Refusal.{Refusal}
+use Rattle.model.proofs.Outcomes.{still-refused}
 use Rattle.loading.proofs.Early.{Early, refusal-workspace}
 
 module _ {A : Type 0} (o : Outcome A) (r : Refusal) (e : o ≡ refusal r) where
-  pub still-refused : {B : Type 0} (f : A → Outcome B) → (o >>= f) ≡ refusal r
-  still-refused f = ap (λ q. q >>= f) e
-
   pub refused-stated : {B : Type 0} (f : A → B) → refusal r ≡ mapped f o
   refused-stated f = sym (ap (mapped f) e)
 
@@ -21,9 +19,6 @@ module _ {A : Type 0} (o : Outcome A) (r : Refusal) (e : o ≡ refusal r) where
   -- refused by a check that comes before the work
   pub refused-workspace : {C : Type 0} (first : Outcome C) (k : ℕ) → first ≡ refusal r → Early k first → k ≤ 8 → (area : List ℕ) → area ≡ workspaceAfter o area
   refused-workspace first k f h few area = sym (ap (λ q. workspaceAfter q area) e ∙ refusal-workspace A r first k f h few area)
-
-pub goes-on : {A B : Type 0} (o : Outcome A) (x : A) → o ≡ answered x → (f : A → Outcome B) → (o >>= f) ≡ f x
-goes-on o x e f = ap (λ q. q >>= f) e
 
 -- refused before the work: the service says so, and leaves the workspace as found
 pub record AsFound {A : Type 0} (o : Outcome A) (r : Refusal) : Type 0 where

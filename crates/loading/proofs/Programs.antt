@@ -19,6 +19,7 @@ use Rattle.engine.specs.Gap.{letters, wordAt, Searched}
 use Rattle.cells.specs.Stands.{Serves, Of}
 use Rattle.engine.specs.Run.{Reverses}
 use Rattle.engine.proofs.Letters.{letter-forward, letter-back, letters-cons, letters-nil}
+use Rattle.cells.proofs.Rules.{of-few}
 
 -- the bytes of letters that a table can have are those letters
 pub byte-letters : (n : ℕ) → n ≤ 16 → (w : Word) → All (LetterInRange n) w → letters (map byte w) ≡ w
@@ -41,7 +42,7 @@ module _ (cells : List ℕ) (size : ℕ) (T : Presentation) (o : Of cells size T
   ready = written area right (plainProgram w)
 
   few : size ≤ 16
-  few = omega (arith, o .sized, o .stands .few)
+  few = of-few o
 
   pub word-loaded : wordAt ready 0 right ≡ w
   unfolding wordAt

@@ -1,9 +1,10 @@
--- Reading a table and a program, as reverse, enquire and commit begin; and a table and two forward programs, as compare, chain and check do.
+-- Reading a table and a program, as reverse, enquire and commit begin, ways and tray with a program of forward moves; and a table and two programs, as compare,
+-- chain and check do, and compare_signed with programs of either sign.
 use mathlib.Core.Path.{_≡_, refl, sym, ap, _∙_}
 use mathlib.Core.List.{List}
-use Prim.Native.Nat.{ℕ, _≤_}
+use Prim.Native.Nat.{ℕ}
 use native.Mathlib.Omega.{arith}
-use Rattle.model.specs.Word.{Word, Positive}
+use Rattle.model.specs.Word.{Positive}
 use Rattle.model.specs.Presentation.{Presentation}
 use Rattle.model.specs.Outcome.{Outcome, answered, refused, _>>=_}
 use Rattle.model.specs.Images.{readTable, readProgram}
@@ -11,11 +12,13 @@ use Rattle.model.specs.Services.{readForward}
 use Rattle.model.specs.Areas.{Compares}
 use Rattle.model.specs.Stated.{refusal}
 use Rattle.model.specs.declared.answers.Refusal.{Refusal}
+use Rattle.model.proofs.Outcomes.{still-refused, goes-on}
 use Rattle.images.specs.Programs.{ProgramOf, ForwardOf}
-use Rattle.images.specs.Tables.{Loaded, TableOf}
-use Rattle.loading.specs.Loading.{readTableProgram, ProgramLoaded, Images, readPrograms, ProgramsLoaded}
-use Rattle.loading.proofs.Early.{Early, early-then, wider, table-early, program-early, images-early}
-use Rattle.loading.proofs.Outcomes.{AsFound, still-refused, goes-on, reading-refused}
+use Rattle.images.specs.Tables.{TableOf}
+use Rattle.cells.proofs.Rules.{of-some, of-few}
+use Rattle.loading.specs.Loading.{readTableWith, ProgramLoaded, ForwardLoaded, Images, readImages, ProgramsLoaded}
+use Rattle.loading.proofs.Early.{Early, early-then, wider, table-early, forward-early}
+use Rattle.loading.proofs.Outcomes.{AsFound, reading-refused}
 
 -- a reading of two parts, and then the rest
 regrouped : {A B C : Type 0} (o : Outcome A) (f : A → Outcome B) (rest : B → Outcome C) (g : A → Outcome C) → ((x : A) → (f x >>= rest) ≡ g x)
@@ -23,102 +26,124 @@ regrouped : {A B C : Type 0} (o : Outcome A) (f : A → Outcome B) (rest : B →
 regrouped (answered x) f rest g e = e x
 regrouped (refused n ps) f rest g e = refl
 
-pub loaded-size : {o : Outcome Presentation} {cells : List ℕ} {size : ℕ} → Loaded o cells size → (1 ≤ size) × (size ≤ 16)
-loaded-size t = (omega (arith, t .of .sized, t .of .stands .some), omega (arith, t .of .sized, t .of .stands .few))
-
 -- ONE PROGRAM
 
-module _ (table program : List ℕ) where
-  pub no-table-no-program : (r : Refusal) → readTable table ≡ refusal r → readTableProgram table program ≡ refusal r
-  unfolding readTableProgram
-  no-table-no-program r e = still-refused (readTable table) r e _
-
-  module _ {cells : List ℕ} {size : ℕ} (t : TableOf table cells size) where
-    sized-program : readProgram (t .table .size) program ≡ readProgram size program
-    sized-program = ap (λ i. readProgram i program) (t .of .sized)
-
-    pub no-program : (r : Refusal) → readProgram size program ≡ refusal r → readTableProgram table program ≡ refusal r
-    unfolding readTableProgram
-    no-program r e = goes-on (readTable table) (t .table) (t .read) _ ∙ still-refused (readProgram (t .table .size) program) r (sized-program ∙ e) _
-
-    pub program-loaded : {count : ℕ} → ProgramOf program size count → ProgramLoaded table program cells size count
-    program-loaded p =
-        record {
-          runs = record { table = t .table; of = t .of; accepted = record { some = loaded-size t .0; few = loaded-size t .1; program = p } };
-          table-read = t .read;
-          program-read = sized-program ∙ p .read;
-        }
-
-  table-program-early : Early 6 (readTableProgram table program)
-  unfolding readTableProgram
-  table-program-early =
-      early-then 6 (readTable table) _ (wider 3 6 (readTable table) (omega arith) (table-early table))
-      (λ T. early-then 6 (readProgram (T .size) program) _ (program-early (T .size) program) (λ w. tt))
-
-  -- a service that reads the two images, and then has only the rest to do
-  module _ {A : Type 0} (rest : Presentation → Word → Outcome A) where
-    abbrev program-service : Outcome A
-    program-service = readTable table >>= λ T. readProgram (T .size) program >>= rest T
-
-    reads-program : program-service ≡ (readTableProgram table program >>= λ l. rest (l .table) (l .word))
-    unfolding readTableProgram
-    reads-program =
-        sym (regrouped (readTable table) _ (λ l. rest (l .table) (l .word)) _
-        (λ T. regrouped (readProgram (T .size) program) _ (λ l. rest (l .table) (l .word)) _ (λ w. refl)))
-
-    pub program-refused : (r : Refusal) → readTableProgram table program ≡ refusal r → AsFound program-service r
-    program-refused r e = reading-refused program-service (readTableProgram table program) (λ l. rest (l .table) (l .word)) reads-program r e 6 table-program-early (omega arith)
-
-    pub program-runs : (T : Presentation) (w : Word) → readTable table ≡ answered T → readProgram (T .size) program ≡ answered w → program-service ≡ rest T w
-    program-runs T w e f = goes-on (readTable table) T e _ ∙ goes-on (readProgram (T .size) program) w f _
-
--- TWO FORWARD PROGRAMS
-
-module _ (table first second : List ℕ) where
-  pub no-table : (r : Refusal) → readTable table ≡ refusal r → readPrograms table first second ≡ refusal r
-  unfolding readPrograms
+module _ {W : Type 0} (read : ℕ → List ℕ → Outcome W) (table program : List ℕ) where
+  pub no-table : (r : Refusal) → readTable table ≡ refusal r → readTableWith read table program ≡ refusal r
+  unfolding readTableWith
   no-table r e = still-refused (readTable table) r e _
 
-  -- programs under the table that was loaded
   module _ {cells : List ℕ} {size : ℕ} (t : TableOf table cells size) where
-    sized : (image : List ℕ) → readForward (t .table .size) image ≡ readForward size image
-    sized image = ap (λ i. readForward i image) (t .of .sized)
+    sized : read (t .table .size) program ≡ read size program
+    sized = ap (λ i. read i program) (t .of .sized)
 
-    pub no-first : (r : Refusal) → readForward size first ≡ refusal r → readPrograms table first second ≡ refusal r
-    unfolding readPrograms
-    no-first r e = goes-on (readTable table) (t .table) (t .read) _ ∙ still-refused (readForward (t .table .size) first) r (sized first ∙ e) _
+    pub no-program : (r : Refusal) → read size program ≡ refusal r → readTableWith read table program ≡ refusal r
+    unfolding readTableWith
+    no-program r e = goes-on (readTable table) (t .table) (t .read) _ ∙ still-refused (read (t .table .size) program) r (sized ∙ e) _
 
-    module _ {m : ℕ} (one : ForwardOf first size m) where
-      pub no-second : (r : Refusal) → readForward size second ≡ refusal r → readPrograms table first second ≡ refusal r
-      unfolding readPrograms
-      no-second r e =
-          goes-on (readTable table) (t .table) (t .read) _
-          ∙ (goes-on (readForward (t .table .size) first) (one .word) (sized first ∙ one .read) _
-          ∙ still-refused (readForward (t .table .size) second) r (sized second ∙ e) _)
+  pub table-with-early : ((n : ℕ) (bytes : List ℕ) → Early 7 (read n bytes)) → Early 7 (readTableWith read table program)
+  unfolding readTableWith
+  table-with-early early =
+      early-then 7 (readTable table) _ (wider 3 7 (readTable table) (omega arith) (table-early table))
+      (λ T. early-then 7 (read (T .size) program) _ (early (T .size) program) (λ w. tt))
 
-      pub programs-loaded : {n : ℕ} → ForwardOf second size n → ProgramsLoaded table first second cells size m n
-      programs-loaded two =
-          record {
-            forward = record { table = t .table; of = t .of; pair = record { some = loaded-size t .0; few = loaded-size t .1; one = one; two = two } };
-            reads = record { table-read = t .read; first-read = sized first ∙ one .read; second-read = sized second ∙ two .read };
-          }
+  -- a service that reads the two images, and then has only the rest to do
+  module _ {A : Type 0} (rest : Presentation → W → Outcome A) where
+    abbrev program-service : Outcome A
+    program-service = readTable table >>= λ T. read (T .size) program >>= rest T
+
+    reads-program : program-service ≡ (readTableWith read table program >>= λ l. rest (l .table) (l .word))
+    unfolding readTableWith
+    reads-program =
+        sym (regrouped (readTable table) _ (λ l. rest (l .table) (l .word)) _
+        (λ T. regrouped (read (T .size) program) _ (λ l. rest (l .table) (l .word)) _ (λ w. refl)))
+
+    pub program-still-refused : (r : Refusal) → readTableWith read table program ≡ refusal r → program-service ≡ refusal r
+    program-still-refused r e = reads-program ∙ still-refused (readTableWith read table program) r e _
+
+    pub program-refused : ((n : ℕ) (bytes : List ℕ) → Early 7 (read n bytes)) → (r : Refusal) → readTableWith read table program ≡ refusal r → AsFound program-service r
+    program-refused early r e =
+        reading-refused program-service (readTableWith read table program) (λ l. rest (l .table) (l .word)) reads-program r e 7 (table-with-early early) (omega arith)
+
+    pub program-runs : (T : Presentation) (w : W) → readTable table ≡ answered T → read (T .size) program ≡ answered w → program-service ≡ rest T w
+    program-runs T w e f = goes-on (readTable table) T e _ ∙ goes-on (read (T .size) program) w f _
+
+module _ (table program : List ℕ) {cells : List ℕ} {size count : ℕ} (t : TableOf table cells size) where
+  pub program-loaded : ProgramOf program size count → ProgramLoaded table program cells size count
+  program-loaded p =
+      record {
+        runs = record { table = t .table; of = t .of; accepted = record { some = of-some (t .of); few = of-few (t .of); program = p } };
+        table-read = t .read;
+        program-read = sized readProgram table program t ∙ p .read;
+      }
+
+  pub forward-loaded : ForwardOf program size count → ForwardLoaded table program cells size count
+  forward-loaded f =
+      record {
+        runs = record { table = t .table; of = t .of; forward = f };
+        table-read = t .read;
+        program-read = sized readForward table program t ∙ f .read;
+      }
+
+-- TWO PROGRAMS
+
+module _ {W : Type 0} (read : ℕ → List ℕ → Outcome W) (table first second : List ℕ) where
+  -- what is left to read after the first
+  abbrev then-second : Presentation → W → Outcome (Images W)
+  then-second T u = read (T .size) second >>= λ v. answered (record { table = T; first = u; second = v })
+
+  pub no-first : (r : Refusal) → readTableWith read table first ≡ refusal r → readImages read table first second ≡ refusal r
+  unfolding readImages
+  no-first r e = program-still-refused read table first then-second r e
+
+  pub no-second : (T : Presentation) (u : W) → readTable table ≡ answered T → read (T .size) first ≡ answered u → (r : Refusal) → read (T .size) second ≡ refusal r
+      → readImages read table first second ≡ refusal r
+  unfolding readImages
+  no-second T u e f r g = program-runs read table first then-second T u e f ∙ still-refused (read (T .size) second) r g _
+
+  images-early : ((n : ℕ) (bytes : List ℕ) → Early 7 (read n bytes)) → Early 7 (readImages read table first second)
+  unfolding readImages
+  images-early early =
+      early-then 7 (readTable table) _ (wider 3 7 (readTable table) (omega arith) (table-early table))
+      (λ T. early-then 7 (read (T .size) first) _ (early (T .size) first) (λ u. early-then 7 (read (T .size) second) _ (early (T .size) second) (λ v. tt)))
 
   -- a service that reads the three images, and then has only the rest to do
-  module _ {A : Type 0} (rest : Images → Outcome A) where
+  module _ {A : Type 0} (rest : Images W → Outcome A) where
     abbrev service : Outcome A
-    service = readTable table >>= λ T. readForward (T .size) first >>= λ u. readForward (T .size) second >>= λ v. rest (record { table = T; first = u; second = v })
+    service = readTable table >>= λ T. read (T .size) first >>= λ u. read (T .size) second >>= λ v. rest (record { table = T; first = u; second = v })
 
-    reads-pair : service ≡ (readPrograms table first second >>= rest)
-    unfolding readPrograms
-    reads-pair =
+    reads-images : service ≡ (readImages read table first second >>= rest)
+    unfolding readImages
+    reads-images =
         sym (regrouped (readTable table) _ rest _
-        (λ T. regrouped (readForward (T .size) first) _ rest _
-        (λ u. regrouped (readForward (T .size) second) _ rest _ (λ v. refl))))
+        (λ T. regrouped (read (T .size) first) _ rest _
+        (λ u. regrouped (read (T .size) second) _ rest _ (λ v. refl))))
 
-    pub programs-refused : (r : Refusal) → readPrograms table first second ≡ refusal r → AsFound service r
-    programs-refused r e = reading-refused service (readPrograms table first second) rest reads-pair r e 7 (images-early table first second) (omega arith)
+    pub images-refused : ((n : ℕ) (bytes : List ℕ) → Early 7 (read n bytes)) → (r : Refusal) → readImages read table first second ≡ refusal r → AsFound service r
+    images-refused early r e = reading-refused service (readImages read table first second) rest reads-images r e 7 (images-early early) (omega arith)
 
-    pub programs-run : (T : Presentation) (u v : Positive) → Compares table first second T u v → service ≡ rest (record { table = T; first = u; second = v })
-    programs-run T u v c =
-        goes-on (readTable table) T (c .table-read) _
-        ∙ (goes-on (readForward (T .size) first) u (c .first-read) _ ∙ goes-on (readForward (T .size) second) v (c .second-read) _)
+    pub images-run : (T : Presentation) (u v : W) → readTable table ≡ answered T → read (T .size) first ≡ answered u → read (T .size) second ≡ answered v
+        → service ≡ rest (record { table = T; first = u; second = v })
+    images-run T u v e f g =
+        program-runs read table first (λ T u. read (T .size) second >>= λ v. rest (record { table = T; first = u; second = v })) T u e f
+        ∙ goes-on (read (T .size) second) v g _
+
+-- .. of forward moves
+module _ (table first second : List ℕ) where
+  pub programs-loaded : {cells : List ℕ} {size m n : ℕ} → ForwardLoaded table first cells size m → ForwardOf second size n → ProgramsLoaded table first second cells size m n
+  programs-loaded l two =
+      let o = l .runs .of in
+      record {
+        forward = record { table = l .runs .table; of = o; pair = record { some = of-some o; few = of-few o; one = l .runs .forward; two = two } };
+        reads = record { table-read = l .table-read; first-read = l .program-read; second-read = ap (λ i. readForward i second) (o .sized) ∙ two .read };
+      }
+
+  module _ {A : Type 0} (rest : Images Positive → Outcome A) where
+    abbrev forward-service : Outcome A
+    forward-service = readTable table >>= λ T. readForward (T .size) first >>= λ u. readForward (T .size) second >>= λ v. rest (record { table = T; first = u; second = v })
+
+    pub programs-refused : (r : Refusal) → readImages readForward table first second ≡ refusal r → AsFound forward-service r
+    programs-refused = images-refused readForward table first second rest forward-early
+
+    pub programs-run : (T : Presentation) (u v : Positive) → Compares table first second T u v → forward-service ≡ rest (record { table = T; first = u; second = v })
+    programs-run T u v c = images-run readForward table first second rest T u v (c .table-read) (c .first-read) (c .second-read)

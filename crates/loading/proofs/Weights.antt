@@ -11,7 +11,7 @@ use Rattle.model.specs.Range.{InRange, Lettered}
 use Rattle.model.proofs.Equiv.{total-more}
 use Rattle.cells.specs.Layout.{weightAt}
 use Rattle.cells.specs.Stands.{Of}
-use Rattle.cells.proofs.Rules.{held-weight, light-letter}
+use Rattle.cells.proofs.Rules.{of-some, of-few, held-weight, light-letter}
 use Rattle.images.specs.Programs.{ForwardOf, Accepted}
 use Rattle.images.proofs.RoundTrip.{program-in-range}
 use Rattle.engine.proofs.Lettering.{length-positive}
@@ -29,12 +29,12 @@ letter-named n (a ∷ u) (suc i) p h = letter-named n u i (p .1) (omega arith)
 
 module _ (cells : List ℕ) (size : ℕ) (program : List ℕ) (count : ℕ) (T : Presentation) (o : Of cells size T) (f : ForwardOf program size count) where
   pub few : size ≤ 16
-  few = omega (arith, o .sized, o .stands .few)
+  few = of-few o
 
   pub accepted : Accepted program size count
   accepted =
       record {
-        some = omega (arith, o .sized, o .stands .some);
+        some = of-some o;
         few = few;
         program = record { word = positive (f .word); read = f .read-signed; count-is = length-positive (f .word) ∙ f .count-is };
       }

@@ -1,7 +1,7 @@
 ghost use mathlib.Core.Path.{_≡_};
 ghost use lib.ListN.{length};
 ghost use Rattle.cells.specs.Stands.{Blank};
-ghost use Rattle.loading.specs.Loading.{TableProgramDone, ProgramsDone, ProgramRuns, ProgramReverses};
+ghost use Rattle.loading.specs.Loading.{TableProgramDone, TableForwardDone, ProgramsDone, ProgramRuns, ProgramReverses};
 use engine::gap::Gap;
 use engine::run::reversing;
 use images::programs::ProgramRead;
@@ -14,7 +14,7 @@ use model::answers::Ending;
 use model::answers::Refusal;
 use model::answers::Stop;
 
-// A table of so many letters, and two forward programs of m and n letters.
+// A table of so many letters, and two programs of m and n letters.
 pub enum ProgramsRead {
     Programs { size: u8, m: u16, n: u16 },
     Refused(Refusal),
@@ -44,25 +44,37 @@ pub fn read_table_program(table: &[u8], program: &[u8], cells: &mut [u8]) -> Tab
     }
 }
 
+// Reads a table image into cells, then the image of a forward program.
+pub fn read_table_forward(table: &[u8], program: &[u8], cells: &mut [u8]) -> TableProgram
+    requires { ⌜ Blank (now cells) ⌝ }
+    ensures { λ r. ⌜ TableForwardDone (now (table .entry)) (now (program .entry)) (now (cells .exit)) r ⌝ }
+{
+    let read = read_table(table, cells);
+    match read {
+        TableRead::Refused(refusal) => TableProgram::Refused(refusal),
+        TableRead::Table { size } => {
+            let accepted = read_forward(program, size);
+            match accepted {
+                ProgramRead::Refused(refusal) => TableProgram::Refused(refusal),
+                ProgramRead::Program { count } => TableProgram::Loaded { size, count },
+            }
+        }
+    }
+}
+
 // Reads a table image into cells, then the images of two forward programs.
 pub fn read_programs(table: &[u8], first: &[u8], second: &[u8], cells: &mut [u8]) -> ProgramsRead
     requires { ⌜ Blank (now cells) ⌝ }
     ensures { λ r. ⌜ ProgramsDone (now (table .entry)) (now (first .entry)) (now (second .entry)) (now (cells .exit)) r ⌝ }
 {
-    let read = read_table(table, cells);
+    let read = read_table_forward(table, first, cells);
     match read {
-        TableRead::Refused(refusal) => ProgramsRead::Refused(refusal),
-        TableRead::Table { size } => {
-            let one = read_forward(first, size);
-            match one {
+        TableProgram::Refused(refusal) => ProgramsRead::Refused(refusal),
+        TableProgram::Loaded { size, count: m } => {
+            let two = read_forward(second, size);
+            match two {
                 ProgramRead::Refused(refusal) => ProgramsRead::Refused(refusal),
-                ProgramRead::Program { count: m } => {
-                    let two = read_forward(second, size);
-                    match two {
-                        ProgramRead::Refused(refusal) => ProgramsRead::Refused(refusal),
-                        ProgramRead::Program { count: n } => ProgramsRead::Programs { size, m, n },
-                    }
-                }
+                ProgramRead::Program { count: n } => ProgramsRead::Programs { size, m, n },
             }
         }
     }

@@ -17,6 +17,7 @@ use Rattle.model.specs.declared.answers.Stop.the-variants.{Budget, Room}
 use Rattle.model.specs.declared.answers.Refusal.{Refusal}
 use Rattle.model.specs.declared.answers.Refusal.the-variants.{UnequalWeights, NoMirror}
 use Rattle.model.specs.declared.answers.Cleared.the-variants.{Refused}
+use Rattle.model.proofs.Outcomes.{still-refused, goes-on}
 use Rattle.theory.specs.Mirrors.{MirrorMeaning}
 use Rattle.theory.proofs.MirrorClearing.{mirror-meaning}
 use Rattle.images.proofs.RoundTrip.{table-in-range}
@@ -24,7 +25,6 @@ use Rattle.checks.specs.Table.{triplesAs, WeightsMean, TriplesMean}
 use Rattle.checks.specs.declared.table.Weights.the-variants.{Equal, Unequal}
 use Rattle.checks.specs.declared.table.Triples.{Triples}
 use Rattle.checks.specs.declared.table.Triples.the-variants.{Hold, Fail, Halt}
-use Rattle.loading.proofs.Outcomes.{still-refused, goes-on}
 use Rattle.mirror_clearing.specs.MirrorClear.{mirrorRefusal, MirrorMeans, MirrorClearMeaning}
 
 -- what is said of the mirror's triples is what is answered

@@ -1,4 +1,5 @@
 pub mod Impossible
+pub mod Outcomes
 pub mod Booleans
 pub mod Numbers
 pub mod Pairs

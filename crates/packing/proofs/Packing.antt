@@ -18,7 +18,7 @@ use Rattle.model.specs.Images.{readTable, readProgram, programImage, tableImage
 use Rattle.model.specs.Plain.{plainProgram, readPlainProgram, readPlainTable, plainPair, plainTable}
 use Rattle.model.specs.Enumeration.{concatMap}
 use Rattle.model.specs.Services.{fitted, unpackProgram, packProgram, packTable, unpackTable}
-use Rattle.images.proofs.Refusals.{refused-on}
+use Rattle.model.proofs.Outcomes.{still-refused}
 pub use Rattle.model.proofs.Fitted.{short-area, long-area}
 
 -- the promise: the result is the outcome's, the area is what the outcome leaves, and what is written reads back as the subject
@@ -47,7 +47,7 @@ module _ (table program : List ℕ) (area : ℕ) where
 
   pub unpack-table-refused : (r : Refusal) → readTable table ≡ refusal r → unpackProgram table program area ≡ refusal r
   unfolding unpackProgram unpacked
-  unpack-table-refused r e = refused-on (readTable table) unpacked r e
+  unpack-table-refused r e = still-refused (readTable table) r e unpacked
 
   module _ (T : Presentation) (size : ℕ) (e : readTable table ≡ answered T) (s : T .size ≡ size) where
     unpack-is : unpackProgram table program area ≡ (readProgram size program >>= λ w. fitted area (plainProgram w))
@@ -55,7 +55,7 @@ module _ (table program : List ℕ) (area : ℕ) where
     unpack-is = ap (λ o. o >>= unpacked) e ∙ ap (λ n. readProgram n program >>= λ w. fitted area (plainProgram w)) s
 
     pub unpack-program-refused : (r : Refusal) → readProgram size program ≡ refusal r → unpackProgram table program area ≡ refusal r
-    unpack-program-refused r p = unpack-is ∙ refused-on (readProgram size program) (λ w. fitted area (plainProgram w)) r p
+    unpack-program-refused r p = unpack-is ∙ still-refused (readProgram size program) r p (λ w. fitted area (plainProgram w))
 
     pub unpack-read : (w : Word) → readProgram size program ≡ answered w → unpackProgram table program area ≡ fitted area (plainProgram w)
     unpack-read w p = unpack-is ∙ ap (λ o. o >>= λ w. fitted area (plainProgram w)) p
@@ -66,7 +66,7 @@ module _ (table program : List ℕ) (area : ℕ) where
 
   pub pack-table-refused : (r : Refusal) → readTable table ≡ refusal r → packProgram table program area ≡ refusal r
   unfolding packProgram packedOf
-  pack-table-refused r e = refused-on (readTable table) packedOf r e
+  pack-table-refused r e = still-refused (readTable table) r e packedOf
 
   module _ (T : Presentation) (size : ℕ) (e : readTable table ≡ answered T) (s : T .size ≡ size) where
     pack-is : packProgram table program area ≡ (readPlainProgram size program >>= λ w. fitted area (programImage size w))
@@ -74,7 +74,7 @@ module _ (table program : List ℕ) (area : ℕ) where
     pack-is = ap (λ o. o >>= packedOf) e ∙ ap (λ n. readPlainProgram n program >>= λ w. fitted area (programImage n w)) s
 
     pub pack-program-refused : (r : Refusal) → readPlainProgram size program ≡ refusal r → packProgram table program area ≡ refusal r
-    pack-program-refused r p = pack-is ∙ refused-on (readPlainProgram size program) (λ w. fitted area (programImage size w)) r p
+    pack-program-refused r p = pack-is ∙ still-refused (readPlainProgram size program) r p (λ w. fitted area (programImage size w))
 
     pub pack-read : (w : Word) → readPlainProgram size program ≡ answered w → packProgram table program area ≡ fitted area (programImage size w)
     pack-read w p = pack-is ∙ ap (λ o. o >>= λ w. fitted area (programImage size w)) p
@@ -83,7 +83,7 @@ module _ (table program : List ℕ) (area : ℕ) where
 module _ (table : List ℕ) (area : ℕ) where
   pub table-refused : (r : Refusal) → readTable table ≡ refusal r → unpackTable table area ≡ refusal r
   unfolding unpackTable
-  table-refused r e = refused-on (readTable table) (λ T. fitted area (plainTable T)) r e
+  table-refused r e = still-refused (readTable table) r e (λ T. fitted area (plainTable T))
 
   pub table-read : (T : Presentation) → readTable table ≡ answered T → unpackTable table area ≡ fitted area (plainTable T)
   unfolding unpackTable
@@ -92,7 +92,7 @@ module _ (table : List ℕ) (area : ℕ) where
   -- PACK A TABLE
   pub plain-refused : (r : Refusal) → readPlainTable table ≡ refusal r → packTable table area ≡ refusal r
   unfolding packTable
-  plain-refused r e = refused-on (readPlainTable table) (λ T. fitted area (tableImage T)) r e
+  plain-refused r e = still-refused (readPlainTable table) r e (λ T. fitted area (tableImage T))
 
   pub plain-read : (T : Presentation) → readPlainTable table ≡ answered T → packTable table area ≡ fitted area (tableImage T)
   unfolding packTable

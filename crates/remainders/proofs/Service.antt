@@ -9,16 +9,17 @@ use Rattle.model.specs.Presentation.{Presentation, weigh}
 use Rattle.model.specs.Reversing.{reversing}
 use Rattle.model.specs.Outcome.{Outcome, answered, refused, mapped}
 use Rattle.model.specs.Checks.{cleared}
-use Rattle.model.specs.Services.{Remainder, moves-after, none-after, remainderOf, quotient, remainder}
+use Rattle.model.specs.Services.{readForward, Remainder, moves-after, none-after, remainderOf, quotient, remainder}
 use Rattle.model.specs.Areas.{Compares, remainderBytes, outputAfter, workspaceAfter}
 use Rattle.model.specs.Stated.{refusal, counted}
 use Rattle.model.specs.declared.answers.Refusal.{Refusal}
 use Rattle.model.specs.declared.answers.Remaining.{Remaining}
 use Rattle.model.specs.declared.answers.Remaining.the-variants.{Nothing, Refused}
+use Rattle.model.proofs.Outcomes.{still-refused}
 use Rattle.theory.specs.Remainders.{QuotientMeaning}
 use Rattle.theory.proofs.Remainders.{lighter, as-heavy, quotient-meaning}
-use Rattle.loading.specs.Loading.{Images, readPrograms}
-use Rattle.loading.proofs.Outcomes.{AsFound, still-refused}
+use Rattle.loading.specs.Loading.{Images, readImages}
+use Rattle.loading.proofs.Outcomes.{AsFound}
 use Rattle.loading.proofs.Reading.{programs-refused, programs-run}
 use Rattle.remainders.specs.Remainder.{States, movesLeft, RemainderMeaning}
 
@@ -54,10 +55,10 @@ left-outcome (answered (none-after k)) before = refl
 left-outcome (refused n ps) before = refl
 
 module _ (table done pattern : List ℕ) (steps width area : ℕ) where
-  abbrev concludes : Images → Outcome (Remainder Positive)
+  abbrev concludes : Images Positive → Outcome (Remainder Positive)
   concludes p = quotient (p .table) (p .first) (p .second) steps width area
 
-  pub remainder-refused : (r : Refusal) → readPrograms table done pattern ≡ refusal r → AsFound (remainder table done pattern steps width area) r
+  pub remainder-refused : (r : Refusal) → readImages readForward table done pattern ≡ refusal r → AsFound (remainder table done pattern steps width area) r
   unfolding remainder
   remainder-refused = programs-refused table done pattern concludes
 

@@ -15,7 +15,8 @@ use Rattle.model.specs.Stated.{refusal}
 use Rattle.model.specs.declared.answers.Refusal.{Refusal}
 use Rattle.theory.specs.Orders.{OrderMeaning}
 use Rattle.theory.proofs.Orders.{order-meaning}
-use Rattle.loading.specs.Loading.{readTableProgram}
+use Rattle.loading.specs.Loading.{readTableWith}
+use Rattle.loading.proofs.Early.{program-early}
 use Rattle.loading.proofs.Outcomes.{AsFound}
 use Rattle.loading.proofs.Reading.{program-refused, program-runs}
 use Rattle.reversal.specs.Reverse.{fractionLeft, ReverseMeaning}
@@ -37,13 +38,13 @@ left-outcome (answered f) before = ap answered (left-fraction f before)
 left-outcome (refused i numbers) before = refl
 
 module _ (table program : List ℕ) (steps width area : ℕ) where
-  pub reverse-refused : (r : Refusal) → readTableProgram table program ≡ refusal r → AsFound (reverse table program steps width area) r
+  pub reverse-refused : (r : Refusal) → readTableWith readProgram table program ≡ refusal r → AsFound (reverse table program steps width area) r
   unfolding reverse
-  reverse-refused = program-refused table program (λ T w. fractionOf area (reversing T steps width w))
+  reverse-refused = program-refused readProgram table program (λ T w. fractionOf area (reversing T steps width w)) program-early
 
   pub reverse-runs : (T : Presentation) → readTable table ≡ answered T → (w : Word) → readProgram (T .size) program ≡ answered w → reverse table program steps width area ≡ fractionOf area (reversing T steps width w)
   unfolding reverse
-  reverse-runs T e w f = program-runs table program (λ T w. fractionOf area (reversing T steps width w)) T w e f
+  reverse-runs T e w f = program-runs readProgram table program (λ T w. fractionOf area (reversing T steps width w)) T w e f
 
   pub reverse-says : (told : Outcome Sizes) (before after : List ℕ) → told ≡ mapped sizes (reverse table program steps width area)
       → after ≡ outputAfter fractionBytes (reverse table program steps width area) before → ReverseMeaning table program told after

@@ -7,23 +7,18 @@ use lib.ListN.{length, take, drop, length-append, length-map, length-drop, take-
 use lib.Seq.{take-at, drop-at, drop-length, length-take-le}
 use Rattle.model.specs.Word.{Word, byte, inverse}
 use Rattle.model.specs.Presentation.{Presentation}
-use Rattle.model.specs.Images.{readTable, readProgram}
 use Rattle.model.specs.Plain.{plainProgram}
 use Rattle.model.specs.Range.{LetterInRange, Lettered, ProgramInRange}
 use Rattle.theory.proofs.Letters.{all-append, inverse-lettered}
 use Rattle.model.specs.Areas.{written}
-use Rattle.model.specs.Stated.{refusal}
-use Rattle.model.specs.declared.answers.Refusal.{Refusal}
 use Rattle.images.specs.Programs.{ProgramOf}
-use Rattle.images.specs.Tables.{TableOf}
 use Rattle.engine.specs.Gap.{letters, wordAt, Searched}
 use Rattle.engine.specs.Words.{Inverted}
 use Rattle.engine.proofs.Letters.{letters-append}
 use Rattle.cells.specs.Stands.{Serves, Of}
+use Rattle.loading.specs.Loading.{ProgramLoaded}
 use Rattle.loading.proofs.Programs.{byte-letters}
-use Rattle.loading.proofs.Outcomes.{still-refused, goes-on}
-use Rattle.loading.proofs.Reading.{loaded-size}
-use Rattle.signed_comparing.specs.Running.{readSigned, SignedLoaded}
+use Rattle.signed_comparing.specs.Running.{SignedLoaded}
 
 -- LOADING
 
@@ -101,36 +96,11 @@ module _ (cells : List ℕ) (size : ℕ) (T : Presentation) (o : Of cells size T
 
 -- READING
 
-module _ (table first second : List ℕ) where
-  pub no-table : (r : Refusal) → readTable table ≡ refusal r → readSigned table first second ≡ refusal r
-  unfolding readSigned
-  no-table r e = still-refused (readTable table) r e _
-
-  module _ {cells : List ℕ} {size : ℕ} (t : TableOf table cells size) where
-    sized : (image : List ℕ) → readProgram (t .table .size) image ≡ readProgram size image
-    sized image = ap (λ i. readProgram i image) (t .of .sized)
-
-    pub no-first : (r : Refusal) → readProgram size first ≡ refusal r → readSigned table first second ≡ refusal r
-    unfolding readSigned
-    no-first r e = goes-on (readTable table) (t .table) (t .read) _ ∙ still-refused (readProgram (t .table .size) first) r (sized first ∙ e) _
-
-    module _ {m : ℕ} (one : ProgramOf first size m) where
-      pub no-second : (r : Refusal) → readProgram size second ≡ refusal r → readSigned table first second ≡ refusal r
-      unfolding readSigned
-      no-second r e =
-          goes-on (readTable table) (t .table) (t .read) _
-          ∙ (goes-on (readProgram (t .table .size) first) (one .word) (sized first ∙ one .read) _
-          ∙ still-refused (readProgram (t .table .size) second) r (sized second ∙ e) _)
-
-      pub signed-loaded : {n : ℕ} → ProgramOf second size n → SignedLoaded table first second cells size m n
-      signed-loaded two = record {
-        runs = record {
-          table = t .table;
-          of = t .of;
-          programs = record {
-            one = record { some = loaded-size t .0; few = loaded-size t .1; program = one };
-            two = record { some = loaded-size t .0; few = loaded-size t .1; program = two };
-          };
-        };
-        table-read = t .read;
-      }
+pub signed-loaded : (table first second : List ℕ) {cells : List ℕ} {size m n : ℕ} → ProgramLoaded table first cells size m → ProgramOf second size n
+    → SignedLoaded table first second cells size m n
+signed-loaded table first second l two =
+    let r = l .runs in
+    record {
+      runs = record { table = r .table; of = r .of; programs = record { one = r .accepted; two = record { some = r .accepted .some; few = r .accepted .few; program = two } } };
+      table-read = l .table-read;
+    }

@@ -17,10 +17,10 @@ use Rattle.model.specs.declared.answers.Stop.the-variants.{Budget, Room}
 use Rattle.model.specs.declared.answers.Refusal.{Refusal}
 use Rattle.model.specs.declared.answers.Refusal.the-variants.{NoMirror}
 use Rattle.model.specs.declared.answers.Cleared.the-variants.{Passed, Refused}
+use Rattle.model.proofs.Outcomes.{still-refused, goes-on}
 use Rattle.cells.specs.Stands.{Of}
 use Rattle.checks.specs.Table.{TriplesMean}
 use Rattle.checks.specs.declared.table.Triples.{Triples}
-use Rattle.loading.proofs.Outcomes.{still-refused, goes-on}
 use Rattle.mirror_clearing.specs.MirrorClear.{mirrorRefusal}
 use Rattle.mirror_clearing.proofs.MirrorService.{mirror-stated, mirror-wipe}
 use Rattle.sets.specs.Growing.{grownAs}

@@ -2,8 +2,7 @@
 use mathlib.Core.Path.{_≡_, refl, sym, ap, subst, _∙_}
 use mathlib.Core.List.{List, [], _∷_, _++_}
 use mathlib.Core.Bool.{Bool, true, false, cond}
-use Prim.Native.Nat.{ℕ, _+_}
-use native.Mathlib.Omega.{arith}
+use Prim.Native.Nat.{ℕ}
 use lib.Dec.{eqb}
 use lib.ListN.{length, replicate}
 use Rattle.model.specs.Word.{Word, positive, negative, inverse}
@@ -26,15 +25,17 @@ use Rattle.model.specs.declared.answers.Refusal.the-variants.{OpenPair}
 use Rattle.model.specs.declared.answers.Compared.{Compared}
 use Rattle.model.specs.declared.answers.Compared.the-variants.{Same, Different, Refused}
 use Rattle.model.specs.declared.answers.ComparedSigned.the-variants.{Refused as SignedRefused}
+use Rattle.model.proofs.Outcomes.{still-refused, goes-on}
 use Rattle.theory.specs.Signed.{ComparisonSigned}
 use Rattle.theory.proofs.SignedComparison.{comparison-signed}
 use Rattle.images.proofs.RoundTrip.{table-in-range, program-in-range}
 use Rattle.engine.specs.Run.{LeavesLetters, Reverses}
 use Rattle.engine.proofs.Ended.{done, finishable, met, halted, stop-numbered}
 use Rattle.cells.specs.Stands.{Stands}
-use Rattle.loading.proofs.Early.{Early, table-early, program-early, early-then, wider}
-use Rattle.loading.proofs.Outcomes.{AsFound, still-refused, goes-on, reading-refused}
-use Rattle.signed_comparing.specs.Running.{SignedImages, readSigned}
+use Rattle.loading.specs.Loading.{Images, readImages}
+use Rattle.loading.proofs.Early.{program-early}
+use Rattle.loading.proofs.Outcomes.{AsFound}
+use Rattle.loading.proofs.Reading.{images-refused, images-run}
 use Rattle.signed_comparing.specs.Preparing.{prepared}
 use Rattle.signed_comparing.specs.Fraction.{Left}
 use Rattle.signed_comparing.specs.Service.{afterFirstAs, SignedSays}
@@ -128,49 +129,22 @@ module _ (T : Presentation) (w v : Word) (steps width : ℕ) where
 
 -- THE SERVICE
 
-module _ (table first second : List ℕ) where
-  read-early : Early 6 (readSigned table first second)
-  unfolding readSigned
-  read-early =
-      early-then 6 (readTable table) _ (wider 3 6 (readTable table) (omega arith) (table-early table))
-      (λ T. early-then 6 (readProgram (T .size) first) _ (program-early (T .size) first) (λ w. early-then 6 (readProgram (T .size) second) _ (program-early (T .size) second) (λ v. tt)))
+module _ (table first second : List ℕ) (steps width : ℕ) where
+  abbrev judges : Images Word → Outcome SignedVerdict
+  judges p = signedComparison (p .table) (p .first) (p .second) steps width
 
-  module _ (steps width : ℕ) where
-    abbrev judges : SignedImages → Outcome SignedVerdict
-    judges p = signedComparison (p .table) (p .first) (p .second) steps width
+  pub read-refused : (r : Refusal) → readImages readProgram table first second ≡ refusal r → AsFound (compareSigned table first second steps width) r
+  unfolding compareSigned
+  read-refused = images-refused readProgram table first second judges program-early
 
-    -- reading, then comparing
-    reads-first : compareSigned table first second steps width ≡ (readSigned table first second >>= judges)
-    unfolding compareSigned readSigned
-    reads-first = by-table (readTable table)
-      where
-        by-second : (T : Presentation) (w : Word) (o : Outcome Word) → (o >>= λ v. signedComparison T w v steps width) ≡ ((o >>= λ v. answered (record { table = T; first = w; second = v })) >>= judges)
-        by-second T w (answered v) = refl
-        by-second T w (refused n p) = refl
+  pub compare-runs : (T : Presentation) (w v : Word) → readTable table ≡ answered T → readProgram (T .size) first ≡ answered w → readProgram (T .size) second ≡ answered v
+      → compareSigned table first second steps width ≡ signedComparison T w v steps width
+  unfolding compareSigned
+  compare-runs = images-run readProgram table first second judges
 
-        by-first : (T : Presentation) (o : Outcome Word)
-            → (o >>= λ w. readProgram (T .size) second >>= λ v. signedComparison T w v steps width)
-            ≡ ((o >>= λ w. readProgram (T .size) second >>= λ v. answered (record { table = T; first = w; second = v })) >>= judges)
-        by-first T (answered w) = by-second T w (readProgram (T .size) second)
-        by-first T (refused n p) = refl
-
-        by-table : (o : Outcome Presentation)
-            → (o >>= λ T. readProgram (T .size) first >>= λ w. readProgram (T .size) second >>= λ v. signedComparison T w v steps width)
-            ≡ ((o >>= λ T. readProgram (T .size) first >>= λ w. readProgram (T .size) second >>= λ v. answered (record { table = T; first = w; second = v })) >>= judges)
-        by-table (answered T) = by-first T (readProgram (T .size) first)
-        by-table (refused n p) = refl
-
-    pub read-refused : (r : Refusal) → readSigned table first second ≡ refusal r → AsFound (compareSigned table first second steps width) r
-    read-refused r e = reading-refused (compareSigned table first second steps width) (readSigned table first second) judges reads-first r e 6 read-early (omega arith)
-
-    module _ (T : Presentation) (t : readTable table ≡ answered T) (w v : Word) (ew : readProgram (T .size) first ≡ answered w) (ev : readProgram (T .size) second ≡ answered v) where
-      pub compare-runs : compareSigned table first second steps width ≡ signedComparison T w v steps width
-      unfolding compareSigned
-      compare-runs = goes-on (readTable table) T t _ ∙ goes-on (readProgram (T .size) first) w ew _ ∙ goes-on (readProgram (T .size) second) v ev _
-
-    -- what the answer says
-    pub says : (o : Outcome SignedVerdict) → o ≡ compareSigned table first second steps width → SignedSays table first second steps width o
-    says o e T t w v ew ev =
-        let r = table-in-range table T t in
-        subst (ComparisonSigned T w v steps width) (sym (e ∙ compare-runs T t w v ew ev))
-        (comparison-signed T r steps width w v (program-in-range (T .size) (r .few) first w ew .letters) (program-in-range (T .size) (r .few) second v ev .letters))
+  -- what the answer says
+  pub says : (o : Outcome SignedVerdict) → o ≡ compareSigned table first second steps width → SignedSays table first second steps width o
+  says o e T t w v ew ev =
+      let r = table-in-range table T t in
+      subst (ComparisonSigned T w v steps width) (sym (e ∙ compare-runs T w v t ew ev))
+      (comparison-signed T r steps width w v (program-in-range (T .size) (r .few) first w ew .letters) (program-in-range (T .size) (r .few) second v ev .letters))

@@ -5,7 +5,7 @@ use Prim.Native.Nat.{ℕ}
 use lib.ListN.{length, drop}
 use Rattle.model.specs.Word.{Word, inverse}
 use Rattle.model.specs.Presentation.{Presentation}
-use Rattle.model.specs.Outcome.{Outcome, answered, _>>=_}
+use Rattle.model.specs.Outcome.{answered}
 use Rattle.model.specs.Images.{readTable, readProgram}
 use Rattle.model.specs.Stated.{refusal}
 use Rattle.model.specs.declared.answers.Ending.{Ending}
@@ -13,8 +13,9 @@ use Rattle.images.specs.Programs.{Accepted}
 use Rattle.cells.specs.Stands.{Of}
 use Rattle.engine.specs.Gap.{letters}
 use Rattle.engine.specs.Run.{Reverses}
-use Rattle.signed_comparing.specs.declared.running.SignedRead.{SignedRead}
-use Rattle.signed_comparing.specs.declared.running.SignedRead.the-variants.{Programs, Refused}
+use Rattle.loading.specs.Loading.{readImages}
+use Rattle.loading.specs.declared.loading.ProgramsRead.{ProgramsRead}
+use Rattle.loading.specs.declared.loading.ProgramsRead.the-variants.{Programs, Refused}
 
 -- two accepted programs of so many letters
 pub record TwoAccepted (size : ℕ) (first : List ℕ) (first-count : ℕ) (second : List ℕ) (second-count : ℕ) : Type 0 where
@@ -38,25 +39,11 @@ SignedReverses cells size first second budget workspace r =
     (T : Presentation) → Of cells size T → (w v : Word) → readProgram size first ≡ answered w → readProgram size second ≡ answered v
     → Reverses T (inverse w ++ v) budget workspace r
 
--- what the three images hold
-pub record SignedImages : Type 0 where
-  pub table : Presentation
-  pub first : Word
-  pub second : Word
-
--- 6.18: all tests of the first program come before those of the second
-unfoldable pub readSigned : List ℕ → List ℕ → List ℕ → Outcome SignedImages
-readSigned table first second =
-    readTable table >>= λ T.
-    readProgram (T .size) first >>= λ w.
-    readProgram (T .size) second >>= λ v.
-    answered (record { table = T; first = w; second = v })
-
 -- the table that the cells stand for, and the programs, are those that the images hold
 pub record SignedLoaded (table first second cells : List ℕ) (size first-count second-count : ℕ) : Type 0 where
   pub runs : SignedRuns cells size first first-count second second-count
   pub table-read : readTable table ≡ answered (runs .table)
 
-abbrev pub SignedDone : List ℕ → List ℕ → List ℕ → List ℕ → SignedRead → Type 0
+abbrev pub SignedDone : List ℕ → List ℕ → List ℕ → List ℕ → ProgramsRead → Type 0
 SignedDone table first second cells (Programs size m n) = SignedLoaded table first second cells size m n
-SignedDone table first second cells (Refused r) = readSigned table first second ≡ refusal r
+SignedDone table first second cells (Refused r) = readImages readProgram table first second ≡ refusal r

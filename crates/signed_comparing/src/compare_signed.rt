@@ -8,11 +8,11 @@ ghost use Rattle.signed_comparing.specs.Running.{SignedRuns};
 ghost use Rattle.signed_comparing.specs.Service.{afterFirstAs, Ran, Settles, SignedCompared, SignedSays};
 use crate::fraction::compare_fraction;
 use crate::preparing::prepare;
-use crate::running::SignedRead;
 use crate::running::read_signed;
 use crate::running::run_signed;
 use areas::bytes::wipe;
 use cells::layout::CELLS;
+use loading::loading::ProgramsRead;
 use model::answers::Cleared;
 use model::answers::Compared;
 use model::answers::ComparedSigned;
@@ -101,8 +101,8 @@ pub fn compare_signed(
     let mut cells = [0u8; CELLS];
     let read = read_signed(table, first, second, &mut cells);
     match read {
-        SignedRead::Refused(refusal) => ComparedSigned::Refused(refusal),
-        SignedRead::Programs { size, m, n } => compare_loaded(
+        ProgramsRead::Refused(refusal) => ComparedSigned::Refused(refusal),
+        ProgramsRead::Programs { size, m, n } => compare_loaded(
             &cells,
             size,
             first,

@@ -10,37 +10,25 @@ use engine::words::invert;
 use images::programs::ProgramRead;
 use images::programs::read_program;
 use images::programs::unpack_letters;
-use images::tables::TableRead;
-use images::tables::read_table;
+use loading::loading::ProgramsRead;
+use loading::loading::TableProgram;
+use loading::loading::read_table_program;
 use model::answers::Ending;
-use model::answers::Refusal;
 use model::answers::Stop;
 
-// A table of so many letters, and two programs of m and n letters.
-pub enum SignedRead {
-    Programs { size: u8, m: u16, n: u16 },
-    Refused(Refusal),
-}
-
 // Reads a table image into cells, then the images of two programs.
-pub fn read_signed(table: &[u8], first: &[u8], second: &[u8], cells: &mut [u8]) -> SignedRead
+pub fn read_signed(table: &[u8], first: &[u8], second: &[u8], cells: &mut [u8]) -> ProgramsRead
     requires { ⌜ Blank (now cells) ⌝ }
     ensures { λ r. ⌜ SignedDone (now (table .entry)) (now (first .entry)) (now (second .entry)) (now (cells .exit)) r ⌝ }
 {
-    let read = read_table(table, cells);
+    let read = read_table_program(table, first, cells);
     match read {
-        TableRead::Refused(refusal) => SignedRead::Refused(refusal),
-        TableRead::Table { size } => {
-            let one = read_program(first, size);
-            match one {
-                ProgramRead::Refused(refusal) => SignedRead::Refused(refusal),
-                ProgramRead::Program { count: m } => {
-                    let two = read_program(second, size);
-                    match two {
-                        ProgramRead::Refused(refusal) => SignedRead::Refused(refusal),
-                        ProgramRead::Program { count: n } => SignedRead::Programs { size, m, n },
-                    }
-                }
+        TableProgram::Refused(refusal) => ProgramsRead::Refused(refusal),
+        TableProgram::Loaded { size, count: m } => {
+            let two = read_program(second, size);
+            match two {
+                ProgramRead::Refused(refusal) => ProgramsRead::Refused(refusal),
+                ProgramRead::Program { count: n } => ProgramsRead::Programs { size, m, n },
             }
         }
     }

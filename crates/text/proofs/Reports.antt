@@ -14,8 +14,8 @@ use Rattle.model.specs.Areas.{begins}
 use Rattle.model.specs.Stated.{refusal}
 use Rattle.model.specs.declared.answers.Refusal.{Refusal}
 use Rattle.model.specs.Range.{All, LetterInRange}
+use Rattle.model.proofs.Outcomes.{still-refused, goes-on}
 use Rattle.engine.proofs.Letters.{letter-forward, letter-back}
-use Rattle.loading.proofs.Outcomes.{still-refused, goes-on}
 use Rattle.reversal.proofs.Told.{mapped-refused}
 use Rattle.text.specs.Text.{letterText, wordText, bytesText, answerText, outcomeText, reading, report}
 

@@ -22,10 +22,13 @@ use Rattle.model.specs.declared.answers.Refusal.the-variants.{AnswerShort, TooM
 use Rattle.model.specs.declared.answers.TrayCompared.{TrayCompared}
 use Rattle.model.specs.declared.answers.TrayCompared.the-variants.{Answered, Refused}
 use Rattle.model.proofs.Impossible.{answer-of, same-answer, not-refused}
+use Rattle.model.proofs.Outcomes.{still-refused, goes-on}
 use Rattle.theory.specs.Verdicts.{Settled, settled, by-allowance, by-memory, DemandThree}
 use Rattle.theory.proofs.Verdicts.{demand-three}
+use Rattle.loading.specs.Loading.{readTableWith}
 use Rattle.loading.proofs.Early.{Early}
-use Rattle.loading.proofs.Outcomes.{still-refused, goes-on, refused-stated, refused-output, refused-workspace}
+use Rattle.loading.proofs.Outcomes.{refused-stated, refused-output, refused-workspace}
+use Rattle.loading.proofs.Reading.{program-still-refused, program-runs}
 use Rattle.trays.specs.Tray.{logVerdict, trayVerdicts, States}
 use Rattle.trays.specs.Meaning.{Told, told-same, told-different, by-allowance as stopped-by-allowance, by-memory as stopped-by-memory, LogSays, LogMeans, TraySays}
 use Rattle.trays.proofs.Answering.{log-bytes-long, answers-long, answers-append}
@@ -86,45 +89,40 @@ module _ (table logs pattern : List ℕ) (steps width area : ℕ) where
   no-tray r e = still-refused (readTray logs) r e _
 
   module _ (images : List (List ℕ)) (tray-read : readTray logs ≡ answered images) where
-    pub no-table : (r : Refusal) → readTable table ≡ refusal r → tray table logs pattern steps width area ≡ refusal r
+    -- what is left to do once the table and the pattern are read
+    abbrev clears : Presentation → Positive → Outcome (List (Outcome Verdict))
+    clears T v = cleared T steps width >>= λ ok. unless (ltb area (3 * length images)) 13 (map (λ image. compare table image pattern steps width) images)
+
+    pub unread : (r : Refusal) → readTableWith readForward table pattern ≡ refusal r → tray table logs pattern steps width area ≡ refusal r
     unfolding tray
-    no-table r e = goes-on (readTray logs) images tray-read _ ∙ still-refused (readTable table) r e _
+    unread r e = goes-on (readTray logs) images tray-read _ ∙ program-still-refused readForward table pattern clears r e
 
-    module _ (T : Presentation) (table-read : readTable table ≡ answered T) where
-      pub no-pattern : (r : Refusal) → readForward (T .size) pattern ≡ refusal r → tray table logs pattern steps width area ≡ refusal r
+    module _ (T : Presentation) (table-read : readTable table ≡ answered T) (v : Positive) (pattern-read : readForward (T .size) pattern ≡ answered v) where
+      -- a log is compared as by itself
+      as-compared : cleared T steps width ≡ answered tt → (image : List ℕ) → compare table image pattern steps width ≡ logVerdict (T .size) T v steps width image
+      unfolding compare comparison
+      as-compared clear image =
+          goes-on (readTable table) T table-read _
+          ∙ then-same (readForward (T .size) image) _ _
+          (λ u. goes-on (readForward (T .size) pattern) v pattern-read _ ∙ goes-on (cleared T steps width) tt clear _)
+
+      pub tray-runs : tray table logs pattern steps width area ≡ trayVerdicts (T .size) T v images steps width area
       unfolding tray
-      no-pattern r e =
-          goes-on (readTray logs) images tray-read _ ∙ goes-on (readTable table) T table-read _ ∙ still-refused (readForward (T .size) pattern) r e _
+      tray-runs =
+          goes-on (readTray logs) images tray-read _
+          ∙ (program-runs readForward table pattern clears T v table-read pattern-read ∙ by-clear (cleared T steps width) refl)
+        where
+          by-clear : (o : Outcome (Unit {0})) → cleared T steps width ≡ o
+              → (o >>= λ ok. unless (ltb area (3 * length images)) 13 (map (λ image. compare table image pattern steps width) images))
+              ≡ (o >>= λ ok. unless (ltb area (3 * length images)) 13 (map (logVerdict (T .size) T v steps width) images))
+          by-clear (answered tt) e =
+              ap (unless (ltb area (3 * length images)) 13)
+              (map-same (λ image. compare table image pattern steps width) (logVerdict (T .size) T v steps width) (as-compared e) images)
+          by-clear (refused n place) e = refl
 
-      module _ (v : Positive) (pattern-read : readForward (T .size) pattern ≡ answered v) where
-        -- a log is compared as by itself
-        as-compared : cleared T steps width ≡ answered tt → (image : List ℕ) → compare table image pattern steps width ≡ logVerdict (T .size) T v steps width image
-        unfolding compare comparison
-        as-compared clear image =
-            goes-on (readTable table) T table-read _
-            ∙ then-same (readForward (T .size) image) _ _
-            (λ u. goes-on (readForward (T .size) pattern) v pattern-read _ ∙ goes-on (cleared T steps width) tt clear _)
-
-        pub tray-runs : tray table logs pattern steps width area ≡ trayVerdicts (T .size) T v images steps width area
-        unfolding tray
-        tray-runs =
-            goes-on (readTray logs) images tray-read _
-            ∙ (goes-on (readTable table) T table-read _
-            ∙ (goes-on (readForward (T .size) pattern) v pattern-read _ ∙ by-clear (cleared T steps width) refl))
-          where
-            by-clear : (o : Outcome (Unit {0})) → cleared T steps width ≡ o
-                → (o >>= λ ok. unless (ltb area (3 * length images)) 13 (map (λ image. compare table image pattern steps width) images))
-                ≡ (o >>= λ ok. unless (ltb area (3 * length images)) 13 (map (logVerdict (T .size) T v steps width) images))
-            by-clear (answered tt) e =
-                ap (unless (ltb area (3 * length images)) 13)
-                (map-same (λ image. compare table image pattern steps width) (logVerdict (T .size) T v steps width) (as-compared e) images)
-            by-clear (refused n place) e = refl
-
-    -- by the size that was loaded
-    pub sized-runs : (T : Presentation) → readTable table ≡ answered T → (size : ℕ) → T .size ≡ size → (v : Positive) → readForward size pattern ≡ answered v
-        → tray table logs pattern steps width area ≡ trayVerdicts size T v images steps width area
-    sized-runs T table-read size e v pattern-read =
-        tray-runs T table-read v (ap (λ n. readForward n pattern) e ∙ pattern-read) ∙ ap (λ n. trayVerdicts n T v images steps width area) e
+      -- by the size that was loaded
+      pub sized-runs : (size : ℕ) → T .size ≡ size → tray table logs pattern steps width area ≡ trayVerdicts size T v images steps width area
+      sized-runs size e = tray-runs ∙ ap (λ n. trayVerdicts n T v images steps width area) e
 
 -- what is told of a refusal, and how it leaves the areas
 module _ (table logs pattern : List ℕ) (steps : ℕ) (workspace before : List ℕ) where

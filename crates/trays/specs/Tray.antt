@@ -14,15 +14,8 @@ use Rattle.model.specs.Tray.{logBytes, trayBytes, tray}
 use Rattle.model.specs.Stated.{compared, trayCompared}
 use Rattle.model.specs.declared.answers.Compared.{Compared}
 use Rattle.model.specs.declared.answers.TrayCompared.{TrayCompared}
-use Rattle.images.specs.Programs.{ForwardOf}
 use Rattle.cells.specs.Stands.{Of}
 use Rattle.trays.specs.Logs.{imageAt, endAt, LogsOf}
-
--- an accepted pattern under cells that stand for a table
-pub record Against (cells : List ℕ) (size : ℕ) (pattern : List ℕ) (count : ℕ) : Type 0 where
-  pub table : Presentation
-  pub of : Of cells size table
-  pub forward : ForwardOf pattern size count
 
 -- a log of n letters against the pattern v, under a table that has cleared
 abbrev pub logVerdict : ℕ → Presentation → Positive → ℕ → ℕ → List ℕ → Outcome Verdict

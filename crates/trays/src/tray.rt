@@ -6,8 +6,9 @@ ghost use Rattle.model.specs.Outcome.{mapped};
 ghost use Rattle.model.specs.Areas.{outputAfter, workspaceAfter};
 ghost use Rattle.model.specs.Stated.{trayCompared};
 ghost use Rattle.model.specs.Tray.{trayBytes, tray as trayOutcome};
+ghost use Rattle.loading.specs.Loading.{ForwardRuns};
 ghost use Rattle.trays.specs.Logs.{lengthAt, LogsOf, TrayOf};
-ghost use Rattle.trays.specs.Tray.{Against, LogCompared, LogAnswered, LogsAnswered, TrayJudged, TrayStated};
+ghost use Rattle.trays.specs.Tray.{LogCompared, LogAnswered, LogsAnswered, TrayJudged, TrayStated};
 ghost use Rattle.trays.specs.Meaning.{TraySays};
 use crate::answers::LOG_BYTES;
 use crate::answers::write_answer;
@@ -19,8 +20,8 @@ use clearing::clear::clear_cells;
 use comparing::compare::compare_cleared;
 use images::programs::ProgramRead;
 use images::programs::read_forward;
-use images::tables::TableRead;
-use images::tables::read_table;
+use loading::loading::TableProgram;
+use loading::loading::read_table_forward;
 use model::answers::Cleared;
 use model::answers::Compared;
 use model::answers::Refusal;
@@ -36,7 +37,7 @@ pub fn compare_log(
     budget: u16,
     workspace: &mut [u8],
 ) -> Compared
-    requires pattern { ⌜ Against (now cells) size (now pattern) n ⌝ }
+    requires pattern { ⌜ ForwardRuns (now cells) size (now pattern) n ⌝ }
     requires zero { ⌜ now workspace ≡ replicate (length (now workspace)) 0 ⌝ }
     ensures { λ r. ⌜ LogCompared (now (cells .entry)) size (now (log .entry)) (now (pattern .entry)) budget (now (workspace .entry)) (now (workspace .exit)) r ⌝ }
 {
@@ -69,7 +70,7 @@ pub fn answer_log(
     answer: &mut [u8],
     place: usize,
 ) -> usize
-    requires pattern { ⌜ Against (now cells) size (now pattern) n ⌝ }
+    requires pattern { ⌜ ForwardRuns (now cells) size (now pattern) n ⌝ }
     requires zero { ⌜ now workspace ≡ replicate (length (now workspace)) 0 ⌝ }
     requires log { ⌜ at + 2 + lengthAt (now tray) at ≤ length (now tray) ⌝ }
     requires room { ⌜ place + 3 ≤ length (now answer) ⌝ }
@@ -102,7 +103,7 @@ pub fn answer_logs(
     workspace: &mut [u8],
     answer: &mut [u8],
 )
-    requires pattern { ⌜ Against (now cells) size (now pattern) n ⌝ }
+    requires pattern { ⌜ ForwardRuns (now cells) size (now pattern) n ⌝ }
     requires zero { ⌜ now workspace ≡ replicate (length (now workspace)) 0 ⌝ }
     requires logs { ⌜ LogsOf (now tray) logs ⌝ }
     requires room { ⌜ 3 * logs ≤ length (now answer) ⌝ }
@@ -141,7 +142,7 @@ pub fn compare_tray(
     workspace: &mut [u8],
     answer: &mut [u8],
 ) -> TrayCompared
-    requires pattern { ⌜ Against (now cells) size (now pattern) n ⌝ }
+    requires pattern { ⌜ ForwardRuns (now cells) size (now pattern) n ⌝ }
     requires logs { ⌜ LogsOf (now tray) logs ⌝ }
     ensures { λ r. ⌜ TrayJudged (now (cells .entry)) size (now (tray .entry)) logs (now (pattern .entry)) budget (now (workspace .entry)) (now (workspace .exit)) (now (answer .entry)) (now (answer .exit)) r ⌝ }
 {
@@ -182,26 +183,20 @@ pub fn tray_under(
     ensures { λ r. ⌜ TrayStated (now (table .entry)) (now (tray .entry)) (now (pattern .entry)) budget (now (workspace .entry)) (now (workspace .exit)) (now (answer .entry)) (now (answer .exit)) r ⌝ }
 {
     let mut cells = [0u8; CELLS];
-    let read = read_table(table, &mut cells);
+    let read = read_table_forward(table, pattern, &mut cells);
     match read {
-        TableRead::Refused(refusal) => TrayCompared::Refused(refusal),
-        TableRead::Table { size } => {
-            let accepted = read_forward(pattern, size);
-            match accepted {
-                ProgramRead::Refused(refusal) => TrayCompared::Refused(refusal),
-                ProgramRead::Program { count } => compare_tray(
-                    &cells,
-                    size,
-                    tray,
-                    logs,
-                    pattern,
-                    count,
-                    budget,
-                    workspace,
-                    answer,
-                ),
-            }
-        }
+        TableProgram::Refused(refusal) => TrayCompared::Refused(refusal),
+        TableProgram::Loaded { size, count } => compare_tray(
+            &cells,
+            size,
+            tray,
+            logs,
+            pattern,
+            count,
+            budget,
+            workspace,
+            answer,
+        ),
     }
 }
 

@@ -31,16 +31,19 @@ use Rattle.model.proofs.Impossible.{impossible}
 use Rattle.model.proofs.Complete.{all-at}
 use Rattle.model.proofs.Joining.{joined-same}
 use Rattle.model.proofs.Listing.{within-shorter, bytes-more}
-use Rattle.images.proofs.Refusals.{refused-on}
+use Rattle.model.proofs.Outcomes.{still-refused, goes-on}
 use Rattle.images.proofs.RoundTrip.{table-in-range, program-in-range}
 use Rattle.images.specs.Programs.{ForwardOf}
+use Rattle.loading.specs.Loading.{readTableWith}
 use Rattle.loading.proofs.Early.{Early}
+use Rattle.loading.proofs.Reading.{program-still-refused, program-runs}
 use Rattle.checks.specs.declared.table.Weights.{Weights}
 use Rattle.checks.specs.Table.{weightsAs, WeightsMean}
 use Rattle.cells.specs.Stands.{Of}
 use Rattle.theory.specs.Ways.{Weighed}
 use Rattle.theory.proofs.Letters.{lettered-positive}
 use Rattle.theory.proofs.Ways.{listing-lists, listing-meaning, words-in-order, finding-within}
+use Rattle.cells.proofs.Rules.{of-few}
 use Rattle.ways.specs.Marks.{untried}
 use Rattle.ways.specs.Area.{words, Legible}
 use Rattle.ways.specs.State.{current}
@@ -59,7 +62,7 @@ module _ (cells : List ℕ) (size : ℕ) (program : List ℕ) (count : ℕ) (f :
   word-length = ap length (sym same-word) ∙ f .count-is
 
   few : size ≤ 16
-  few = omega (arith, p .of .sized, p .of .stands .few)
+  few = of-few (p .of)
 
   pub weighed : Weighed T u
   weighed =
@@ -172,32 +175,24 @@ pub early-other : {A : Type 0} (k : ℕ) (o : Outcome A) (r : Refusal) → k < 1
 early-other k o r l e h n = omega (arith, l, n, subst (Early k) e h)
 
 module _ (table program : List ℕ) (area : ℕ) where
-  afterTable : Presentation → Outcome (List Positive)
-  afterTable T = readForward (T .size) program >>= λ u. weightCheck T (pairs (T .size)) >>= λ ok. fittedListing area (listing T u)
+  -- what is left to do once the images are read
+  abbrev weighs : Presentation → Positive → Outcome (List Positive)
+  weighs T u = weightCheck T (pairs (T .size)) >>= λ ok. fittedListing area (listing T u)
 
-  pub ways-no-table : (r : Refusal) → readTable table ≡ refusal r → ways table program area ≡ refusal r
-  unfolding ways afterTable
-  ways-no-table r e = refused-on (readTable table) afterTable r e
+  pub ways-unread : (r : Refusal) → readTableWith readForward table program ≡ refusal r → ways table program area ≡ refusal r
+  unfolding ways
+  ways-unread = program-still-refused readForward table program weighs
 
-  module _ (T : Presentation) (e : readTable table ≡ answered T) (size : ℕ) (s : T .size ≡ size) where
-    ways-is : ways table program area ≡ (readForward size program >>= λ u. weightCheck T (pairs (T .size)) >>= λ ok. fittedListing area (listing T u))
-    unfolding ways afterTable
-    ways-is =
-        ap (λ o. o >>= afterTable) e
-        ∙ ap (λ n. readForward n program >>= λ u. weightCheck T (pairs (T .size)) >>= λ ok. fittedListing area (listing T u)) s
+  module _ (T : Presentation) (e : readTable table ≡ answered T) (u : Positive) (p : readForward (T .size) program ≡ answered u) where
+    ways-weighs : ways table program area ≡ weighs T u
+    unfolding ways
+    ways-weighs = program-runs readForward table program weighs T u e p
 
-    pub ways-no-program : (r : Refusal) → readForward size program ≡ refusal r → ways table program area ≡ refusal r
-    ways-no-program r p = ways-is ∙ refused-on (readForward size program) (λ u. weightCheck T (pairs (T .size)) >>= λ ok. fittedListing area (listing T u)) r p
+    pub ways-unequal : (r : Refusal) → weightCheck T (pairs (T .size)) ≡ refusal r → ways table program area ≡ refusal r
+    ways-unequal r w = ways-weighs ∙ still-refused (weightCheck T (pairs (T .size))) r w _
 
-    module _ (u : Positive) (p : readForward size program ≡ answered u) where
-      ways-weighs : ways table program area ≡ (weightCheck T (pairs (T .size)) >>= λ ok. fittedListing area (listing T u))
-      ways-weighs = ways-is ∙ ap (λ o. o >>= λ u. weightCheck T (pairs (T .size)) >>= λ ok. fittedListing area (listing T u)) p
-
-      pub ways-unequal : (r : Refusal) → weightCheck T (pairs (T .size)) ≡ refusal r → ways table program area ≡ refusal r
-      ways-unequal r w = ways-weighs ∙ refused-on (weightCheck T (pairs (T .size))) (λ ok. fittedListing area (listing T u)) r w
-
-      pub ways-lists : weightCheck T (pairs (T .size)) ≡ answered tt → ways table program area ≡ fittedListing area (listing T u)
-      ways-lists w = ways-weighs ∙ ap (λ o. o >>= λ ok. fittedListing area (listing T u)) w
+    pub ways-lists : weightCheck T (pairs (T .size)) ≡ answered tt → ways table program area ≡ fittedListing area (listing T u)
+    ways-lists w = ways-weighs ∙ goes-on (weightCheck T (pairs (T .size))) tt w _
 
 -- what the weight check's answer says of the table
 pub weights-told : (cells : List ℕ) (size : ℕ) (T : Presentation) → Of cells size T → (r : Weights) → WeightsMean cells size r → weightCheck T (pairs (T .size)) ≡ weightsAs r
@@ -250,7 +245,7 @@ module _ (table program before after : List ℕ) (r : Ways) (a : Answers (ways t
       means : weightCheck T (pairs (T .size)) ≡ answered tt → (vs : List Positive) → ways table program (length before) ≡ answered vs → counts vs ≡ c
           → WaysMeaning T u c after
       means w vs o n =
-          let same : vs ≡ listing T u = fitted-same (length before) (listing T u) vs (sym (ways-lists table program (length before) T e (T .size) refl u p w) ∙ o) in
+          let same : vs ≡ listing T u = fitted-same (length before) (listing T u) vs (sym (ways-lists table program (length before) T e u p w) ∙ o) in
           let told : c ≡ counts (listing T u) = sym n ∙ ap counts same in
           let start : after ≡ begins (listingBytes (listing T u)) before = a .area ∙ ap (λ x. waysArea x before) (o ∙ ap answered same) in
           record {
@@ -265,7 +260,7 @@ module _ (table program before after : List ℕ) (r : Ways) (a : Answers (ways t
       by (answered x) w vs o n = means w vs o n
       by (refused i ps) w vs o n =
           let stops : ways table program (length before) ≡ refused i ps =
-          ways-weighs table program (length before) T e (T .size) refl u p ∙ ap (λ x. x >>= λ ok. fittedListing (length before) (listing T u)) w in
+          ways-weighs table program (length before) T e u p ∙ ap (λ x. x >>= λ ok. fittedListing (length before) (listing T u)) w in
           impossible (cc)
 
   -- the service's promise

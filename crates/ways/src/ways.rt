@@ -12,11 +12,9 @@ use areas::bytes::wipe;
 use cells::layout::CELLS;
 use checks::table::Weights;
 use checks::table::check_weights;
-use images::programs::ProgramRead;
-use images::programs::read_forward;
 use images::programs::unpack_letters;
-use images::tables::TableRead;
-use images::tables::read_table;
+use loading::loading::TableProgram;
+use loading::loading::read_table_forward;
 use model::answers::Refusal;
 use model::answers::Ways;
 
@@ -48,20 +46,14 @@ pub fn ways(table: &[u8], program: &[u8], answer: &mut [u8]) -> Ways
     ensures meaning { λ r. ⌜ WaysSay (now (table .entry)) (now (program .entry)) (listedAs r) (now (answer .exit)) ⌝ }
 {
     let mut cells = [0u8; CELLS];
-    let read = read_table(table, &mut cells);
+    let read = read_table_forward(table, program, &mut cells);
     match read {
-        TableRead::Refused(refusal) => Ways::Refused(refusal),
-        TableRead::Table { size } => {
-            let accepted = read_forward(program, size);
-            match accepted {
-                ProgramRead::Refused(refusal) => Ways::Refused(refusal),
-                ProgramRead::Program { count } => {
-                    let weights = check_weights(&cells, size);
-                    match weights {
-                        Weights::Unequal(pair) => Ways::Refused(Refusal::UnequalWeights(pair)),
-                        Weights::Equal => list_program(&cells, size, program, count, answer),
-                    }
-                }
+        TableProgram::Refused(refusal) => Ways::Refused(refusal),
+        TableProgram::Loaded { size, count } => {
+            let weights = check_weights(&cells, size);
+            match weights {
+                Weights::Unequal(pair) => Ways::Refused(Refusal::UnequalWeights(pair)),
+                Weights::Equal => list_program(&cells, size, program, count, answer),
             }
         }
     }

@@ -1,113 +1,60 @@
 -- `loading::loading::read_programs` meets its contract.
-use mathlib.Core.Path.{subst}
+use mathlib.Core.Path.{ap, subst, _∙_}
+use Rattle.model.specs.Services.{readForward}
 use Rattle.images.specs.Programs.{ForwardDone}
-use Rattle.images.specs.Tables.{TableDone}
-use Rattle.loading.proofs.Reading.{loaded-size, no-table, no-first, no-second, programs-loaded}
+use Rattle.loading.specs.Loading.{TableForwardDone}
+use Rattle.cells.proofs.Rules.{of-size}
+use Rattle.loading.proofs.Reading.{no-first, no-second, programs-loaded}
 use borrow.Author.Needs.{needs}
 use Rattle.loading.proofs.loading.read_programs.Statement.{statement}
 use Rattle.loading.proofs.loading.read_programs.Tie as tie
 
-read-table-requires : tie.Need-read-table-requires
-read-table-requires c κs = search needs
-
-enum-known-read : tie.Need-enum-known-read
-enum-known-read c = search needs
-
-enum-known-read-2 : tie.Need-enum-known-read-2
-enum-known-read-2 c = search needs
-
 read-forward-requires : tie.Need-read-forward-requires
 read-forward-requires c κs =
     let a = c .before .before .before .before .before .before .before .before .before .before .before .args in
-    let v = c .before .before .before .before .before .read-table in
-    let t = subst (TableDone (a .table .now) (v .last .1 .0)) (c .before .read2 .given .1) (v .ensures .1) in
-    loaded-size t
-
-enum-known-one : tie.Need-enum-known-one
-enum-known-one c = search needs
-
-enum-known-one-2 : tie.Need-enum-known-one-2
-enum-known-one-2 c = search needs
-
-read-forward-requires-2 : tie.Need-read-forward-requires-2
-read-forward-requires-2 c κs =
-    let a = c .before .before .before .before .before .before .before .before .before .before .before .before .before .before .before .args in
-    let v = c .before .before .before .before .before .before .before .before .before .read-table in
-    let t = subst (TableDone (a .table .now) (v .last .1 .0)) (c .before .before .before .before .before .read2 .given .1) (v .ensures .1) in
-    loaded-size t
-
-enum-known-two : tie.Need-enum-known-two
-enum-known-two c = search needs
-
-enum-known-two-2 : tie.Need-enum-known-two-2
-enum-known-two-2 c = search needs
-
-same-length : tie.Need-same-length
-same-length c = search needs
+    let v = c .before .before .before .before .before .read-table-forward in
+    let l = subst (TableForwardDone (a .table .now) (a .first .now) (v .last .1 .1 .0)) (c .before .read2 .given .1) (v .ensures) in
+    of-size (l .runs .of)
 
 returns : tie.Need-returns
 returns c =
     let a = c .before .before .before .before .before .before .before .before .before .before .before .args in
-    let v = c .before .before .before .before .before .read-table in
-    let e = subst (TableDone (a .table .now) (v .last .1 .0)) (c .before .read .given .1) (v .ensures .1) in
-    no-table (a .table .now) (a .first .now) (a .second .now) (c .before .read .given .0 .0) e
-
-same-length-2 : tie.Need-same-length-2
-same-length-2 c = search needs
+    let v = c .before .before .before .before .before .read-table-forward in
+    let e = subst (TableForwardDone (a .table .now) (a .first .now) (v .last .1 .1 .0)) (c .before .read .given .1) (v .ensures) in
+    no-first readForward (a .table .now) (a .first .now) (a .second .now) (c .before .read .given .0 .0) e
 
 returns-2 : tie.Need-returns-2
 returns-2 c =
     let a = c .before .before .before .before .before .before .before .before .before .before .before .before .before .before .before .args in
-    let v = c .before .before .before .before .before .before .before .before .before .read-table in
+    let v = c .before .before .before .before .before .before .before .before .before .read-table-forward in
     let size = c .before .before .before .before .before .read2 .given .0 .0 in
-    let t = subst (TableDone (a .table .now) (v .last .1 .0)) (c .before .before .before .before .before .read2 .given .1) (v .ensures .1) in
-    let e = subst (ForwardDone (a .first .now) size) (c .before .one .given .1) (c .before .before .before .read-forward .ensures) in
-    no-first (a .table .now) (a .first .now) (a .second .now) t (c .before .one .given .0 .0) e
-
-same-length-3 : tie.Need-same-length-3
-same-length-3 c = search needs
+    let l = subst (TableForwardDone (a .table .now) (a .first .now) (v .last .1 .1 .0)) (c .before .before .before .before .before .read2 .given .1) (v .ensures) in
+    let e = subst (ForwardDone (a .second .now) size) (c .before .two .given .1) (c .before .before .before .read-forward .ensures) in
+    no-second readForward (a .table .now) (a .first .now) (a .second .now) (l .runs .table) (l .runs .forward .word) (l .table-read) (l .program-read) (c .before .two .given .0 .0)
+    (ap (λ i. readForward i (a .second .now)) (l .runs .of .sized) ∙ e)
 
 returns-3 : tie.Need-returns-3
 returns-3 c =
-    let a = c .before .before .before .before .before .before .before .before .before .before .before .before .before .before .before .before .before .before .before .args in
-    let v = c .before .before .before .before .before .before .before .before .before .before .before .before .before .read-table in
-    let size = c .before .before .before .before .before .before .before .before .before .read2 .given .0 .0 in
-    let t = subst (TableDone (a .table .now) (v .last .1 .0)) (c .before .before .before .before .before .before .before .before .before .read2 .given .1) (v .ensures .1) in
-    let one = subst (ForwardDone (a .first .now) size) (c .before .before .before .before .before .one2 .given .1) (c .before .before .before .before .before .before .before .read-forward .ensures) in
-    let e = subst (ForwardDone (a .second .now) size) (c .before .two .given .1) (c .before .before .before .read-forward2 .ensures) in
-    no-second (a .table .now) (a .first .now) (a .second .now) t one (c .before .two .given .0 .0) e
-
-same-length-4 : tie.Need-same-length-4
-same-length-4 c = search needs
-
-returns-4 : tie.Need-returns-4
-returns-4 c =
-    let a = c .before .before .before .before .before .before .before .before .before .before .before .before .before .before .before .before .before .before .before .args in
-    let v = c .before .before .before .before .before .before .before .before .before .before .before .before .before .read-table in
-    let size = c .before .before .before .before .before .before .before .before .before .read2 .given .0 .0 in
-    let t = subst (TableDone (a .table .now) (v .last .1 .0)) (c .before .before .before .before .before .before .before .before .before .read2 .given .1) (v .ensures .1) in
-    let one = subst (ForwardDone (a .first .now) size) (c .before .before .before .before .before .one2 .given .1) (c .before .before .before .before .before .before .before .read-forward .ensures) in
-    let two = subst (ForwardDone (a .second .now) size) (c .before .two2 .given .1) (c .before .before .before .read-forward2 .ensures) in
-    programs-loaded (a .table .now) (a .first .now) (a .second .now) t one two
+    let a = c .before .before .before .before .before .before .before .before .before .before .before .before .before .before .before .args in
+    let v = c .before .before .before .before .before .before .before .before .before .read-table-forward in
+    let size = c .before .before .before .before .before .read2 .given .0 .0 in
+    let l = subst (TableForwardDone (a .table .now) (a .first .now) (v .last .1 .1 .0)) (c .before .before .before .before .before .read2 .given .1) (v .ensures) in
+    let two = subst (ForwardDone (a .second .now) size) (c .before .two2 .given .1) (c .before .before .before .read-forward .ensures) in
+    programs-loaded (a .table .now) (a .first .now) (a .second .now) l two
 
 pub read-programs-spec : {M : Type 1} → statement M
 read-programs-spec =
     tie.close
     (tie.spec
-    read-table-requires
-    enum-known-read
-    enum-known-read-2
+    (λ c κs. search needs)
+    (λ c. search needs)
+    (λ c. search needs)
     read-forward-requires
-    enum-known-one
-    enum-known-one-2
-    read-forward-requires-2
-    enum-known-two
-    enum-known-two-2
-    same-length
+    (λ c. search needs)
+    (λ c. search needs)
+    (λ c. search needs)
     returns
-    same-length-2
+    (λ c. search needs)
     returns-2
-    same-length-3
-    returns-3
-    same-length-4
-    returns-4)
+    (λ c. search needs)
+    returns-3)

@@ -1,8 +1,10 @@
 -- `loading::loading::read_table_program` meets its contract.
 use mathlib.Core.Path.{subst}
+use Rattle.model.specs.Images.{readProgram}
 use Rattle.images.specs.Programs.{ProgramDone}
 use Rattle.images.specs.Tables.{TableDone}
-use Rattle.loading.proofs.Reading.{loaded-size, no-table-no-program, no-program, program-loaded}
+use Rattle.cells.proofs.Rules.{of-size}
+use Rattle.loading.proofs.Reading.{no-table, no-program, program-loaded}
 use borrow.Author.Needs.{needs}
 use Rattle.loading.proofs.loading.read_table_program.Statement.{statement}
 use Rattle.loading.proofs.loading.read_table_program.Tie as tie
@@ -20,7 +22,7 @@ read-program-requires : tie.Need-read-program-requires
 read-program-requires c κs =
     let a = c .before .before .before .before .before .before .before .before .before .before .args in
     let v = c .before .before .before .before .before .read-table in
-    loaded-size (subst (TableDone (a .table .now) (v .last .1 .0)) (c .before .read2 .given .1) (v .ensures .1))
+    of-size (subst (TableDone (a .table .now) (v .last .1 .0)) (c .before .read2 .given .1) (v .ensures .1) .of)
 
 enum-known-accepted : tie.Need-enum-known-accepted
 enum-known-accepted c = search needs
@@ -36,7 +38,7 @@ returns c =
     let a = c .before .before .before .before .before .before .before .before .before .before .args in
     let v = c .before .before .before .before .before .read-table in
     let e = subst (TableDone (a .table .now) (v .last .1 .0)) (c .before .read .given .1) (v .ensures .1) in
-    no-table-no-program (a .table .now) (a .program .now) (c .before .read .given .0 .0) e
+    no-table readProgram (a .table .now) (a .program .now) (c .before .read .given .0 .0) e
 
 same-length-2 : tie.Need-same-length-2
 same-length-2 c = search needs
@@ -48,7 +50,7 @@ returns-2 c =
     let size = c .before .before .before .before .before .read2 .given .0 .0 in
     let t = subst (TableDone (a .table .now) (v .last .1 .0)) (c .before .before .before .before .before .read2 .given .1) (v .ensures .1) in
     let e = subst (ProgramDone (a .program .now) size) (c .before .accepted .given .1) (c .before .before .before .read-program .ensures) in
-    no-program (a .table .now) (a .program .now) t (c .before .accepted .given .0 .0) e
+    no-program readProgram (a .table .now) (a .program .now) t (c .before .accepted .given .0 .0) e
 
 same-length-3 : tie.Need-same-length-3
 same-length-3 c = search needs

@@ -11,6 +11,7 @@ use Rattle.model.specs.Services.{readForward}
 use Rattle.cells.specs.Layout.{weightAt}
 use Rattle.cells.specs.Stands.{Of}
 use Rattle.images.proofs.Letters.{has-letter, count-small}
+use Rattle.cells.proofs.Rules.{of-size}
 use Rattle.loading.proofs.Weights.{few, accepted, read-letter, letter-inside, letter-light, weight-more, weight-whole}
 use Rattle.loading.proofs.weighing.program_weight.Statement.{statement}
 use Rattle.loading.proofs.weighing.program_weight.Tie as tie
@@ -25,7 +26,7 @@ abbrev μ-loop : tie.MeasureT-loop
 
 letter-width-requires : tie.Need-letter-width-requires Inv-loop μ-loop
 letter-width-requires c κs =
-    let o = (c .before .before) .pre .0 .1 in (omega (arith, o .sized, o .stands .some), omega (arith, o .sized, o .stands .few))
+    of-size ((c .before .before) .pre .0 .1)
 
 cast-width : tie.Need-cast-width Inv-loop μ-loop
 cast-width c = search needs

@@ -7,6 +7,7 @@ use lib.ListN.{length}
 use Rattle.model.specs.Presentation.{Presentation}
 use Rattle.model.specs.Signed.{grownSet}
 use Rattle.cells.specs.Stands.{Of}
+use Rattle.cells.proofs.Rules.{of-few}
 use Rattle.sets.proofs.Closing.{told, first-stops, Closing, closing-begun, closing-closed, closing-end, closing-later, closing-ended, closing-more}
 use Rattle.sets.proofs.set.grow_set.Statement.{statement}
 use Rattle.sets.proofs.set.grow_set.Tie as tie
@@ -40,7 +41,7 @@ loop-holds c =
     let s = c .before .before .before .before .before .before .before in
     let f = c .before .before .write-first in (
       refl,
-      λ T o. closing-begun T (s .args .budget) (length (f .last .0)) (s .args .size) (f .last .0) (o .sized) (omega (arith, o .sized, o .stands .few))
+      λ T o. closing-begun T (s .args .budget) (length (f .last .0)) (s .args .size) (f .last .0) (o .sized) (of-few o)
           (omega (arith, c .before .before .before .before .if1 .left, f .ensures .0)) (f .ensures .1),
     )
 

@@ -36,7 +36,7 @@ returns-2 c =
     let sized = t .runs .of .sized in
     let o =
     z .ensures .states T (t .runs .of) (one .word) (two .word) (one .read) (two .read)
-    ∙ sym (compare-runs (a .table .now) (a .first .now) (a .second .now) (a .allowance) (length (a .workspace .now)) T (t .table-read) (one .word) (two .word) (ap (λ n. readProgram n (a .first .now)) sized ∙ one .read) (ap (λ n. readProgram n (a .second .now)) sized ∙ two .read)) in
+    ∙ sym (compare-runs (a .table .now) (a .first .now) (a .second .now) (a .allowance) (length (a .workspace .now)) T (one .word) (two .word) (t .table-read) (ap (λ n. readProgram n (a .first .now)) sized ∙ one .read) (ap (λ n. readProgram n (a .second .now)) sized ∙ two .read)) in
     (o, (z .ensures .workspace ∙ ap (λ x. workspaceAfter x (a .workspace .now)) o, says (a .table .now) (a .first .now) (a .second .now) (a .allowance) (length (a .workspace .now)) _ o))
 
 pub compare-signed-spec : {M : Type 1} → statement M

@@ -16,6 +16,7 @@ use Rattle.model.specs.Range.{InRange}
 use Rattle.swaps.specs.Held.{heldAt, Placed}
 use Rattle.images.specs.Chains.{entryOf}
 use Rattle.images.proofs.RoundTrip.{chain-in-range}
+use Rattle.cells.proofs.Rules.{of-some, of-few}
 use Rattle.swaps.specs.Entry.{AppliedAs}
 use Rattle.swaps.specs.declared.entry.Applied.the-variants.{Word, Breaks, Short}
 use Rattle.swaps.proofs.Applying.{held-length}
@@ -44,7 +45,7 @@ entry-at-requires : tie.Need-entry-at-requires Inv-loop μ-loop
 entry-at-requires c κs =
     let s = c .before .before .before .before .before in
     let o = s .pre .sized .1 in
-    record { some = omega (arith, o .sized, o .stands .some); few = omega (arith, o .sized, o .stands .few); entries = s .pre .entries .entries; read = s .pre .entries .read; inside = omega (arith, s .pre .entries .count-is, c .loop-test .taken) }
+    record { some = of-some o; few = of-few o; entries = s .pre .entries .entries; read = s .pre .entries .read; inside = omega (arith, s .pre .entries .count-is, c .loop-test .taken) }
 
 apply-requires : tie.Need-apply-requires Inv-loop μ-loop
 apply-requires c κs =
@@ -53,7 +54,7 @@ apply-requires c κs =
     let o = s .pre .sized .1 in
     let f = s .pre .entries in
     let z = c .before .entry-at .ensures (f .entries) (f .read) in
-    let q = entry-in-range (s .args .size) (f .entries) (l .i) (omega (arith, f .count-is, c .before .before .loop-test .taken)) (chain-in-range (s .args .size) (omega (arith, o .sized, o .stands .few)) (s .args .chain .now) (f .entries) (f .read) .entries) in
+    let q = entry-in-range (s .args .size) (f .entries) (l .i) (omega (arith, f .count-is, c .before .before .loop-test .taken)) (chain-in-range (s .args .size) (of-few o) (s .args .chain .now) (f .entries) (f .read) .entries) in
     record { placed = l .inv .0; sized = s .pre .sized; a-names = subst (λ e. InRange (s .args .size) (e .a)) (sym z) (q .a-names); b-names = subst (λ e. InRange (s .args .size) (e .b)) (sym z) (q .b-names) }
 
 enum-told : tie.Need-enum-told Inv-loop μ-loop

@@ -1,10 +1,10 @@
 -- `trays::tray::compare_log` meets its contract.
 use mathlib.Core.Path.{refl, sym, subst, _∙_}
-use native.Mathlib.Omega.{arith}
 use lib.ListN.{length}
 use Rattle.model.specs.Services.{readForward, forwardVerdict}
+use Rattle.model.proofs.Outcomes.{still-refused, goes-on}
 use Rattle.images.specs.Programs.{ForwardDone}
-use Rattle.loading.proofs.Outcomes.{still-refused, goes-on}
+use Rattle.cells.proofs.Rules.{of-some, of-few}
 use borrow.Author.Needs.{needs}
 use Rattle.trays.proofs.tray.compare_log.Statement.{statement}
 use Rattle.trays.proofs.tray.compare_log.Tie as tie
@@ -26,7 +26,7 @@ compare-cleared-requires c κs =
       record {
         table = p .table;
         of = p .of;
-        pair = record { some = omega (arith, p .of .sized, p .of .stands .some); few = omega (arith, p .of .sized, p .of .stands .few); one = f; two = p .forward };
+        pair = record { some = of-some (p .of); few = of-few (p .of); one = f; two = p .forward };
       },
       s .pre .1,
     )

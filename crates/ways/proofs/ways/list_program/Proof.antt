@@ -7,6 +7,7 @@ use Rattle.model.specs.declared.answers.Refusal.the-variants.{AnswerShort}
 use Rattle.model.specs.declared.answers.Ways.the-variants.{Refused}
 use Rattle.model.specs.Word.{forward, positive}
 use Rattle.model.specs.Ways.{listing, fittedListing}
+use Rattle.cells.proofs.Rules.{of-some, of-few}
 use Rattle.ways.specs.Marks.{untried}
 use Rattle.ways.specs.Service.{Answers}
 use Rattle.ways.specs.Listing.{ListingMeans}
@@ -43,8 +44,8 @@ unpack-letters-requires c κs =
     let f = s .pre .forward in
     let o = s .pre .passed .of in (
       record {
-        some = omega (arith, o .sized, o .stands .some);
-        few = omega (arith, o .sized, o .stands .few);
+        some = of-some o;
+        few = of-few o;
         program = record { word = positive (f .word); read = f .read-signed; count-is = length-map (f .word) forward ∙ f .count-is };
       },
       omega (arith, c .before .if1 .left),
