@@ -1,10 +1,11 @@
 -- Bits put at a position, one part after another.
 use mathlib.Core.Path.{_≡_, refl, sym, ap, ap₂, _∙_}
-use mathlib.Core.List.{List, [], _++_, append-assoc}
-use Prim.Native.Nat.{ℕ, _+_, _*_, _≤_}
+use mathlib.Core.List.{List, [], _∷_, _++_, append-assoc}
+use Prim.Native.Nat.{ℕ, _+_, _*_, _≤_, _<_}
 use native.Mathlib.Omega.{arith}
-use lib.ListN.{length, take, drop, length-append, take-append-drop}
-use lib.Seq.{take-at, drop-at, drop-drop, length-take-le}
+use native.Mathlib.Numerals.{add-one}
+use lib.ListN.{length, take, drop, set, length-append, take-append-drop}
+use lib.Seq.{take-at, drop-at, drop-drop, length-take-le, set-split}
 use Rattle.model.specs.Bits.{bitsOf, digits}
 use Rattle.model.specs.Areas.{written}
 use Rattle.bits.specs.Fields.{Written, Appended}
@@ -24,6 +25,10 @@ appended-none before at =
       same-length = refl;
       bits = sym (ap (λ n. take at (bitsOf before) ++ drop n (bitsOf before)) {x = at + 0} {y = at} (omega arith) ∙ take-append-drop at (bitsOf before));
     }
+
+-- one byte written
+pub wrote-byte : (old : List ℕ) (at v : ℕ) → at < length old → set old at v ≡ written old at (v ∷ [])
+wrote-byte old at v h = set-split old at v h ∙ ap (λ n. take at old ++ (v ∷ drop n old)) (sym (add-one at))
 
 pub written-more : (old : List ℕ) (at : ℕ) (xs ys : List ℕ) → at + length xs ≤ length old → written (written old at xs) (at + length xs) ys ≡ written old at (xs ++ ys)
 written-more old at xs ys h =

@@ -14,7 +14,5 @@ pub mod Entries
 pub mod Forward
 pub mod Appending
 pub mod Weights
-pub mod Naming
-pub mod PlainTrip
-pub mod Plainly
+pub mod Parts
 pub mod Packwise

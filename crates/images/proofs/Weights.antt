@@ -1,7 +1,7 @@
 -- Reading the weights of a table into their places, and writing them from there: those read or written so far, and what is left. The laws are for
 -- any reader of a weight.
 use mathlib.Core.Path.{_≡_, refl, sym, ap, subst, _∙_}
-use mathlib.Core.List.{List, [], _∷_, _++_, map, append-nil}
+use mathlib.Core.List.{List, [], _∷_, _++_, append-nil}
 use Prim.Native.Nat.{ℕ, suc, _+_, _-_, _*_, _^_, _≤_, _<_}
 use native.Mathlib.Omega.{arith}
 use native.Mathlib.Nat.{mul-one, mul-suc, mul-add, mul-le-mul-left}
@@ -9,18 +9,16 @@ use lib.ListN.{length, take, getD, set, length-append, length-set}
 use lib.Seq.{getD-set-same, getD-set-other, take-suc, take-all}
 use Rattle.model.specs.Presentation.{Presentation}
 use Rattle.model.specs.Enumeration.{concatMap}
-use Rattle.model.specs.Outcome.{unplaced, Outcome, answered, refused, _>>=_}
+use Rattle.model.specs.Outcome.{unplaced, Outcome, answered, refused}
 use Rattle.model.specs.Bits.{Read}
 use Rattle.model.specs.Images.{weightWidth, several}
-use Rattle.model.specs.Plain.{plainWeight}
 use Rattle.model.specs.Range.{InRange}
 use Rattle.cells.specs.Layout.{cellAt, weightAt}
 use Rattle.cells.specs.Stands.{HoldsWeights}
 use Rattle.cells.proofs.Rules.{of-some, of-few}
-use Rattle.images.specs.Tables.{WeightsFrom, bytesFrom, Loaded}
+use Rattle.images.specs.Tables.{WeightsFrom, Loaded}
 use Rattle.images.specs.Held.{HoldsSomeTable}
 use Rattle.images.proofs.Several.{after, after-none, several-step, several-refused, several-done}
-use Rattle.images.proofs.Words.{letter-ends, letter-none, letter-large, letter-read}
 use Rattle.images.proofs.Appending.{concat-append}
 use Rattle.images.proofs.Rows.{one-more}
 
@@ -108,29 +106,6 @@ module _ (reader : List ℕ → Outcome (Read ℕ)) (source : ℕ → List ℕ) 
           kept = f .kept;
         }
 
--- FROM A PLAIN FORM
-
-less-one : Read ℕ → Outcome (Read ℕ)
-less-one r = answered (record { value = r .value - 1; rest = r .rest })
-
-module _ (plain : List ℕ) (at : ℕ) where
-  pub plain-weight-ends : length plain ≤ at → plainWeight (bytesFrom plain at) ≡ refused 1 unplaced
-  unfolding less-one
-  plain-weight-ends h = ap (λ o. o >>= less-one) (letter-ends plain at 8 h)
-
-  module _ (h : at < length plain) where
-    pub plain-weight-none : getD plain at 0 < 1 → plainWeight (bytesFrom plain at) ≡ refused 2 unplaced
-    unfolding less-one
-    plain-weight-none l = ap (λ o. o >>= less-one) (letter-none plain at 8 h l)
-
-    pub plain-weight-above : 1 ≤ getD plain at 0 → 8 < getD plain at 0 → plainWeight (bytesFrom plain at) ≡ refused 2 unplaced
-    unfolding less-one
-    plain-weight-above l g = ap (λ o. o >>= less-one) (letter-large plain at 8 h l g)
-
-    pub plain-weight-there : 1 ≤ getD plain at 0 → getD plain at 0 ≤ 8 → plainWeight (bytesFrom plain at) ≡ answered (record { value = getD plain at 0 - 1; rest = bytesFrom plain (at + 1) })
-    unfolding less-one
-    plain-weight-there l g = ap (λ o. o >>= less-one) (letter-read plain at 8 h l g)
-
 -- WRITING, whatever a weight is written as
 
 module _ (size : ℕ) (cells excess : List ℕ) (h : HoldsWeights size cells excess) where
@@ -150,14 +125,6 @@ module _ (size : ℕ) (cells excess : List ℕ) (h : HoldsWeights size cells exc
 
   pub weights-all : (write : ℕ → List ℕ) (a : ℕ) → size < a → concatMap write (take (a - 1) excess) ≡ concatMap write excess
   weights-all write a g = ap (concatMap write) (take-all (a - 1) excess (omega (arith, h .many)))
-
--- the byte of a weight in plain form
-abbrev pub weightByte : ℕ → List ℕ
-weightByte w = suc w ∷ []
-
-pub weight-bytes : (ws : List ℕ) → concatMap weightByte ws ≡ map suc ws
-weight-bytes [] = refl
-weight-bytes (w ∷ ws) = ap (λ l. suc w ∷ l) (weight-bytes ws)
 
 -- what a loaded table holds, to be written out
 pub loaded-weights : {o : Outcome Presentation} {cells : List ℕ} {size : ℕ} (t : Loaded o cells size) → HoldsWeights size cells (t .table .excess)

@@ -1,28 +1,23 @@
 -- Reading a word of a table into its cell: the letters read so far, what is left to read, and what the cell holds. The laws are for any
--- reader of a letter; then come those of a table image and of a plain form.
+-- reader of a letter; then come those of a table image.
 use mathlib.Core.Path.{_≡_, refl, sym, ap, subst, _∙_}
 use mathlib.Core.Logic.{⊎-elim}
 use mathlib.Core.List.{List, [], _∷_, _++_}
-use mathlib.Core.Bool.{_||_}
 use Prim.Native.Nat.{ℕ, suc, _+_, _-_, _*_, _≤_, _<_}
 use native.Mathlib.Omega.{arith}
-use native.Mathlib.Numerals.{add-one}
-use borrow.Author.Tests.{lt-ltb, le-ltb}
-use lib.Dec.{ltb}
-use lib.ListN.{length, set, getD, drop, length-append, length-set, List·getD-append, drop-of-length-le}
-use lib.Seq.{getD-set-same, getD-set-other, getD-at, drop-cons}
+use lib.ListN.{length, set, getD, length-append, length-set, List·getD-append}
+use lib.Seq.{getD-set-same, getD-set-other, getD-at}
 use Rattle.model.specs.Word.{Positive}
-use Rattle.model.specs.Outcome.{unplaced, Outcome, answered, refused, _>>=_, unless}
+use Rattle.model.specs.Outcome.{unplaced, Outcome, answered, refused, _>>=_}
 use Rattle.model.specs.Bits.{Read, field}
 use Rattle.model.specs.Images.{letterField, wordField, several}
-use Rattle.model.specs.Plain.{nextByte, plainLetter, plainLetters}
 use Rattle.model.proofs.Numbers.{below-or}
 use Rattle.model.proofs.Complete.{all-more}
 use Rattle.images.specs.Fields.{FieldAt, from}
 use Rattle.model.specs.Range.{All, InRange}
 use Rattle.cells.specs.Kept.{KeptOutside}
 use Rattle.cells.proofs.Kept.{kept-store}
-use Rattle.images.specs.Tables.{WordFrom, bytesFrom}
+use Rattle.images.specs.Tables.{WordFrom}
 use Rattle.images.proofs.Several.{after, after-none, several-step, several-refused, several-done}
 
 -- the letters of a word whose length was read and stored; `begin` is the position after it
@@ -138,53 +133,3 @@ length-ends image at size e = ap (afterLength size) (e 1)
 pub word-is : (image : List ℕ) (at size count : ℕ) → FieldAt image at 4 count → wordField size (from image at) ≡ several (letterField 1 2 size) count (from image (at + 4))
 unfolding afterLength
 word-is image at size count head = ap (afterLength size) (head .read 1)
-
--- FROM A PLAIN FORM
-
-letters-of : ℕ → List ℕ → ℕ → Outcome (Read Positive)
-letters-of size input k = several (plainLetter size) k input
-
-pub length-wrong : (size count : ℕ) (input : List ℕ) → 15 < count → plainLetters size count input ≡ refused 2 unplaced
-unfolding letters-of
-length-wrong size count input h = ap (λ t. unless t 2 count >>= letters-of size input) (lt-ltb 15 count h)
-
-pub plain-word-is : (size count : ℕ) (input : List ℕ) → count ≤ 15 → plainLetters size count input ≡ several (plainLetter size) count input
-unfolding letters-of
-plain-word-is size count input h = ap (λ t. unless t 2 count >>= letters-of size input) (le-ltb 15 count h)
-
-pub byte-ends : (plain : List ℕ) (at : ℕ) → length plain ≤ at → nextByte (bytesFrom plain at) ≡ refused 1 unplaced
-byte-ends plain at h = ap nextByte (drop-of-length-le plain h)
-
-pub byte-at : (plain : List ℕ) (at : ℕ) → at < length plain → nextByte (bytesFrom plain at) ≡ answered (record { value = getD plain at 0; rest = bytesFrom plain (at + 1) })
-byte-at plain at h = ap nextByte (drop-cons plain at 0 h) ∙ ap (λ n. answered (record { value = getD plain at 0; rest = drop n plain })) (sym (add-one at))
-
-named : ℕ → Read ℕ → Outcome (Read ℕ)
-named size r = unless (ltb (r .value) 1 || ltb size (r .value)) 2 r
-
-module _ (plain : List ℕ) (at size : ℕ) where
-  pub letter-ends : length plain ≤ at → plainLetter size (bytesFrom plain at) ≡ refused 1 unplaced
-  unfolding named
-  letter-ends h = ap (λ o. o >>= named size) (byte-ends plain at h)
-
-  module _ (h : at < length plain) where
-    letter-is : plainLetter size (bytesFrom plain at) ≡ named size (record { value = getD plain at 0; rest = bytesFrom plain (at + 1) })
-    unfolding named
-    letter-is = ap (λ o. o >>= named size) (byte-at plain at h)
-
-    pub letter-none : getD plain at 0 < 1 → plainLetter size (bytesFrom plain at) ≡ refused 2 unplaced
-    unfolding named
-    letter-none l = letter-is ∙ ap (λ t. unless (t || ltb size (getD plain at 0)) 2 (record { value = getD plain at 0; rest = bytesFrom plain (at + 1) })) (lt-ltb (getD plain at 0) 1 l)
-
-    pub letter-large : 1 ≤ getD plain at 0 → size < getD plain at 0 → plainLetter size (bytesFrom plain at) ≡ refused 2 unplaced
-    unfolding named
-    letter-large l m =
-        letter-is
-        ∙ (ap (λ t. unless (t || ltb size (getD plain at 0)) 2 (record { value = getD plain at 0; rest = bytesFrom plain (at + 1) })) (le-ltb (getD plain at 0) 1 l)
-        ∙ ap (λ t. unless t 2 (record { value = getD plain at 0; rest = bytesFrom plain (at + 1) })) (lt-ltb size (getD plain at 0) m))
-
-    pub letter-read : 1 ≤ getD plain at 0 → getD plain at 0 ≤ size → plainLetter size (bytesFrom plain at) ≡ answered (record { value = getD plain at 0; rest = bytesFrom plain (at + 1) })
-    unfolding named
-    letter-read l m =
-        letter-is
-        ∙ (ap (λ t. unless (t || ltb size (getD plain at 0)) 2 (record { value = getD plain at 0; rest = bytesFrom plain (at + 1) })) (le-ltb (getD plain at 0) 1 l)
-        ∙ ap (λ t. unless t 2 (record { value = getD plain at 0; rest = bytesFrom plain (at + 1) })) (le-ltb size (getD plain at 0) m))

@@ -4,5 +4,4 @@ pub mod Tables
 pub mod Chains
 pub mod Held
 pub mod Written
-pub mod Bytewise
 pub mod Bitwise

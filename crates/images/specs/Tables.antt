@@ -1,16 +1,14 @@
--- What reading the parts of a table, packed or plain, gives: the words, pairs and rows that the model's readers give, in their cells.
+-- What reading the parts of a table gives, from an image or from another source: the words, pairs and rows that the model's readers give, in their cells.
 use mathlib.Core.List.{List, []}
 use mathlib.Core.Path.{_≡_}
 use mathlib.Core.Logic.{_⊎_}
 use Prim.Native.Nat.{ℕ, _+_, _-_, _*_, _^_, _≤_, _<_}
-use lib.Dec.{ltb}
-use lib.ListN.{length, getD, drop}
+use lib.ListN.{length, getD}
 use Rattle.model.specs.Word.{Positive}
 use Rattle.model.specs.Presentation.{Presentation, Complement, undefined}
-use Rattle.model.specs.Outcome.{unplaced, Outcome, answered, refused, _>>=_, unless}
+use Rattle.model.specs.Outcome.{unplaced, Outcome, answered, refused, _>>=_}
 use Rattle.model.specs.Bits.{Read, field, finish}
 use Rattle.model.specs.Images.{weightWidth, wordField, pairField, several, rowsOf, readTable}
-use Rattle.model.specs.Plain.{plainWeight, plainLetters, plainPairAt, readPlainTable}
 use Rattle.model.specs.Stated.{refusal}
 use Rattle.images.specs.Fields.{from}
 use Rattle.model.specs.Range.{InRange}
@@ -89,25 +87,6 @@ RowAt image at size before a after next = RowFrom (pairField size) (from image) 
 abbrev pub RowDone : List ℕ → ℕ → ℕ → List ℕ → ℕ → List ℕ → TablePart → Type 0
 RowDone image at size before a after r = RowDoneFrom (pairField size) (from image) (8 * length image) at size before a after r
 
--- .. from a plain form, whose positions are those of its bytes; of a word the length byte was read
-abbrev pub bytesFrom : List ℕ → ℕ → List ℕ
-bytesFrom plain at = drop at plain
-
-abbrev pub PlainWordDone : List ℕ → ℕ → ℕ → ℕ → List ℕ → ℕ → List ℕ → TablePart → Type 0
-PlainWordDone plain at count size before cell after r = WordDoneFrom (plainLetters size count) (bytesFrom plain) (length plain) 60 at size before cell after r
-
-abbrev pub PlainPairDone : List ℕ → ℕ → ℕ → List ℕ → ℕ → ℕ → List ℕ → TablePart → Type 0
-PlainPairDone plain at size before a b after r = PairDoneFrom (plainPairAt size) (bytesFrom plain) (length plain) at size before a b after r
-
-abbrev pub PlainRowDone : List ℕ → ℕ → ℕ → List ℕ → ℕ → List ℕ → TablePart → Type 0
-PlainRowDone plain at size before a after r = RowDoneFrom (plainPairAt size) (bytesFrom plain) (length plain) at size before a after r
-
--- a place inside a plain form, under a number of letters that a table can have
-pub record PlainBefore (plain : List ℕ) (at size : ℕ) : Type 0 where
-  pub inside : at ≤ length plain
-  pub some : 1 ≤ size
-  pub few : size ≤ 16
-
 -- the rows of a table stand in the cells
 pub record RowsHeld (size : ℕ) (cells : List ℕ) (rows : List (List Complement)) : Type 0 where
   pub many : length rows ≡ size
@@ -130,9 +109,6 @@ WeightsDoneFrom reader source limit most at size before after Wrong = several re
 abbrev pub WeightsDone : List ℕ → ℕ → ℕ → List ℕ → List ℕ → TablePart → Type 0
 WeightsDone image at size before after r = WeightsDoneFrom (field 1 weightWidth) (from image) (8 * length image) 48 at size before after r
 
-abbrev pub PlainWeightsDone : List ℕ → ℕ → ℕ → List ℕ → List ℕ → TablePart → Type 0
-PlainWeightsDone plain at size before after r = WeightsDoneFrom plainWeight (bytesFrom plain) (length plain) 16 at size before after r
-
 pub record WeightsBefore (image : List ℕ) (at size : ℕ) (cells : List ℕ) : Type 0 where
   pub inside : at ≤ 8 * length image
   pub small : at ≤ 2 ^ 40
@@ -144,11 +120,6 @@ unfoldable pub rowsThen : ℕ → List ℕ → List ℕ → Outcome Presentation
 rowsThen size excess bits =
     rowsOf (pairField size) size bits >>= λ rs.
     finish 3 (record { value = record { size = size; excess = excess; rows = rs .value }; rest = rs .rest })
-
-unfoldable pub plainRowsThen : ℕ → List ℕ → List ℕ → Outcome Presentation
-plainRowsThen size excess bytes =
-    rowsOf (plainPairAt size) size bytes >>= λ rs.
-    unless (ltb 0 (length (rs .rest))) 3 (record { size = size; excess = excess; rows = rs .value })
 
 pub record RowsBefore (image : List ℕ) (begin size : ℕ) (cells : List ℕ) : Type 0 where
   pub inside : begin ≤ 8 * length image
@@ -172,20 +143,9 @@ abbrev pub RowsDone : List ℕ → ℕ → ℕ → List ℕ → List ℕ → Tab
 RowsDone image begin size before after r =
     (excess : List ℕ) → HoldsWeights size before excess → LoadedOr (rowsThen size excess (from image begin)) after size r
 
-abbrev pub PlainRowsDone : List ℕ → ℕ → ℕ → List ℕ → List ℕ → TableRead → Type 0
-PlainRowsDone plain begin size before after r =
-    (excess : List ℕ) → HoldsWeights size before excess → LoadedOr (plainRowsThen size excess (bytesFrom plain begin)) after size r
-
--- the cells stand for the table that the image holds, or that the plain form says
+-- the cells stand for the table that the image holds
 abbrev pub TableOf : List ℕ → List ℕ → ℕ → Type 0
 TableOf image cells size = Loaded (readTable image) cells size
-
-abbrev pub PlainTableOf : List ℕ → List ℕ → ℕ → Type 0
-PlainTableOf plain cells size = Loaded (readPlainTable plain) cells size
-
-abbrev pub PlainTableDone : List ℕ → List ℕ → TableRead → Type 0
-PlainTableDone plain cells (Table size) = PlainTableOf plain cells size
-PlainTableDone plain cells (Refused r) = readPlainTable plain ≡ refusal r
 
 abbrev pub TableDone : List ℕ → List ℕ → TableRead → Type 0
 TableDone image cells (Table size) = TableOf image cells size

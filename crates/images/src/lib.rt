@@ -1,7 +1,6 @@
 pub mod chains;
 pub mod fields;
 pub mod packing;
-pub mod plain;
 pub mod programs;
 pub mod tables;
 pub mod writing;

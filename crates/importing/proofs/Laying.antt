@@ -13,7 +13,7 @@ use Rattle.model.specs.Areas.{written}
 use Rattle.model.specs.Notation.{repeated, undone}
 use Rattle.model.proofs.Numbers.{below-or}
 use Rattle.bits.proofs.Appending.{written-more}
-use Rattle.images.proofs.Plainly.{wrote-byte}
+use Rattle.bits.proofs.Appending.{wrote-byte}
 use Rattle.engine.specs.Gap.{letters}
 use Rattle.engine.specs.Words.{Inverted}
 use Rattle.engine.proofs.Letters.{letter-forward, letters-append, letters-cons, letters-nil, length-letters}

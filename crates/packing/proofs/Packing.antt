@@ -5,7 +5,7 @@ use Prim.Native.Nat.{ℕ, suc, _+_}
 use native.Mathlib.Omega.{arith}
 use lib.ListN.{length, take, drop}
 use lib.Seq.{take-at}
-use Rattle.images.specs.Bytewise.{Wrote}
+use Rattle.plain_forms.specs.Writing.{Wrote}
 use Rattle.model.specs.declared.answers.Refusal.{Refusal}
 use Rattle.model.specs.declared.answers.Packed.{Packed}
 use Rattle.model.specs.declared.answers.Packed.the-variants.{Written, Refused}

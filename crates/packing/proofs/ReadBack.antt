@@ -14,7 +14,7 @@ use Rattle.model.specs.Plain.{plainProgram, readPlainProgram, readPlainTable, p
 use Rattle.model.specs.Services.{fitted, programUnder, plainProgramUnder, unpackProgram, packProgram, packTable, unpackTable}
 use Rattle.model.proofs.Impossible.{answer-of, not-refused}
 use Rattle.images.proofs.RoundTrip.{table-reads-back, table-image-of, table-in-range, program-reads-back, program-image-of, program-in-range}
-use Rattle.images.proofs.PlainTrip.{plain-table-reads-back, plain-table-of, plain-program-reads-back, plain-program-of}
+use Rattle.plain_forms.proofs.PlainTrip.{plain-table-reads-back, plain-table-of, plain-program-reads-back, plain-program-of}
 use Rattle.packing.specs.RoundTrips.{Undoes, RoundTrips}
 use Rattle.packing.proofs.Packing.{long-area}
 

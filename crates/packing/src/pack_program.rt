@@ -1,7 +1,5 @@
 // Pack a program: its image in the answer area.
 
-use images::plain::PlainRead;
-use images::plain::read_plain_program;
 use images::programs::COUNT_BITS;
 use images::programs::SIGN_BITS;
 use images::tables;
@@ -9,6 +7,8 @@ use images::tables::TableRead;
 use images::writing;
 use model::answers::Packed;
 use model::answers::Refusal;
+use plain_forms::reading::PlainRead;
+use plain_forms::reading::read_plain_program;
 ghost use mathlib.Core.Path.{_≡_};
 ghost use lib.ListN.{length};
 ghost use Rattle.model.specs.Outcome.{mapped};

@@ -3,10 +3,10 @@
 use areas::bytes::copy_bytes;
 use cells::layout::CELLS;
 use images::packing;
-use images::plain;
 use images::tables::TableRead;
 use model::answers::Packed;
 use model::answers::Refusal;
+use plain_forms::reading::read_plain_table;
 ghost use mathlib.Core.Path.{_≡_};
 ghost use lib.ListN.{length};
 ghost use Rattle.model.specs.Outcome.{mapped};
@@ -23,7 +23,7 @@ pub fn pack(plain: &[u8], answer: &mut [u8]) -> Packed
     ensures readable { λ r. ⌜ ReadsBack (readPlainTable (now (plain .entry))) readTable (packedAs r) (now (answer .exit)) ⌝ }
 {
     let mut cells = [0u8; CELLS];
-    match plain::read_plain_table(plain, &mut cells) {
+    match read_plain_table(plain, &mut cells) {
         TableRead::Refused(refusal) => Packed::Refused(refusal),
         TableRead::Table { size } => {
             let mut out = [0u8; 8192];

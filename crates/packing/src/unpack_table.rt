@@ -2,11 +2,11 @@
 
 use areas::bytes::copy_bytes;
 use cells::layout::CELLS;
-use images::plain;
 use images::tables;
 use images::tables::TableRead;
 use model::answers::Packed;
 use model::answers::Refusal;
+use plain_forms::writing::write_plain_table;
 ghost use mathlib.Core.Path.{_≡_};
 ghost use lib.ListN.{length};
 ghost use Rattle.model.specs.Outcome.{mapped};
@@ -27,7 +27,7 @@ pub fn unpack(table: &[u8], answer: &mut [u8]) -> Packed
         TableRead::Refused(refusal) => Packed::Refused(refusal),
         TableRead::Table { size } => {
             let mut out = [0u8; 8192];
-            let bytes = plain::write_plain_table(&cells, size, &mut out);
+            let bytes = write_plain_table(&cells, size, &mut out);
             if answer.len() < bytes {
                 return Packed::Refused(Refusal::AnswerShort);
             }

@@ -12,7 +12,7 @@ use Rattle.cells.specs.Stands.{HoldsWord}
 use Rattle.cells.specs.Layout.{cellAt}
 use Rattle.cells.specs.Kept.{HoldsPair}
 use Rattle.images.specs.Bitwise.{AppendedTo}
-use Rattle.images.proofs.Plainly.{both-words}
+use Rattle.images.proofs.Parts.{both-words}
 use Rattle.images.proofs.Packwise.{to-field, to-more, undefined-bits}
 use borrow.Author.Needs.{needs}
 use Rattle.images.proofs.packing.pack_pair.Statement.{statement}

@@ -10,7 +10,7 @@ use Rattle.model.specs.Images.{pairBits}
 use Rattle.cells.specs.Kept.{HoldsPair}
 use Rattle.images.specs.Tables.{HoldsRow}
 use Rattle.images.specs.Bitwise.{AppendedTo}
-use Rattle.images.proofs.Plainly.{row-pair, row-more, row-all}
+use Rattle.images.proofs.Parts.{row-pair, row-more, row-all}
 use Rattle.images.proofs.Packwise.{to-none, to-more}
 use Rattle.images.proofs.packing.pack_row.Statement.{statement}
 use Rattle.images.proofs.packing.pack_row.Tie as tie

@@ -11,7 +11,7 @@ use Rattle.model.specs.Images.{pairBits}
 use Rattle.bits.proofs.Width.{width-small}
 use Rattle.images.specs.Tables.{RowsHeld}
 use Rattle.images.specs.Bitwise.{AppendedTo}
-use Rattle.images.proofs.Plainly.{table-row, table-width, table-more, table-all}
+use Rattle.images.proofs.Parts.{table-row, table-width, table-more, table-all}
 use Rattle.images.proofs.Packwise.{to-none, to-more}
 use Rattle.images.proofs.packing.pack_rows.Statement.{statement}
 use Rattle.images.proofs.packing.pack_rows.Tie as tie

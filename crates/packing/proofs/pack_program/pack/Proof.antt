@@ -11,7 +11,7 @@ use Rattle.model.specs.Services.{packProgram, programUnder, plainProgramUnder}
 use Rattle.bits.proofs.Width.{width-small}
 use Rattle.bits.proofs.Packing.{length-packed}
 use Rattle.images.specs.Tables.{SizeDone, SizeOf}
-use Rattle.images.specs.Bytewise.{PlainDone, PlainProgram}
+use Rattle.plain_forms.specs.Reading.{PlainDone, PlainProgram}
 use Rattle.images.specs.Written.{programBits}
 use Rattle.bits.specs.Fields.{Appended}
 use Rattle.images.proofs.Letters.{near}

@@ -14,7 +14,7 @@ use Rattle.model.specs.Plain.{readPlainTable}
 use Rattle.model.specs.Services.{packTable}
 use Rattle.model.specs.Range.{AreBytes}
 use Rattle.bits.proofs.Packing.{length-packed}
-use Rattle.images.specs.Tables.{PlainTableDone, PlainTableOf}
+use Rattle.plain_forms.specs.Reading.{PlainTableDone, PlainTableOf}
 use Rattle.images.proofs.Appending.{bytes-first, zero-image, table-bits, table-image}
 use Rattle.images.proofs.Weights.{loaded-weights, loaded-table}
 use Rattle.packing.proofs.Packing.{refused-keeps, answered-writes, short-area, long-area, plain-refused, plain-read}

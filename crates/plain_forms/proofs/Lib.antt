@@ -1,0 +1,6 @@
+pub mod Bytes
+pub mod Programs
+pub mod Pairs
+pub mod Tables
+pub mod Written
+pub mod PlainTrip

@@ -1,0 +1,3 @@
+// Readers and writers of the plain forms of programs and tables.
+pub mod reading;
+pub mod writing;
