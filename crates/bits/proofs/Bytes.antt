@@ -4,8 +4,9 @@ use mathlib.Core.List.{List, [], _∷_, _++_, append-assoc}
 use Prim.Native.Nat.{ℕ, zero, suc, _+_, _-_, _*_, _/_, _%_, _^_, _≤_, _<_}
 use native.Mathlib.Omega.{arith}
 use lib.ListN.{length, take, drop, set, getD, length-append, List·getD-append}
-use lib.Seq.{split-at, set-split, getD-append-add, length-take-le}
+use lib.Seq.{split-at, set-split, getD-drop, getD-append-add, length-take-le}
 use Rattle.model.specs.Bits.{digits, bitsOf}
+use Rattle.model.specs.Range.{AreBytes}
 use Rattle.bits.proofs.Digits.{AreBits, length-digits, digits-are-bits, bits-append}
 
 pub length-bits : (xs : List ℕ) → length (bitsOf xs) ≡ 8 * length xs
@@ -45,3 +46,7 @@ bit-at xs at h =
     ∙ (getD-append-add (bitsOf (take (at / 8) xs)) (digits 8 (getD xs (at / 8) 0) ++ bitsOf (drop (suc (at / 8)) xs)) (at % 8) 0
     ∙ (List·getD-append (digits 8 (getD xs (at / 8) 0)) (bitsOf (drop (suc (at / 8)) xs)) 0 (at % 8) (omega (arith, length-digits 8 (getD xs (at / 8) 0)))
     ∙ digit-at 8 (getD xs (at / 8) 0) (at % 8) (omega arith))))
+
+-- bytes without the first ones
+pub bytes-drop : (k : ℕ) (xs : List ℕ) → AreBytes xs → AreBytes (drop k xs)
+bytes-drop k xs h i = rw (getD-drop k xs i 0) (h (k + i))

@@ -6,7 +6,7 @@ use Prim.Native.Nat.{ℕ, zero, suc, _+_, _-_, _*_, _%_, _^_, _≤_, _<_}
 use native.Mathlib.Nat.{zero-mul, zero-div}
 use native.Mathlib.Omega.{arith}
 use lib.ListN.{length, take, drop, replicate, length-append, length-drop, take-append-drop}
-use lib.Seq.{take-at, drop-at, drop-drop, length-take-le, getD-drop}
+use lib.Seq.{take-at, drop-at, drop-drop, length-take-le}
 use Rattle.model.specs.Bits.{bitsOf, digits, letterWidth, bytesFor, pack, filling}
 use Rattle.model.specs.Equivalence.{Entry}
 use Rattle.model.specs.Enumeration.{concatMap}
@@ -15,7 +15,7 @@ use Rattle.model.specs.Services.{chainBytes}
 use Rattle.model.specs.Areas.{begins}
 use Rattle.bits.specs.Fields.{Inside, Written}
 use Rattle.bits.proofs.Digits.{AreBits, length-digits, digits-are-bits, bits-append}
-use Rattle.bits.proofs.Bytes.{length-bits, bits-of-append}
+use Rattle.bits.proofs.Bytes.{length-bits, bits-of-append, bytes-drop}
 use Rattle.model.specs.Range.{AreBytes}
 use Rattle.bits.proofs.Packing.{pack-filling, bits-injective, packed-of}
 use Rattle.chains.specs.Layout.{Layout}
@@ -130,9 +130,6 @@ bytes-take zero xs h i = omega arith
 bytes-take (suc k) [] h i = omega arith
 bytes-take (suc k) (x ∷ xs) h zero = h 0
 bytes-take (suc k) (x ∷ xs) h (suc i) = bytes-take k xs (λ j. h (suc j)) i
-
-bytes-drop : (k : ℕ) (xs : List ℕ) → AreBytes xs → AreBytes (drop k xs)
-bytes-drop k xs h i = rw (getD-drop k xs i 0) (h (k + i))
 
 split-bits : (k : ℕ) (xs : List ℕ) → bitsOf xs ≡ bitsOf (take k xs) ++ bitsOf (drop k xs)
 split-bits k xs = ap bitsOf (sym (take-append-drop k xs)) ∙ bits-of-append (take k xs) (drop k xs)

@@ -11,17 +11,13 @@ use Rattle.model.specs.Equivalence.{Entry}
 use Rattle.model.specs.Enumeration.{concatMap}
 use Rattle.model.specs.Images.{entryBits, entryWidth, entryPosition}
 use Rattle.model.specs.Services.{chainBytes}
+use Rattle.model.proofs.Lists.{concat-append}
 use Rattle.bits.proofs.Digits.{length-digits}
 use Rattle.chains.specs.Layout.{tailBits, Layout}
 use Rattle.bits.specs.Fields.{Appended}
 use Rattle.chains.proofs.Parts.{part-within, part-left}
 use Rattle.entries.proofs.Placing.{length-entry}
 use Rattle.bits.proofs.Appending.{appended-at}
-
-concat-append : (n : ℕ) (es : List Entry) (e : Entry) → concatMap (entryBits n) (es ++ (e ∷ [])) ≡ concatMap (entryBits n) es ++ entryBits n e
-concat-append n [] e = append-nil (entryBits n e)
-concat-append n (f ∷ es) e =
-    ap (λ l. entryBits n f ++ l) (concat-append n es e) ∙ sym (append-assoc (entryBits n f) (concatMap (entryBits n) es) (entryBits n e))
 
 pub length-entries : (n : ℕ) (es : List Entry) → length (concatMap (entryBits n) es) ≡ length es * entryWidth n
 length-entries n [] = sym (zero-mul (entryWidth n))
@@ -197,5 +193,5 @@ module _ (n total : ℕ) (area : List ℕ) (entries : List Entry) where
               appended-at p head (take (entryWidth n) freed) (drop (entryWidth n) freed ++ (concatMap (entryBits n) slots ++ tail)) b
               head-length (freed-first ∙ sym (length-entry n e))
               ∙ (entry-group count body (entryBits n e) (drop (entryWidth n) freed) (concatMap (entryBits n) slots ++ tail)
-              ∙ ap (λ l. count ++ (l ++ (drop (entryWidth n) freed ++ (concatMap (entryBits n) slots ++ tail)))) (sym (concat-append n entries e)));
+              ∙ ap (λ l. count ++ (l ++ (drop (entryWidth n) freed ++ (concatMap (entryBits n) slots ++ tail)))) (sym (concat-append (entryBits n) entries (e ∷ []) ∙ ap (λ l. concatMap (entryBits n) entries ++ l) (append-nil (entryBits n e)))));
         }

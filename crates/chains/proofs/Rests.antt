@@ -10,14 +10,8 @@ use Rattle.model.specs.Word.{Word, Positive, forward, back, letter, positive, n
 use Rattle.model.proofs.Words.{negative-cons, negative-append}
 use Rattle.engine.specs.Gap.{letters}
 use Rattle.engine.specs.Turn.{Pushed}
-use Rattle.engine.proofs.Letters.{letters-append, letters-cons, letters-nil, length-letters, byte-of-back, byte-of-forward}
+use Rattle.engine.proofs.Letters.{letters-append, letters-cons, letters-nil, length-letters, byte-of-back, byte-of-forward, letters-take}
 use Rattle.engine.proofs.Lettering.{length-negative, length-positive}
-
-letters-take : (k : ℕ) (xs : List ℕ) → letters (take k xs) ≡ take k (letters xs)
-unfolding letters
-letters-take zero xs = refl
-letters-take (suc k) [] = refl
-letters-take (suc k) (x ∷ xs) = ap (λ w. letter x ∷ w) (letters-take k xs)
 
 letters-drop : (k : ℕ) (xs : List ℕ) → letters (drop k xs) ≡ drop k (letters xs)
 unfolding letters

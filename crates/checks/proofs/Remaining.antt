@@ -1,6 +1,6 @@
 -- The triples that are left from a place on, in the order of specification 4.1.
-use mathlib.Core.Path.{_≡_, refl, sym, ap, ap₂, _∙_}
-use mathlib.Core.List.{List, [], _∷_, _++_, map, append-assoc}
+use mathlib.Core.Path.{_≡_, ap, ap₂, _∙_}
+use mathlib.Core.List.{List, [], _∷_, _++_, map}
 use mathlib.Core.Bool.{Bool, true, false, _||_, cond}
 use Prim.Native.Nat.{ℕ, _+_, _-_, _≤_, _<_}
 use native.Mathlib.Omega.{arith}
@@ -8,10 +8,7 @@ use borrow.Author.Tests.{eq-eqb, ne-eqb}
 use lib.Dec.{eqb}
 use Rattle.model.specs.Enumeration.{range, concatMap, Two, Three, others, triples}
 use Rattle.model.proofs.Pairs.{upTo, up-some, up-none, rowFrom, pairsFrom, row-begins, row-some, row-none, pairs-begin, pairs-some, pairs-none}
-
-pub concat-append : {A B : Type 0} (f : A → List B) (xs ys : List A) → concatMap f (xs ++ ys) ≡ concatMap f xs ++ concatMap f ys
-concat-append f [] ys = refl
-concat-append f (x ∷ xs) ys = ap (λ l. f x ++ l) (concat-append f xs ys) ∙ sym (append-assoc (f x) (concatMap f xs) (concatMap f ys))
+use Rattle.model.proofs.Lists.{concat-append}
 
 abbrev pub triple : ℕ → ℕ → ℕ → Three
 triple a b c = record { a = a; b = b; c = c }

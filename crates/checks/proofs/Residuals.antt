@@ -15,16 +15,10 @@ use Rattle.model.specs.declared.answers.Stop.the-variants.{Room}
 use Rattle.model.proofs.Reversal.{reversing-long}
 use Rattle.engine.specs.Gap.{letters}
 use Rattle.engine.specs.Run.{LeavesWord, LeavesLetters, Reverses}
-use Rattle.engine.proofs.Letters.{letter-forward, letter-back, letters-cons, letters-nil}
+use Rattle.engine.proofs.Letters.{letter-forward, letter-back, letters-cons, letters-nil, letters-take}
 use Rattle.engine.proofs.Lettering.{lettered-front, length-positive, length-negative}
 use Rattle.checks.specs.Residues.{fromEnding, Works}
 use Rattle.checks.specs.declared.residues.Residue.the-variants.{Halted}
-
-letters-take : (k : ℕ) (l : List ℕ) → letters (take k l) ≡ take k (letters l)
-unfolding letters
-letters-take Prim.Native.Nat.zero l = refl
-letters-take (suc k) [] = refl
-letters-take (suc k) (x ∷ l) = ap (λ w. letter x ∷ w) (letters-take k l)
 
 -- the numerator stands at the start
 ending-works : (size : ℕ) (e : Ending) (bytes : List ℕ) → LeavesWord e bytes → LeavesLetters size e → Works size (ofEnding e) bytes (fromEnding (endingAnswer e))

@@ -9,7 +9,7 @@ use Rattle.model.specs.Word.{Positive}
 use Rattle.model.specs.Presentation.{Presentation, complement, complete, weightOf, weigh}
 use Rattle.model.specs.Range.{InRange}
 use Rattle.model.proofs.Equiv.{total-more}
-use Rattle.model.proofs.Complete.{all-at}
+use Rattle.model.proofs.Lists.{all-at}
 use Rattle.cells.specs.Layout.{cellAt, weightAt}
 use Rattle.cells.specs.Stands.{HoldsWord, HoldsFirst, Of}
 use Rattle.cells.proofs.Rules.{Rule, word-cell, held-weight, light-letter}

@@ -2,11 +2,11 @@
 use mathlib.Core.Path.{_≡_, refl, sym, ap, ap₂, _∙_}
 use mathlib.Core.List.{List, [], _∷_, _++_, map-append, nil≢cons, head-eq-of-cons-eq, tail-eq-of-cons-eq}
 use mathlib.Core.Bool.{cond}
-use Prim.Native.Nat.{ℕ, _+_, _-_, _%_, _≤_, _<_}
+use Prim.Native.Nat.{ℕ, zero, suc, _+_, _-_, _%_, _≤_, _<_}
 use native.Mathlib.Decide.{decLt}
 use native.Mathlib.Omega.{arith}
 use borrow.Author.Tests.{lt-ltb, le-ltb}
-use lib.ListN.{length, length-map}
+use lib.ListN.{length, take, length-map}
 use Rattle.model.specs.Word.{forward, back, flip, letter, positive}
 use Rattle.engine.specs.Gap.{letters}
 
@@ -35,6 +35,12 @@ letter-turned x fits = go (decLt x 128)
 pub letters-append : (xs ys : List ℕ) → letters (xs ++ ys) ≡ letters xs ++ letters ys
 unfolding letters
 letters-append xs ys = map-append letter xs ys
+
+pub letters-take : (k : ℕ) (xs : List ℕ) → letters (take k xs) ≡ take k (letters xs)
+unfolding letters
+letters-take zero xs = refl
+letters-take (suc k) [] = refl
+letters-take (suc k) (x ∷ xs) = ap (λ w. letter x ∷ w) (letters-take k xs)
 
 pub letters-cons : (x : ℕ) (xs : List ℕ) → letters (x ∷ xs) ≡ letter x ∷ letters xs
 unfolding letters

@@ -21,8 +21,9 @@ use Rattle.model.specs.Areas.{begins}
 use Rattle.bits.specs.Fields.{Appended}
 use Rattle.bits.proofs.Digits.{AreBits, length-digits, digits-are-bits, bits-append, digits-joined}
 use Rattle.bits.proofs.Width.{letter-fits}
-use Rattle.bits.proofs.Bytes.{length-bits, bits-of-append, bits-store}
+use Rattle.bits.proofs.Bytes.{length-bits, bits-of-append, bits-store, bytes-drop}
 use Rattle.model.specs.Range.{AreBytes}
+use Rattle.model.proofs.Lists.{concat-append}
 use Rattle.bits.proofs.Packing.{take-zeros, pack-bits, packed-bytes, length-packed, bits-injective, and-first, and-second}
 use Rattle.images.specs.Written.{WidthOf, programBits}
 use Rattle.images.proofs.Placed.{length-signed}
@@ -69,10 +70,6 @@ module _ (size width x : ℕ) (of : WidthOf size width) (byte : x < 256) (named 
       ∙ (digits-joined 1 width (x / 128) (x % 128 - 1) small ∙ sign-and-number size width x byte (of .width-is))
 
 -- the letters of a program, one more at a time
-pub concat-append : {A : Type 0} (f : A → List ℕ) (xs ys : List A) → concatMap f (xs ++ ys) ≡ concatMap f xs ++ concatMap f ys
-concat-append f [] ys = refl
-concat-append f (x ∷ xs) ys = ap (λ l. f x ++ l) (concat-append f xs ys) ∙ sym (append-assoc (f x) (concatMap f xs) (concatMap f ys))
-
 pub length-concat : {A : Type 0} (f : A → List ℕ) (size : ℕ) → ((x : A) → length (f x) ≡ size) → (xs : List A) → length (concatMap f xs) ≡ length xs * size
 length-concat f size h [] = sym (native.Mathlib.Nat.zero-mul size)
 length-concat f size h (x ∷ xs) = length-append (f x) (concatMap f xs) ∙ omega (arith, h x, length-concat f size h xs, suc-mul (length xs) size)
@@ -161,11 +158,6 @@ image-written before after bits ob nb r some fits w =
     bytes-append [] ys hx hy i = hy i
     bytes-append (x ∷ xs) ys hx hy zero = hx 0
     bytes-append (x ∷ xs) ys hx hy (suc i) = bytes-append xs ys (λ i. hx (suc i)) hy i
-
-    bytes-drop : (n : ℕ) (xs : List ℕ) → AreBytes xs → AreBytes (drop n xs)
-    bytes-drop zero xs h i = h i
-    bytes-drop (suc n) [] h i = h i
-    bytes-drop (suc n) (x ∷ xs) h i = bytes-drop n xs (λ i. h (suc i)) i
 
 -- AN AREA OF ZERO BYTES
 

@@ -18,8 +18,7 @@ use Rattle.cells.specs.Stands.{HoldsWord}
 use Rattle.cells.specs.Layout.{cellAt}
 use Rattle.cells.specs.Kept.{HoldsPair}
 use Rattle.images.specs.Bitwise.{AppendedTo}
-use Rattle.model.proofs.Complete.{all-at}
-use Rattle.images.proofs.Appending.{concat-append}
+use Rattle.model.proofs.Lists.{all-at, concat-append}
 use Rattle.bits.proofs.Appending.{appended-field, appended-none, appended-more}
 
 pub to-none : (before : List ℕ) (at : ℕ) → AppendedTo before at [] before at

@@ -8,11 +8,11 @@ use lib.Seq.{take-suc, take-all}
 use Rattle.model.specs.Word.{Positive}
 use Rattle.model.specs.Presentation.{Complement, undefined, complement}
 use Rattle.model.specs.Enumeration.{concatMap}
+use Rattle.model.proofs.Lists.{concat-append}
 use Rattle.cells.specs.Kept.{HoldsPair}
 use Rattle.cells.specs.Layout.{cellAt}
 use Rattle.cells.specs.Stands.{HoldsWord}
 use Rattle.images.specs.Tables.{HoldsRow, RowsHeld}
-use Rattle.images.proofs.Appending.{concat-append}
 
 -- PAIRS
 

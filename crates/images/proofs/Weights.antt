@@ -13,13 +13,13 @@ use Rattle.model.specs.Outcome.{unplaced, Outcome, answered, refused}
 use Rattle.model.specs.Bits.{Read}
 use Rattle.model.specs.Images.{weightWidth, several}
 use Rattle.model.specs.Range.{InRange}
+use Rattle.model.proofs.Lists.{concat-append}
 use Rattle.cells.specs.Layout.{cellAt, weightAt}
 use Rattle.cells.specs.Stands.{HoldsWeights}
 use Rattle.cells.proofs.Rules.{of-some, of-few}
 use Rattle.images.specs.Tables.{WeightsFrom, Loaded}
 use Rattle.images.specs.Held.{HoldsSomeTable}
 use Rattle.images.proofs.Several.{after, after-none, several-step, several-refused, several-done}
-use Rattle.images.proofs.Appending.{concat-append}
 use Rattle.images.proofs.Rows.{one-more}
 
 -- `each` is how far a weight reaches

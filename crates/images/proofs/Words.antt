@@ -12,7 +12,7 @@ use Rattle.model.specs.Outcome.{unplaced, Outcome, answered, refused, _>>=_}
 use Rattle.model.specs.Bits.{Read, field}
 use Rattle.model.specs.Images.{letterField, wordField, several}
 use Rattle.model.proofs.Numbers.{below-or}
-use Rattle.model.proofs.Complete.{all-more}
+use Rattle.model.proofs.Lists.{all-more}
 use Rattle.images.specs.Fields.{FieldAt, from}
 use Rattle.model.specs.Range.{All, InRange}
 use Rattle.cells.specs.Kept.{KeptOutside}

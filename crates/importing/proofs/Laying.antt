@@ -12,6 +12,7 @@ use Rattle.model.specs.Word.{forward, Word, inverse}
 use Rattle.model.specs.Areas.{written}
 use Rattle.model.specs.Notation.{repeated, undone}
 use Rattle.model.proofs.Numbers.{below-or}
+use Rattle.areas.proofs.Parts.{taken-length}
 use Rattle.bits.proofs.Appending.{written-more}
 use Rattle.bits.proofs.Appending.{wrote-byte}
 use Rattle.engine.specs.Gap.{letters}
@@ -21,15 +22,12 @@ use Rattle.importing.specs.Laying.{WordPut, copies, Repeatable, Repeats,
 
 -- COPIES
 
-length-part : (a : List ℕ) (from count : ℕ) → from + count ≤ length a → length (take count (drop from a)) ≡ count
-length-part a from count inside = length-take-le count (drop from a) (omega (arith, length-drop from a, inside))
-
 -- what stands in an area, put where it stands
 written-same : (a : List ℕ) (from count : ℕ) → from + count ≤ length a → a ≡ written a from (take count (drop from a))
 written-same a from count inside =
     sym (take-append-drop from a)
     ∙ ap (λ l. take from a ++ l) (sym (take-append-drop count (drop from a)) ∙ ap (λ l. take count (drop from a) ++ l) (drop-drop count from a))
-    ∙ ap (λ k. take from a ++ (take count (drop from a) ++ drop (from + k) a)) (sym (length-part a from count inside))
+    ∙ ap (λ k. take from a ++ (take count (drop from a) ++ drop (from + k) a)) (sym (taken-length a from count inside))
 
 -- what was put from a place on stands there
 pub put-stands : (a : List ℕ) (from : ℕ) (b : List ℕ) → from ≤ length a → (n : ℕ) → n ≡ length b → take n (drop from (written a from b)) ≡ b
@@ -104,7 +102,7 @@ module _ (a : List ℕ) (from count end times : ℕ) (some : 1 ≤ count) (ends 
       b = take count (drop from a)
 
       count-is : length b ≡ count
-      count-is = length-part a from count (omega (arith, c .at-is, c .inside, room, suc-mul k count))
+      count-is = taken-length a from count (omega (arith, c .at-is, c .inside, room, suc-mul k count))
 
       all-long : length (copies (suc k) b) ≡ suc k * count
       all-long = length-copies (suc k) b ∙ ap (λ n. suc k * n) count-is
@@ -213,7 +211,7 @@ put-word a from w b l n e =
 
 module _ (a : List ℕ) (from count end : ℕ) (inside : from + count ≤ length a) (room : end ≤ length a) (k : ℕ) (ends : end ≡ from + k * count) where
   all-bytes : length (copies k (take count (drop from a))) ≡ k * count
-  all-bytes = length-copies k (take count (drop from a)) ∙ ap (λ n. k * n) (length-part a from count inside)
+  all-bytes = length-copies k (take count (drop from a)) ∙ ap (λ n. k * n) (taken-length a from count inside)
 
   -- a body that stands as often as its count says
   pub put-copies : (after : List ℕ) → after ≡ written a from (copies k (take count (drop from a))) → WordPut a from (repeated k (letters (take count (drop from a)))) after

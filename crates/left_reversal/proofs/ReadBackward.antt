@@ -19,7 +19,7 @@ use Rattle.model.specs.Services.{sizes, Fraction, fractionOf}
 use Rattle.model.specs.Areas.{written, fractionBytes, outputAfter}
 use Rattle.model.specs.declared.answers.Refusal.{Refusal}
 use Rattle.model.specs.declared.answers.Reversed.the-variants.{Answer, Refused}
-use Rattle.model.proofs.Complete.{all-reverse}
+use Rattle.model.proofs.Lists.{all-reverse}
 use Rattle.model.proofs.Words.{map-reverse}
 use Rattle.areas.proofs.Parts.{part-back}
 use Rattle.theory.specs.Mirrors.{readBackward}

@@ -10,7 +10,7 @@ use lib.Seq.{getD-take, getD-drop, getD-set-same, getD-set-other}
 use Rattle.model.specs.Word.{Positive}
 use Rattle.model.specs.Range.{InRange}
 use Rattle.model.specs.Mirror.{fromEnd}
-use Rattle.model.proofs.Complete.{all-reverse}
+use Rattle.model.proofs.Lists.{all-reverse}
 use Rattle.model.proofs.Words.{reverse-at}
 use Rattle.model.proofs.Mirrors.{last-is, before-is, before-length, before-named}
 use Rattle.cells.specs.Stands.{HoldsWord}

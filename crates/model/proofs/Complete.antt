@@ -2,18 +2,19 @@
 -- pairs are undefined. They are what [D1] section 1 asks of a right complement, with the arguments in the order of [D2].
 use mathlib.Core.Path.{_≡_, refl, sym, ap, _∙_}
 use mathlib.Core.Logic.{_≢_}
-use mathlib.Core.List.{List, [], _∷_, _++_, reverse, reverse-cons}
+use mathlib.Core.List.{List, [], _∷_}
 use mathlib.Core.Bool.{Bool, true, false, _&&_, cond}
 use Prim.Native.Nat.{ℕ, zero, suc, _-_, _<_}
 use native.Mathlib.Omega.{arith}
 use native.Mathlib.Decide.{ℕ-discrete, decLt}
 use lib.Dec.{leb, ltb}
-use lib.ListN.{length, getD}
+use lib.ListN.{getD}
 use borrow.Author.Tests.{eq-eqb, ne-eqb, lt-ltb, le-ltb, leb-true}
 use Rattle.model.specs.Word.{Positive}
-use Rattle.model.specs.Range.{InRange, All, Rows, WordInRange, PairInRange, TableInRange}
+use Rattle.model.specs.Range.{InRange, Rows, WordInRange, PairInRange, TableInRange}
 use Rattle.model.specs.Presentation.{Presentation, Complement, undefined, complement, swapped, listed, complete}
 use Rattle.model.proofs.Impossible.{impossible}
+use Rattle.model.proofs.Lists.{all-default}
 
 module _ (T : Presentation) where
   pub complete-same : (a : ℕ) → complete T a a ≡ complement [] []
@@ -80,27 +81,6 @@ module _ (T : Presentation) where
           (r .1, r .0)
 
 -- THE LETTERS OF COMPLETIONS
-
--- what holds of all holds of each
-pub all-at : {A : Type 0} (P : A → Type 0) (xs : List A) (i : ℕ) (d : A) → All P xs → i < length xs → P (getD xs i d)
-all-at P [] i d a h = absurd (omega arith)
-all-at P (x ∷ xs) zero d a h = a .0
-all-at P (x ∷ xs) (suc i) d a h = all-at P xs i d (a .1) (omega arith)
-
--- .. and of one more, and in either direction
-pub all-more : {A : Type 0} (P : A → Type 0) (xs : List A) (x : A) → All P xs → P x → All P (xs ++ (x ∷ []))
-all-more P [] x h p = (p, tt)
-all-more P (y ∷ xs) x h p = (h .0, all-more P xs x (h .1) p)
-
-pub all-reverse : {A : Type 0} (P : A → Type 0) (xs : List A) → All P xs → All P (reverse xs)
-all-reverse P [] h = tt
-all-reverse P (x ∷ xs) h = rw (reverse-cons x xs) (all-more P (reverse xs) x (all-reverse P xs (h .1)) (h .0))
-
--- also past the end, where it holds of what stands there
-all-default : {A : Type 0} (P : A → Type 0) (d : A) → P d → (xs : List A) → All P xs → (i : ℕ) → P (getD xs i d)
-all-default P d p [] h i = p
-all-default P d p (x ∷ xs) h zero = h .0
-all-default P d p (x ∷ xs) h (suc i) = all-default P d p xs (h .1) i
 
 rows-at : {A : Type 0} (P : A → Type 0) (d : A) → P d → (k : ℕ) (rows : List (List A)) → Rows P k rows → (i j : ℕ) → P (getD (getD rows i []) j d)
 rows-at P d p zero [] h i j = p

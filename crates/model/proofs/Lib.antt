@@ -1,5 +1,6 @@
 pub mod Impossible
 pub mod Outcomes
+pub mod Lists
 pub mod Booleans
 pub mod Numbers
 pub mod Pairs

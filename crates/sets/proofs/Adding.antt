@@ -10,21 +10,18 @@ use lib.Dec.{leb}
 use lib.ListN.{length, take, drop, set, length-append, length-set}
 use lib.Seq.{take-suc-set, take-add}
 use Rattle.model.specs.Word.{Positive, positive}
-use Rattle.model.specs.Range.{All, Lettered}
+use Rattle.model.specs.Range.{Lettered}
 use Rattle.model.specs.Reversing.{finished}
 use Rattle.model.specs.Ways.{listingBytes}
 use Rattle.model.specs.Outcome.{unplaced, Outcome, answered, refused, _>>=_, unless}
 use Rattle.model.specs.Signed.{isListed, mostWords, addedTo}
 use Rattle.model.specs.declared.answers.Stop.the-variants.{Room}
+use Rattle.model.proofs.Lists.{all-more}
 use Rattle.swaps.proofs.Putting.{word-length}
 use Rattle.sets.specs.declared.growing.Held.{Held}
 use Rattle.sets.specs.declared.growing.Grown.the-variants.{TooLarge}
 use Rattle.sets.specs.Growing.{stoppedAs, grownAs, Growing, Grew, StopsLong}
 use Rattle.sets.proofs.Spelling.{listing-both, bytes-after, used-is}
-
-all-after : {A : Type 0} (P : A → Type 0) (xs : List A) (y : A) → All P xs → P y → All P (xs ++ (y ∷ []))
-all-after P [] y p q = (q, tt)
-all-after P (x ∷ xs) y p q = (p .0, all-after P xs y (p .1) q)
 
 module _ (n : ℕ) (area : List ℕ) (h : Held) (vs : List Positive) (g : Growing n area h vs) (count : ℕ) (inside : h .used + count ≤ length area)
     (w : Positive) (behind : take count (drop (h .used) area) ≡ w) where
@@ -90,7 +87,7 @@ module _ (n : ℕ) (area : List ℕ) (h : Held) (vs : List Positive) (g : Growin
                             ∙ (ap (λ l. l ++ (0 ∷ [])) front
                             ∙ (append-assoc (listingBytes vs) w (0 ∷ [])
                             ∙ (ap (λ l. listingBytes vs ++ l) (sym (append-nil (w ++ (0 ∷ [])))) ∙ sym (listing-both vs (w ∷ []))))));
-                        named = all-after (λ x. Lettered n (positive x)) vs w (g .lists .named) named;
+                        named = all-more (λ x. Lettered n (positive x)) vs w (g .lists .named) named;
                       };
                   counted = omega (arith, long, g .counted);
                   few = omega (arith, long, g .counted, some);

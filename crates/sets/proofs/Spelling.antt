@@ -7,9 +7,10 @@ use native.Mathlib.Decide.{decLe, decLt}
 use lib.ListN.{length, take, drop, getD, length-append, List·getD-append, take-append-drop}
 use lib.Seq.{drop-at, take-at, take-length, take-suc, take-append-le, split-at, getD-drop, getD-append-seam, length-take-le}
 use Rattle.model.specs.Word.{Positive, positive}
-use Rattle.model.specs.Range.{All, Lettered}
+use Rattle.model.specs.Range.{Lettered}
 use Rattle.model.specs.Ways.{listingBytes}
 use Rattle.model.specs.Signed.{setBytes}
+use Rattle.model.proofs.Lists.{all-at}
 use Rattle.sets.specs.declared.words.Span.{Span}
 use Rattle.sets.specs.Words.{HasEnd, EndFound}
 use Rattle.sets.specs.Listed.{Lists, Placed}
@@ -62,11 +63,6 @@ place-above vs i j l h = go (decLt i j)
 
 -- A WORD AT ITS PLACE
 
-all-at : {A : Type 0} (P : A → Type 0) (xs : List A) (i : ℕ) (d : A) → i < length xs → All P xs → P (getD xs i d)
-all-at P [] i d h p = absurd (omega arith)
-all-at P (x ∷ xs) zero d h p = p .0
-all-at P (x ∷ xs) (suc i) d h p = all-at P xs i d (omega arith) (p .1)
-
 letter-low : (n : ℕ) (w : Positive) (k : ℕ) → Lettered n (positive w) → k < length w → 1 ≤ getD w k 0
 letter-low n [] k p h = absurd (omega arith)
 letter-low n (a ∷ w) zero p h = p .0 .low
@@ -101,7 +97,7 @@ module _ (n : ℕ) (area : List ℕ) (used : ℕ) (vs : List Positive) (s : List
         ∙ (append-assoc (word ++ (0 ∷ [])) behind (drop used area) ∙ append-assoc word (0 ∷ []) rest))
 
     pub word-named : Lettered n (positive word)
-    word-named = all-at (λ w. Lettered n (positive w)) vs i [] h (s .named)
+    word-named = all-at (λ w. Lettered n (positive w)) vs i [] (s .named) h
 
     pub word-part : take (length word) (drop start area) ≡ word
     word-part = ap (take (length word)) from-start ∙ take-at word (0 ∷ rest) (length word) refl

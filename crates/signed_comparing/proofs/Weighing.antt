@@ -13,15 +13,11 @@ use Rattle.model.specs.Word.{Positive}
 use Rattle.model.specs.Presentation.{Presentation, weightOf, weigh}
 use Rattle.model.specs.Range.{All, InRange}
 use Rattle.model.proofs.Equiv.{total-more}
+use Rattle.model.proofs.Lists.{all-at}
 use Rattle.cells.specs.Layout.{weightAt}
 use Rattle.cells.specs.Stands.{Stands}
 use Rattle.cells.proofs.Rules.{held-weight, light-letter}
 use Rattle.signed_comparing.specs.Weight.{Stand}
-
-letter-named : (n : ℕ) (u : Positive) (i : ℕ) → All (InRange n) u → i < length u → InRange n (getD u i 0)
-letter-named n [] i p h = absurd (omega arith)
-letter-named n (a ∷ u) zero p h = p .0
-letter-named n (a ∷ u) (suc i) p h = letter-named n u i (p .1) (omega arith)
 
 -- the first letters of a word weigh no more than the whole
 part-lighter : (T : Presentation) (u : Positive) (i : ℕ) → weigh T (take i u) ≤ weigh T u
@@ -36,7 +32,7 @@ part-less T u i h = omega (arith, total-more (weightOf T) u i h, part-lighter T 
 -- a letter of a word that stands in bytes, in any part of them
 module _ (cells : List ℕ) (T : Presentation) (s : Stands cells T) (u : Positive) (named : All (InRange (T .size)) u) (i x : ℕ) (h : i < length u) (is : x ≡ getD u i 0) where
   in-table : InRange (T .size) x
-  in-table = subst (InRange (T .size)) (sym is) (letter-named (T .size) u i named h)
+  in-table = subst (InRange (T .size)) (sym is) (all-at (InRange (T .size)) u i 0 named h)
 
   pub in-range : InRange 16 x
   in-range = record { low = in-table .low; high = omega (arith, in-table .high, s .few) }

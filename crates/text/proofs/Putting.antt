@@ -10,6 +10,7 @@ use borrow.Author.Tests.{lt-ltb, le-ltb}
 use lib.ListN.{length, take, set, getD, length-set}
 use lib.Seq.{take-suc, take-suc-set, take-all}
 use Rattle.model.specs.Enumeration.{concatMap}
+use Rattle.model.proofs.Lists.{concat-append}
 use Rattle.text.specs.Put.{Put}
 use Rattle.text.specs.Text.{zeroDigit, digit}
 
@@ -50,10 +51,6 @@ pub digit-some : (power x : ℕ) → power ≤ x → (zeroDigit + (x / power) % 
 digit-some power x h = sym (ap (λ b. cond b [] ((zeroDigit + (x / power) % 10) ∷ [])) (le-ltb x power h))
 
 -- LOOPS: one text for each byte
-
-concat-append : (f : ℕ → List ℕ) (xs ys : List ℕ) → concatMap f (xs ++ ys) ≡ concatMap f xs ++ concatMap f ys
-concat-append f [] ys = refl
-concat-append f (x ∷ xs) ys = ap (λ l. f x ++ l) (concat-append f xs ys) ∙ sym (append-assoc (f x) (concatMap f xs) (concatMap f ys))
 
 pub concat-single : (xs : List ℕ) → concatMap (λ x. x ∷ []) xs ≡ xs
 concat-single [] = refl

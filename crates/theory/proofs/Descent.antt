@@ -3,12 +3,13 @@
 use mathlib.Core.Path.{_≡_, refl, sym, ap, _∙_, subst}
 use mathlib.Core.List.{[], _∷_, _++_, append-assoc}
 use Prim.Native.Nat.{ℕ, zero, suc, _+_}
-use Rattle.model.specs.Word.{Letter, forward, back, Word, Positive, positive, negative}
+use Rattle.model.specs.Word.{forward, back, Word, Positive, positive, negative}
 use Rattle.model.specs.Presentation.{Presentation, Complement, undefined, complement, complete}
-use Rattle.model.specs.Reversing.{Site, nowhere, at, beyond, siteAfter, site, replaced, Reduces}
+use Rattle.model.specs.Reversing.{Site, nowhere, at, siteAfter, site, replaced, Reduces}
 use Rattle.theory.specs.Orders.{HasOpenPair, Strategy, Follows}
 use native.Mathlib.Omega.{arith}
 use Rattle.model.proofs.Impossible.{impossible}
+use Rattle.model.proofs.Words.{beyond-nowhere}
 
 -- two sites of a word are the same, or one stands after the other with a word between
 pub data Apart (p : Word) (a b : ℕ) (s : Word) (p′ : Word) (a′ b′ : ℕ) (s′ : Word) : Type 0 where
@@ -85,18 +86,14 @@ module _ (T : Presentation) where
 abbrev pub Free : Word → Type 0
 Free w = (p : Word) (a b : ℕ) (s : Word) → w ≡ p ++ (back a ∷ forward b ∷ s) → ⊥
 
-beyond-somewhere : (x : Letter) (o : Site) → beyond x o ≡ nowhere → o ≡ nowhere
-beyond-somewhere x nowhere e = refl
-beyond-somewhere x (at p a b s) e = impossible (cc)
-
 after-somewhere : (c : ℕ) (p : Word) (a b : ℕ) (s : Word) → siteAfter c (p ++ (back a ∷ forward b ∷ s)) ≡ nowhere → ⊥
 after-somewhere c [] a b s e = impossible (cc)
 after-somewhere c (forward x ∷ p) a b s e = impossible (cc)
-after-somewhere c (back x ∷ p) a b s e = after-somewhere x p a b s (beyond-somewhere (back c) (siteAfter x (p ++ (back a ∷ forward b ∷ s))) e)
+after-somewhere c (back x ∷ p) a b s e = after-somewhere x p a b s (beyond-nowhere (back c) (siteAfter x (p ++ (back a ∷ forward b ∷ s))) e)
 
 somewhere : (p : Word) (a b : ℕ) (s : Word) → site (p ++ (back a ∷ forward b ∷ s)) ≡ nowhere → ⊥
 somewhere [] a b s e = impossible (cc)
-somewhere (forward x ∷ p) a b s e = somewhere p a b s (beyond-somewhere (forward x) (site (p ++ (back a ∷ forward b ∷ s))) e)
+somewhere (forward x ∷ p) a b s e = somewhere p a b s (beyond-nowhere (forward x) (site (p ++ (back a ∷ forward b ∷ s))) e)
 somewhere (back x ∷ p) a b s e = after-somewhere x p a b s e
 
 pub nowhere-free : (w : Word) → site w ≡ nowhere → Free w

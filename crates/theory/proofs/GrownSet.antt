@@ -22,6 +22,7 @@ use Rattle.model.proofs.Impossible.{impossible}
 use Rattle.model.proofs.Entries.{equal-true}
 use Rattle.model.proofs.Beds.{range-length}
 use Rattle.model.proofs.Endings.{reversing-finishes}
+use Rattle.model.proofs.Lists.{all-default}
 use Rattle.theory.specs.Signed.{ClosedSet}
 use Rattle.theory.proofs.Letters.{all-append, all-first, all-have, positive-lettered, lettered-positive, negative-lettered}
 use Rattle.theory.proofs.Reduction.{finished-reduces}
@@ -53,12 +54,6 @@ member-place u (v ∷ vs) m = go (List·Memᴰ·cases-cons m) (member-place u vs
     go : (u ≡ v) ⊎ List·Memᴰ u vs → (List·Memᴰ u vs → StandsAt u vs) → StandsAt u (v ∷ vs)
     go (inl e) rest = record { place = 0; inside = omega arith; there = sym e }
     go (inr n) rest = let s = rest n in record { place = suc (s .place); inside = omega (arith, s .inside); there = s .there }
-
--- what holds of every word holds of the one at a place, also where there is none
-all-at : (P : Positive → Type 0) → P [] → (vs : List Positive) → All P vs → (i : ℕ) → P (getD vs i [])
-all-at P e [] h i = e
-all-at P e (v ∷ vs) h zero = h .0
-all-at P e (v ∷ vs) h (suc i) = all-at P e vs (h .1) i
 
 -- and of what is made of each number of a range, where it holds of each of these
 all-ranged : {A : Type 0} (P : A → Type 0) (f : ℕ → A) (from k : ℕ) → ((i : ℕ) → from ≤ i → i < from + k → P (f i)) → All P (map f (range from k))
@@ -213,8 +208,8 @@ module _ (T : Presentation) (inside : TableInRange T) (steps width : ℕ) where
   taken-all (p ∷ ps) vs ws letters few h e =
       let ending = beside T steps width vs (negative (getD vs (p .a) []) ++ positive (getD vs (p .b) [])) in
       let first = went-on (addedTo vs ending) (takenPairs T steps width ps) e in
-      let one = added vs letters few (getD vs (p .a) []) (getD vs (p .b) []) (all-at (All (InRange (T .size))) tt vs letters (p .a))
-      (all-at (All (InRange (T .size))) tt vs letters (p .b)) (first .0) (first .1) in
+      let one = added vs letters few (getD vs (p .a) []) (getD vs (p .b) []) (all-default (All (InRange (T .size))) [] tt vs letters (p .a))
+      (all-default (All (InRange (T .size))) [] tt vs letters (p .b)) (first .0) (first .1) in
       let rest = taken-all ps (first .0) ws (one .0 .letters) (one .0 .few) (places-longer (one .0 .longer) ps (h .1)) (first .2) in
       let all = grows-then (one .0) (rest .0) in
       let found = one .1 in

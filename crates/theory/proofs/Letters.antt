@@ -4,7 +4,7 @@ use mathlib.Core.List.{List, [], _∷_, _++_, map, List·Memᴰ, List·Memᴰ·h
 use Prim.Native.Nat.{ℕ}
 use Rattle.model.specs.Word.{Letter, forward, back, Word, Positive, flip, inverse, positive, negative}
 use Rattle.model.specs.Range.{All, InRange, LetterInRange, Lettered}
-use Rattle.model.proofs.Complete.{all-reverse}
+use Rattle.model.proofs.Lists.{all-reverse}
 
 -- what holds of every element, of two lists and of the one after the other
 pub all-append : {A : Type 0} (P : A → Type 0) (xs ys : List A) → All P xs → All P ys → All P (xs ++ ys)

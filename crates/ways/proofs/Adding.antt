@@ -15,7 +15,7 @@ use Rattle.model.specs.Presentation.{Presentation, weightOf, weigh}
 use Rattle.model.specs.Equivalence.{Entry, applied, Joined}
 use Rattle.model.specs.Range.{InRange}
 use Rattle.model.specs.Ways.{earlier, Ordered, listing, listingBytes}
-use Rattle.model.proofs.Complete.{all-at}
+use Rattle.model.proofs.Lists.{all-at}
 use Rattle.model.proofs.Joining.{joined-weight, joined-transitive}
 use Rattle.model.proofs.Listing.{same-weight-same, ordered-rest, ordered-after, ordered-front, within-shorter, bytesOf, bytes-more}
 use Rattle.theory.specs.Ways.{Weighed}

@@ -10,11 +10,12 @@ use lib.ListN.{length, take, drop, getD, set, length-set, length-append, length-
 use lib.Seq.{getD-set-same, getD-set-other, getD-append-add, ext-getD, getD-drop}
 use borrow.Author.Tests.{lt-ltb, le-ltb}
 use Rattle.model.specs.Word.{Positive}
+use Rattle.areas.proofs.Parts.{taken-length}
 use Rattle.ways.specs.Marks.{untried}
 use Rattle.ways.specs.declared.swap.Swap.{Swap}
 use Rattle.ways.specs.Swap.{newLength, putLetters, newWord, Readable}
 use Rattle.ways.specs.Insert.{Shifted, movedOn, Put, oldLength, Apart, Beside, Opened}
-use Rattle.ways.proofs.NewWords.{part-length, part-at, new-length}
+use Rattle.ways.proofs.NewWords.{part-at, new-length}
 
 -- MOVED ON
 
@@ -112,8 +113,8 @@ module _ (area₀ : List ℕ) (at : ℕ) (v : Positive) where
 pub part-same : (area area′ : List ℕ) (from from′ count : ℕ) → from + count ≤ length area → from′ + count ≤ length area′
     → ((i : ℕ) → i < count → getD area′ (from′ + i) 0 ≡ getD area (from + i) 0) → take count (drop from′ area′) ≡ take count (drop from area)
 part-same area area′ from from′ count p q h =
-    let long = part-length area from count p in
-    let long′ = part-length area′ from′ count q in
+    let long = taken-length area from count p in
+    let long′ = taken-length area′ from′ count q in
     ext-getD 0 (take count (drop from′ area′)) (take count (drop from area)) (long′ ∙ sym long)
     (λ i k. let near : i < count = omega (arith, long′, k) in
     part-at area′ from′ count i near ∙ (h i near ∙ sym (part-at area from count i near)))

@@ -5,11 +5,12 @@ use mathlib.Core.Bool.{true, false}
 use Prim.Native.Nat.{ℕ, zero, suc, _+_, _-_, _≤_, _<_}
 use native.Mathlib.Omega.{arith}
 use native.Mathlib.Decide.{ℕ-discrete}
-use lib.ListN.{length, take, drop, getD, length-append, length-drop, List·getD-append}
-use lib.Seq.{getD-append-add, getD-at, getD-take, getD-drop, length-take-le}
+use lib.ListN.{length, take, drop, getD, length-append, List·getD-append}
+use lib.Seq.{getD-append-add, getD-at, getD-take, getD-drop}
 use Rattle.model.specs.Word.{Positive}
 use Rattle.model.specs.Ways.{earlier}
 use Rattle.model.proofs.Listing.{earlier-same, earlier-below}
+use Rattle.areas.proofs.Parts.{taken-length}
 use Rattle.ways.specs.declared.swap.Swap.{Swap}
 use Rattle.ways.specs.Swap.{newLength, putLetters, newWord, Readable}
 
@@ -20,9 +21,6 @@ getD-past xs ys i h =
     ap (λ j. getD (xs ++ ys) j 0) at ∙ getD-append-add xs ys (i - length xs) 0
 
 -- a part of a list
-pub part-length : (area : List ℕ) (from count : ℕ) → from + count ≤ length area → length (take count (drop from area)) ≡ count
-part-length area from count h = length-take-le count (drop from area) (omega (arith, length-drop from area))
-
 pub part-at : (area : List ℕ) (from count i : ℕ) → i < count → getD (take count (drop from area)) i 0 ≡ getD area (from + i) 0
 part-at area from count i h = getD-take count (drop from area) i 0 h ∙ getD-drop from area i 0
 
@@ -35,14 +33,14 @@ module _ (area cells : List ℕ) (s : Swap) (r : Readable area cells s) where
 
   before-length : length before ≡ s .offset
   unfolding before
-  before-length = part-length area (s .word) (s .offset) (omega (arith, r .inside))
+  before-length = taken-length area (s .word) (s .offset) (omega (arith, r .inside))
 
   after-length : length after ≡ s .rest
   unfolding after
-  after-length = part-length area (s .word + (s .offset + s .taken)) (s .rest) (omega (arith, r .inside))
+  after-length = taken-length area (s .word + (s .offset + s .taken)) (s .rest) (omega (arith, r .inside))
 
   put-length : length (putLetters cells s) ≡ s .put - 1
-  put-length = part-length cells (s .cell + 1) (s .put - 1) (omega (arith, r .held, r .some))
+  put-length = taken-length cells (s .cell + 1) (s .put - 1) (omega (arith, r .held, r .some))
 
   new-is : newWord area cells s ≡ before ++ (s .first ∷ putLetters cells s ++ after)
   unfolding newWord before after

@@ -13,7 +13,7 @@ use Rattle.model.specs.Presentation.{Presentation, complete}
 use Rattle.model.specs.Equivalence.{Entry, equal, related, applied}
 use Rattle.model.specs.Range.{InRange, All}
 use Rattle.model.proofs.Impossible.{impossible}
-use Rattle.model.proofs.Complete.{all-at}
+use Rattle.model.proofs.Lists.{all-at}
 use Rattle.model.proofs.Entries.{applied-applies}
 use Rattle.theory.proofs.Ways.{joined-letters}
 use Rattle.cells.specs.Layout.{cellAt}

@@ -28,7 +28,7 @@ use Rattle.model.specs.Ways.{listing, listingBytes, fittedListing, ways, waysAr
 use Rattle.model.specs.Stated.{Counts, counts, listedAs, numbered, refusal}
 use Rattle.model.proofs.Words.{plain-positive}
 use Rattle.model.proofs.Impossible.{impossible}
-use Rattle.model.proofs.Complete.{all-at}
+use Rattle.model.proofs.Lists.{all-at}
 use Rattle.model.proofs.Joining.{joined-same}
 use Rattle.model.proofs.Listing.{within-shorter, bytes-more}
 use Rattle.model.proofs.Outcomes.{still-refused, goes-on}

@@ -12,9 +12,10 @@ use Rattle.model.specs.Word.{Positive}
 use Rattle.model.specs.Ways.{earlier, Ordered}
 use Rattle.model.proofs.Impossible.{impossible}
 use Rattle.model.proofs.Listing.{earlier-transitive, ordered-rest, ordered-after}
+use Rattle.areas.proofs.Parts.{taken-length}
 use Rattle.ways.specs.Marks.{isEnding, StartFound, HasEnd, EndFound}
 use Rattle.ways.specs.Area.{Marked, entryBytes, spelled, words, Legible, Spells, Between, Fits, Listed}
-use Rattle.ways.proofs.NewWords.{part-length, part-at}
+use Rattle.ways.proofs.NewWords.{part-at}
 
 pub spelled-append : (xs ys : List Marked) → spelled (xs ++ ys) ≡ spelled xs ++ spelled ys
 spelled-append [] ys = refl
@@ -59,7 +60,7 @@ pub record WordAt (area : List ℕ) (start : ℕ) (w : Positive) : Type 0 where
 module _ (area : List ℕ) (start : ℕ) (w : Positive) (h : WordAt area start w) where
   pub word-part : take (length w) (drop start area) ≡ w
   word-part =
-      let long : length (take (length w) (drop start area)) ≡ length w = part-length area start (length w) (omega (arith, h .inside)) in
+      let long : length (take (length w) (drop start area)) ≡ length w = taken-length area start (length w) (omega (arith, h .inside)) in
       ext-getD 0 (take (length w) (drop start area)) w long
       (λ i k. let near : i < length w = omega (arith, long, k) in part-at area start (length w) i near ∙ h .letters i near)
 

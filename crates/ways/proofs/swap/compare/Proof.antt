@@ -4,9 +4,10 @@ use Prim.Native.Nat.{_-_, _≤_, _<_}
 use native.Mathlib.Omega.{arith}
 use lib.ListN.{take, drop}
 use Rattle.ways.specs.Swap.{newLength, newWord}
-use Rattle.ways.proofs.NewWords.{Agree, agree-none, agree-more, new-length, part-length, part-at, earlier-at, beginning-neither}
+use Rattle.ways.proofs.NewWords.{Agree, agree-none, agree-more, new-length, part-at, earlier-at, beginning-neither}
 use Rattle.ways.proofs.swap.compare.Statement.{statement}
 use Rattle.ways.proofs.swap.compare.Tie as tie
+use Rattle.areas.proofs.Parts.{taken-length}
 
 abbrev Inv-loop : tie.InvT-loop
 Inv-loop area cells swap from count letters i₀ i =
@@ -32,7 +33,7 @@ returns c =
     let l = c .before .before .loop in
     let u = newWord (s .args .area .now) (s .args .cells .now) (s .args .swap) in
     let v = take (s .args .count) (drop (s .args .from) (s .args .area .now)) in
-    let many = part-length (s .args .area .now) (s .args .from) (s .args .count) (s .pre .1) in
+    let many = taken-length (s .args .area .now) (s .args .from) (s .args .count) (s .pre .1) in
     let long = new-length (s .args .area .now) (s .args .cells .now) (s .args .swap) (s .pre .0) in
     let t = beginning-neither v u (omega (arith, many, long, l .inv .0, l .inv .1, c .if1 .taken)) (λ j h. sym (l .inv .3 j (omega (arith, many, c .if1 .taken, h)))) in
     (t .1, t .0)
@@ -58,7 +59,7 @@ returns-2 c =
     let near : l .i < s .args .count = omega (arith, l .inv .2, c .before .before .before .if1 .left) in
     earlier-at u v (l .i)
     (omega (arith, new-length (s .args .area .now) (s .args .cells .now) (s .args .swap) (s .pre .0), l .inv .0, c .before .before .before .before .loop-test .taken))
-    (omega (arith, near, part-length (s .args .area .now) (s .args .from) (s .args .count) (s .pre .1))) (l .inv .3)
+    (omega (arith, near, taken-length (s .args .area .now) (s .args .from) (s .args .count) (s .pre .1))) (l .inv .3)
     (omega (arith, c .before .before .new-letter .ensures, part-at (s .args .area .now) (s .args .from) (s .args .count) (l .i) near, c .if2 .taken))
 
 returns-3 : tie.Need-returns-3 Inv-loop μ-loop
@@ -69,7 +70,7 @@ returns-3 c =
     let v = take (s .args .count) (drop (s .args .from) (s .args .area .now)) in
     let near : l .i < s .args .count = omega (arith, l .inv .2, c .before .before .before .before .if1 .left) in
     earlier-at v u (l .i)
-    (omega (arith, near, part-length (s .args .area .now) (s .args .from) (s .args .count) (s .pre .1)))
+    (omega (arith, near, taken-length (s .args .area .now) (s .args .from) (s .args .count) (s .pre .1)))
     (omega (arith, new-length (s .args .area .now) (s .args .cells .now) (s .args .swap) (s .pre .0), l .inv .0, c .before .before .before .before .before .loop-test .taken)) (λ j h. sym (l .inv .3 j h))
     (omega (arith, c .before .before .before .new-letter .ensures, part-at (s .args .area .now) (s .args .from) (s .args .count) (l .i) near, c .if3 .taken))
 
@@ -99,7 +100,7 @@ returns-4 c =
     let l = c .before .loop in
     let u = newWord (s .args .area .now) (s .args .cells .now) (s .args .swap) in
     let v = take (s .args .count) (drop (s .args .from) (s .args .area .now)) in
-    let many = part-length (s .args .area .now) (s .args .from) (s .args .count) (s .pre .1) in
+    let many = taken-length (s .args .area .now) (s .args .from) (s .args .count) (s .pre .1) in
     let long = new-length (s .args .area .now) (s .args .cells .now) (s .args .swap) (s .pre .0) in
     beginning-neither u v (omega (arith, many, long, l .inv .0, l .inv .2, c .loop-test .left))
     (λ j h. l .inv .3 j (omega (arith, long, l .inv .0, c .loop-test .left, h)))
