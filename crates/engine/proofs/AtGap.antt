@@ -108,6 +108,7 @@ module _ (bytes : List ℕ) (left right : ℕ) (h : AtLeftmost bytes left right)
                   (lettered-append (T .size) (positive x) (negative y ++ suffix) lx
                   (lettered-append (T .size) (negative y) suffix (lettered-negative (T .size) y ly)
                   (lettered-end (T .size) prefix (back before ∷ forward after ∷ suffix) parts .1 .1))));
+              resumed = λ p s c d e. let same : prefix ≡ p = cc (h .found) in sym prefix-length ∙ ap length same;
             }
 
 -- what a search from a place before which no site begins finds is the leftmost site of the word as it stands

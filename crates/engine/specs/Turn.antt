@@ -5,7 +5,7 @@ use Prim.Native.Nat.{ℕ, _+_, _-_, _≤_, _<_}
 use lib.ListN.{length, take, drop, getD}
 use Rattle.model.specs.Word.{Word}
 use Rattle.model.specs.Presentation.{Presentation}
-use Rattle.model.specs.Reversing.{site, next, no-site, blocked, step}
+use Rattle.model.specs.Reversing.{at, site, next, no-site, blocked, step}
 use Rattle.engine.specs.Gap.{letters, wordAt, Searched, AtEnd}
 use Rattle.model.specs.Range.{Lettered}
 use Rattle.cells.specs.Stands.{Serves}
@@ -15,7 +15,7 @@ use Rattle.model.specs.declared.answers.Stop.the-variants.{Budget, Room}
 
 -- the letters of a cell's word
 abbrev pub cellLetters : List ℕ → ℕ → Word
-cellLetters cells at = letters (take (getD cells at 0) (drop (at + 1) cells))
+cellLetters cells start = letters (take (getD cells start 0) (drop (start + 1) cells))
 
 -- a cell's word lies inside the cells, and there is room for it before `right`
 pub record CellFits (cells : List ℕ) (at : ℕ) (bytes : List ℕ) (right : ℕ) : Type 0 where
@@ -34,6 +34,8 @@ pub record Steps (T : Presentation) (word : Word) (bytes : List ℕ) (left right
   pub searched : Searched bytes left right
   pub taken : next T word ≡ step a b (wordAt bytes left right)
   pub lettered : Lettered (T .size) (wordAt bytes left right)
+  -- the gap stands where the two letters stood, so that the next search begins one letter before what was put in their place
+  pub resumed : (p s : Word) (c d : ℕ) → site word ≡ at p c d s → left ≡ length p
 
 -- the next word does not fit
 pub record Outgrows (T : Presentation) (word : Word) (width : ℕ) : Type 0 where
