@@ -1,12 +1,14 @@
 -- The outcome of left_reverse, after each check.
-use mathlib.Core.Path.{_≡_, sym, ap, _∙_}
-use mathlib.Core.List.{List, reverse}
-use Prim.Native.Nat.{ℕ}
-use lib.ListN.{length, replicate}
+use mathlib.Core.Path.{_≡_, refl, sym, ap, ap₂, subst, _∙_}
+use mathlib.Core.List.{List, reverse, reverse-reverse}
+use mathlib.Core.Bool.{Bool, true, false}
+use Prim.Native.Nat.{ℕ, _+_}
+use lib.Dec.{ltb}
+use lib.ListN.{length, replicate, length-reverse}
 use Rattle.model.specs.Word.{Word}
 use Rattle.model.specs.Presentation.{Presentation}
-use Rattle.model.specs.Reversing.{reversing}
-use Rattle.model.specs.Outcome.{Outcome, answered, mapped}
+use Rattle.model.specs.Reversing.{Ending, finished, open-pair, stopped, budget, room, reversing}
+use Rattle.model.specs.Outcome.{Outcome, answered, unless, mapped}
 use Rattle.model.specs.Images.{readTable, readProgram}
 use Rattle.model.specs.Mirror.{mirror, mirrorCheck, leftReversing}
 use Rattle.model.specs.Services.{Sizes, sizes, Fraction, fractionOf, leftFraction, leftReverse}
@@ -17,16 +19,21 @@ use Rattle.model.specs.declared.answers.Refusal.{Refusal}
 use Rattle.model.specs.declared.answers.Refusal.the-variants.{NoMirror}
 use Rattle.model.specs.declared.answers.Reversed.{Reversed}
 use Rattle.model.specs.declared.answers.Reversed.the-variants.{Refused}
+use Rattle.model.proofs.Impossible.{impossible}
 use Rattle.model.proofs.Outcomes.{still-refused, goes-on}
 use Rattle.theory.specs.Mirrors.{readBackward}
+use Rattle.theory.specs.Orders.{OrderMeaning}
+use Rattle.theory.proofs.Orders.{order-meaning}
 use Rattle.theory.proofs.Mirroring.{left-is-right}
 use Rattle.loading.specs.Loading.{readTableWith}
 use Rattle.loading.proofs.Early.{program-early}
 use Rattle.loading.proofs.Outcomes.{AsFound}
 use Rattle.loading.proofs.Reading.{program-refused, program-runs}
+use Rattle.reversal.specs.Reverse.{fractionLeft}
 use Rattle.reversal.proofs.Answers.{zero-after}
+use Rattle.reversal.proofs.ReverseService.{left-outcome}
 use Rattle.left_reversal.specs.Backward.{AnswersBackward}
-use Rattle.left_reversal.specs.LeftReverse.{States, underMirror, LeftMeaning}
+use Rattle.left_reversal.specs.LeftReverse.{States, underMirror, turnedFraction, LeftMeaning}
 
 -- A PROGRAM UNDER A TABLE THAT WAS LOADED
 
@@ -65,6 +72,26 @@ module _ (T : Presentation) (w : Word) (steps : ℕ) (workspace before : List �
             ∙ zero-after (length before) (readBackward (reversing (mirror T) steps (length workspace) (reverse w))) workspace);
       }
 
+-- THE ANSWER READ BACKWARD AGAIN
+
+module _ (area : ℕ) where
+  turned-unless : (short short′ : Bool) → short ≡ short′ → (f g : Fraction) → turnedFraction f ≡ g → mapped turnedFraction (unless short 13 f) ≡ unless short′ 13 g
+  turned-unless true true e f g h = refl
+  turned-unless true false e f g h = impossible (cc)
+  turned-unless false true e f g h = impossible (cc)
+  turned-unless false false e f g h = ap answered h
+
+  turned-ending : (e : Ending) → mapped turnedFraction (fractionOf area (readBackward e)) ≡ fractionOf area e
+  turned-ending (finished n d k r) =
+      turned-unless (ltb area (length (reverse n) + length (reverse d))) (ltb area (length n + length d))
+      (ap₂ (λ i j. ltb area (i + j)) (length-reverse n) (length-reverse d))
+      (record { numerator = reverse n; denominator = reverse d; steps = k })
+      (record { numerator = n; denominator = d; steps = k })
+      (ap₂ (λ x y. record { numerator = x; denominator = y; steps = k }) (reverse-reverse n) (reverse-reverse d))
+  turned-ending (open-pair a b k) = refl
+  turned-ending (stopped budget) = refl
+  turned-ending (stopped room) = refl
+
 -- THE SERVICE
 
 module _ (table program : List ℕ) (steps width area : ℕ) where
@@ -94,4 +121,15 @@ module _ (table program : List ℕ) (steps : ℕ) (workspace before : List ℕ) 
       says : LeftMeaning table program steps (length workspace) before after told
       says T e w f m =
           let o = left-runs table program steps (length workspace) (length before) T e w f ∙ under-mirror T w steps (length workspace) (length before) m in
-          record { told-is = t ∙ ap (mapped sizes) o; written-is = a ∙ ap (λ q. outputAfter fractionBytes q before) o }
+          let told-is = t ∙ ap (mapped sizes) o in
+          let written-is = a ∙ ap (λ q. outputAfter fractionBytes q before) o in
+          let right = reversing (mirror T) steps (length workspace) (reverse w) in
+          let left : mapped turnedFraction (mapped (fractionLeft after) told) ≡ fractionOf (length before) right =
+          ap (mapped turnedFraction) (ap₂ (λ x y. mapped (fractionLeft x) y) written-is told-is ∙ left-outcome (fractionOf (length before) (readBackward right)) before)
+          ∙ turned-ending (length before) right in
+          record {
+            told-is = told-is;
+            written-is = written-is;
+            left-is-right = left-is-right T;
+            orders-say = subst (OrderMeaning (mirror T) (reverse w)) (sym left) (order-meaning (mirror T) steps (length workspace) (length before) (reverse w));
+          }

@@ -13,7 +13,9 @@ use Rattle.model.specs.Services.{Sizes, sizes, Fraction, fractionOf, leftFracti
 use Rattle.model.specs.Areas.{fractionBytes, outputAfter, workspaceAfter}
 use Rattle.model.specs.Stated.{reversed}
 use Rattle.model.specs.declared.answers.Reversed.{Reversed}
-use Rattle.theory.specs.Mirrors.{readBackward}
+use Rattle.theory.specs.Mirrors.{readBackward, LeftIsRight}
+use Rattle.theory.specs.Orders.{OrderMeaning}
+use Rattle.reversal.specs.Reverse.{fractionLeft}
 use Rattle.cells.specs.Stands.{Of}
 use Rattle.left_reversal.specs.Backward.{AnswersBackward}
 
@@ -39,10 +41,18 @@ LeftAnswered cells size program budget workspace workspace′ before after r =
 abbrev pub underMirror : Presentation → Word → ℕ → ℕ → ℕ → Outcome Fraction
 underMirror T w steps width area = fractionOf area (readBackward (reversing (mirror T) steps width (reverse w)))
 
+-- a fraction with both words read backward
+abbrev pub turnedFraction : Fraction → Fraction
+turnedFraction f = record { numerator = reverse (f .numerator); denominator = reverse (f .denominator); steps = f .steps }
+
 -- what was told and written is that, where the table in the image has a mirror
 pub record MirrorSays (T : Presentation) (w : Word) (steps width : ℕ) (before after : List ℕ) (told : Outcome Sizes) : Type 0 where
   pub told-is : told ≡ mapped sizes (underMirror T w steps width (length before))
   pub written-is : after ≡ outputAfter fractionBytes (underMirror T w steps width (length before)) before
+  -- as left reversing is of every word, at every allowance and room
+  pub left-is-right : LeftIsRight T
+  -- of the word and both words of the answer, each read backward, it says under the mirror what reverse says of every order
+  pub orders-say : OrderMeaning (mirror T) (reverse w) (mapped turnedFraction (mapped (fractionLeft after) told))
 
 abbrev pub LeftMeaning : List ℕ → List ℕ → ℕ → ℕ → List ℕ → List ℕ → Outcome Sizes → Type 0
 LeftMeaning table program steps width before after told =

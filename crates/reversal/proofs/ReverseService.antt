@@ -33,7 +33,8 @@ left-fraction f area =
     ap (λ l. take (length d) (drop (length n) l)) whole ∙ (ap (take (length d)) (drop-append-seam n (d ++ rest)) ∙ take-append-seam d rest) in
     ap₂ (λ x y. record { numerator = x; denominator = y; steps = f .steps }) first second
 
-left-outcome : (o : Outcome Fraction) (before : List ℕ) → mapped (fractionLeft (outputAfter fractionBytes o before)) (mapped sizes o) ≡ o
+-- and so does every outcome, of what it tells and writes
+pub left-outcome : (o : Outcome Fraction) (before : List ℕ) → mapped (fractionLeft (outputAfter fractionBytes o before)) (mapped sizes o) ≡ o
 left-outcome (answered f) before = ap answered (left-fraction f before)
 left-outcome (refused i numbers) before = refl
 

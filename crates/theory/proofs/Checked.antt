@@ -240,4 +240,4 @@ module _ (T : Presentation) (steps width : ℕ) where
 
   -- a table passes only where all triples obey the rule, and 9 comes only with the first that breaks it
   pub cube-exactly : CubeMeaning T (cleared T steps width)
-  cube-exactly = record { passed = checked-triples T steps width; broken = checked-broken }
+  cube-exactly = record { passed = checked-triples T steps width; broken = checked-broken; each-triple = triple-says T }

@@ -132,6 +132,7 @@ module _ (T : Presentation) (range : TableInRange T) (steps width : ℕ) where
   mirror-meaning =
       record {
         passed = passed;
+        joined-backward = joined-backward T;
         obeyed = λ h. cube-exactly (mirror T) steps width .passed (passed h);
         broken = λ a b c h. cube-exactly (mirror T) steps width .broken (triple-of a b c) (broken a b c h);
       }

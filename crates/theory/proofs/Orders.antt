@@ -1,5 +1,5 @@
 -- In whatever order the steps are taken, the answer is that of the leftmost ones (specification 3.7): `any-order`.
-use mathlib.Core.Path.{_≡_, refl, sym, ap, _∙_}
+use mathlib.Core.Path.{_≡_, refl, sym, ap, subst, _∙_}
 use mathlib.Core.Logic.{_↔_}
 use mathlib.Core.List.{[], _∷_, _++_}
 use mathlib.Core.Bool.{Bool, true, false}
@@ -135,6 +135,8 @@ module _ (T : Presentation) where
       let f : Fraction = record { numerator = n; denominator = d; steps = i } in
       let short = ltb area (length n + length d) in
       record {
+        orders = any-order w;
+        reached = λ g e. subst (λ x. Finishes T w (x .numerator) (x .denominator) (x .steps)) (as-fraction short f g e) (m .run);
         finished = λ g e v k o h.
             let t = same-end (counted (leftmost-too o h)) (none-stuck v h) (counted (m .run)) (fraction-stuck T n d) in
             let same : f ≡ g = as-fraction short f g e in
@@ -142,11 +144,11 @@ module _ (T : Presentation) where
         unfinished = λ place e. absurd (omega (arith, only-13 short f _ place e));
       }
   by-ending steps width area w (open-pair a b i) m =
-      record { finished = λ g e. impossible (cc); unfinished = λ place e v k o h. met-open m v k o h }
+      record { orders = any-order w; reached = λ g e. impossible (cc); finished = λ g e. impossible (cc); unfinished = λ place e v k o h. met-open m v k o h }
   by-ending steps width area w (stopped budget) m =
-      record { finished = λ g e. impossible (cc); unfinished = λ place e. impossible (cc) }
+      record { orders = any-order w; reached = λ g e. impossible (cc); finished = λ g e. impossible (cc); unfinished = λ place e. impossible (cc) }
   by-ending steps width area w (stopped room) m =
-      record { finished = λ g e. impossible (cc); unfinished = λ place e. impossible (cc) }
+      record { orders = any-order w; reached = λ g e. impossible (cc); finished = λ g e. impossible (cc); unfinished = λ place e. impossible (cc) }
 
   pub order-meaning : (steps width area : ℕ) (w : Word) → OrderMeaning T w (fractionOf area (reversing T steps width w))
   order-meaning steps width area w = by-ending steps width area w (reversing T steps width w) (reversing-ends T steps width w)

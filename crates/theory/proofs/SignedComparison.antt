@@ -162,6 +162,7 @@ module _ (T : Presentation) (inside : TableInRange T) (steps width : ℕ) (w v :
         different-apart = λ k j e. let s = answered-prepared T inside steps width w v e in means-apart k j (comparison-says (s .0) (s .1)) e;
         closed = set-closed T inside steps width;
         verdict-or-stop = λ S p. as-verdict-or-stop (comparison-says S p);
+        settled = signed-meaning T;
         reversings = says;
         ends-empty = both-end;
         answers-same = both-covered;

@@ -124,4 +124,6 @@ module _ (T : Presentation) (braid : isBraid T ≡ true) (w : Word) (r : Program
         holds = subst (BedHolds (T .size) (take moves w)) (sym same) laws;
         joined = λ h u v e j. at-end h ∙ (ap (λ x. bedBytes (laid x (firstBed (T .size)))) e ∙ ap bedBytes (equal .joined u v j (firstBed (T .size)) first));
         finished = λ h n d k f. at-end h ∙ ap bedBytes (equal .finished w n d k f (firstBed (T .size)) first);
+        equal-beds = equal;
+        every-place = bed-laws;
       }

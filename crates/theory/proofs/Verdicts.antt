@@ -1,10 +1,13 @@
 -- Specification 6.5 of the model's `comparison`, for every presentation, positive words, budget and room; and of every way to tell its verdict.
 -- Reversing decides equivalence under a table that clears ([D3] Prop. 4.4; [D2] Prop. 6.1); the parts are proved in Comparison.antt.
-use mathlib.Core.Path.{_≡_, ap}
+use mathlib.Core.Path.{_≡_, refl, ap}
 use Prim.Native.Nat.{ℕ}
+use native.Mathlib.Omega.{arith}
 use Rattle.model.specs.Word.{Positive}
 use Rattle.model.specs.Presentation.{Presentation}
-use Rattle.model.specs.Outcome.{Outcome, answered, refused, _>>=_}
+use Rattle.model.specs.Equivalence.{Joined}
+use Rattle.model.specs.Outcome.{unplaced, Outcome, answered, refused, _>>=_}
+use Rattle.model.specs.Checks.{cleared}
 use Rattle.model.specs.Services.{Verdict, same-after, different-after, comparison}
 use Rattle.model.proofs.Impossible.{impossible}
 use Rattle.theory.specs.Verdicts.{Settled, settled, by-allowance, by-memory, DemandThree}
@@ -17,18 +20,31 @@ as-settled out-of-budget = by-allowance
 as-settled out-of-room = by-memory
 
 module _ (T : Presentation) (u v : Positive) (steps width : ℕ) where
+  -- a verdict that is refused with 13 is `same`, where `different` is told as it is
+  joined-beside-13 : (tell : Verdict → Outcome Verdict) → ((k : ℕ) → tell (different-after k) ≡ answered (different-after k))
+      → (o : Outcome Verdict) → comparison T u v steps width ≡ o → Settled answered o → (o >>= tell) ≡ refused 13 unplaced → Joined T u v
+  joined-beside-13 tell apart o e (settled (same-after k r)) h = same-joined T u v steps width k r e
+  joined-beside-13 tell apart o e (settled (different-after k)) h = let told = apart k in impossible (cc)
+  joined-beside-13 tell apart o e by-allowance h = let z : _≡_ {A = ℕ} 11 13 = cc in absurd (omega arith)
+  joined-beside-13 tell apart o e by-memory h = let z : _≡_ {A = ℕ} 12 13 = cc in absurd (omega arith)
+
+  as-compared : cleared T steps width ≡ answered tt → Settled answered (comparison T u v steps width)
+  as-compared clear = as-settled (comparison-means T u v steps width clear)
+
   pub demand-three : DemandThree T u v steps width answered (comparison T u v steps width)
   demand-three =
       record {
         same-joined = same-joined T u v steps width;
         different-apart = different-apart T u v steps width;
-        verdict-or-stop = λ clear. as-settled (comparison-means T u v steps width clear);
+        verdict-or-stop = as-compared;
+        short-area = λ clear h. joined-beside-13 answered (λ k. refl) (comparison T u v steps width) refl (as-compared clear) (ap (λ o. o >>= answered) h);
         ends-empty = joined-empties T u v steps width;
         answers-same = joined-same-after T u v steps width;
       }
 
-  -- told in another way, in which an answer is the verdict itself
-  module _ (tell : Verdict → Outcome Verdict) (honest : (x y : Verdict) → tell x ≡ answered y → x ≡ y) where
+  -- told in another way, in which an answer is the verdict itself, and `different` is always answered
+  module _ (tell : Verdict → Outcome Verdict) (honest : (x y : Verdict) → tell x ≡ answered y → x ≡ y)
+      (apart : (k : ℕ) → tell (different-after k) ≡ answered (different-after k)) where
     verdict-of : (o : Outcome Verdict) (y : Verdict) → (o >>= tell) ≡ answered y → o ≡ answered y
     verdict-of (answered x) y e = ap answered (honest x y e)
     verdict-of (refused n ps) y e = impossible (cc)
@@ -45,6 +61,7 @@ module _ (T : Presentation) (u v : Positive) (steps width : ℕ) where
           same-joined = λ k r h. d .same-joined k r (verdict-of (comparison T u v steps width) (same-after k r) h);
           different-apart = λ k h. d .different-apart k (verdict-of (comparison T u v steps width) (different-after k) h);
           verdict-or-stop = λ clear. settled-through (d .verdict-or-stop clear);
+          short-area = λ clear h. joined-beside-13 tell apart (comparison T u v steps width) refl (as-compared clear) h;
           ends-empty = d .ends-empty;
           answers-same = λ clear j k run within fits. ap (λ o. o >>= tell) (d .answers-same clear j k run within fits);
         }

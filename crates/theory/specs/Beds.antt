@@ -77,3 +77,6 @@ pub record BedMeaning (T : Presentation) (w : Word) (moves : ℕ) (bytes : List 
   pub joined : length w ≤ moves → (u v : Positive) → w ≡ positive u → Joined T u v → bytes ≡ bedBytes (laid (positive v) (firstBed (T .size)))
   -- and where its reversing finishes, so has the numerator followed by the denominator's undoing
   pub finished : length w ≤ moves → (n d : Positive) (k : ℕ) → Finishes T w n d k → bytes ≡ bedBytes (laid (positive n ++ negative d) (firstBed (T .size)))
+  -- the same from every bed of as many places, and of every program at each of its places
+  pub equal-beds : EqualBeds T
+  pub every-place : BedLaws

@@ -1,11 +1,12 @@
 -- Specification 4.6: what the outcome of the cube check says of the cube rule.
 use mathlib.Core.List.{List, _∷_, _++_}
 use mathlib.Core.Path.{_≡_}
+use Prim.Native.Nat.{ℕ}
 use Rattle.model.specs.Presentation.{Presentation}
 use Rattle.model.specs.Enumeration.{Three, triples}
 use Rattle.model.specs.Range.{All}
 use Rattle.model.specs.Outcome.{Place, triple-of, Outcome, answered, refused}
-use Rattle.model.specs.Checks.{CubeRule, CubeVerdict, holds, fails, halts}
+use Rattle.model.specs.Checks.{CubeRule, CubeVerdict, holds, fails, halts, cubeAt}
 
 -- the rule at a triple
 abbrev pub Obeys : Presentation → Three → Type 0
@@ -31,3 +32,5 @@ pub record FirstBroken (T : Presentation) (ts : List Three) (name : Place) : Typ
 pub record CubeMeaning (T : Presentation) (outcome : Outcome (Unit {0})) : Type 0 where
   pub passed : outcome ≡ answered tt → All (Obeys T) (triples (T .size))
   pub broken : (name : Place) → outcome ≡ refused 9 name → FirstBroken T (triples (T .size)) name
+  -- for the verdict on each triple, at every allowance and workspace, says so of the rule there
+  pub each-triple : (steps width : ℕ) (t : Three) → Says T t (cubeAt T steps width t)

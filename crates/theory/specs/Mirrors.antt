@@ -36,3 +36,5 @@ pub record MirrorMeaning (T : Presentation) (steps width : ℕ) (outcome : Outco
   pub passed : outcome ≡ answered tt → cleared (mirror T) steps width ≡ answered tt
   pub obeyed : outcome ≡ answered tt → All (Obeys (mirror T)) (triples (T .size))
   pub broken : (a b c : ℕ) → outcome ≡ refused 17 (mirror-triple-of a b c) → FirstBroken (mirror T) (triples (T .size)) (triple-of a b c)
+  -- where there is a mirror, joined words are those that are joined under it when read backward
+  pub joined-backward : JoinedBackward T

@@ -76,6 +76,10 @@ pub record AnyOrder (T : Presentation) (w : Word) : Type 0 where
 
 -- what the outcome of reversing the word says of every order
 pub record OrderMeaning (T : Presentation) (w : Word) (outcome : Outcome Fraction) : Type 0 where
+  -- the word is one of which all that holds
+  pub orders : AnyOrder T w
+  -- an answer is reached: the leftmost order finishes with it, and so does every strategy
+  pub reached : (f : Fraction) → outcome ≡ answered f → Finishes T w (f .numerator) (f .denominator) (f .steps)
   -- after an answer, each order that comes to a word without a site comes to the answer's in the answer's number of steps
   pub finished : (f : Fraction) → outcome ≡ answered f → (v : Word) (k : ℕ) → Reduces T w v k → site v ≡ nowhere
       → (v ≡ positive (f .numerator) ++ negative (f .denominator)) × (k ≡ f .steps)

@@ -79,7 +79,9 @@ pub record ComparisonSigned (T : Presentation) (w v : Word) (steps width : ℕ) 
   pub closed : (S : List Positive) → grownSet T steps width ≡ answered S → ClosedSet T S
   -- after it the outcome is a verdict or a stop,
   pub verdict-or-stop : (S : List Positive) → Prepared T steps width S → VerdictOrStop outcome
-  -- and no reversing meets an open pair, of these words or of N and D
+  -- no reversing meets an open pair, of any two words of the table's letters where a closed set is known,
+  pub settled : (S : List Positive) → SignedMeaning T S
+  -- and so none of these words or of N and D
   pub reversings : (S : List Positive) → Prepared T steps width S → SignedReversings T w v
   -- of joined words the first reversing finishes, with N and D, and the second one, of N's undoing and then D, ends empty;
   pub ends-empty : (S : List Positive) → Prepared T steps width S → GroupJoined T w v

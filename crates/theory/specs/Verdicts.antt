@@ -24,6 +24,8 @@ pub record DemandThree (T : Presentation) (u v : Positive) (steps width : ℕ) (
   pub different-apart : (k : ℕ) → outcome ≡ answered (different-after k) → Joined T u v → ⊥
   -- under a table that clears it is a verdict, as the service tells it, or a stop
   pub verdict-or-stop : cleared T steps width ≡ answered tt → Settled tell outcome
+  -- and 13 comes only where a chain of swaps joins the two words
+  pub short-area : cleared T steps width ≡ answered tt → outcome ≡ refused 13 unplaced → Joined T u v
   -- joined words have a reversing that ends empty,
   pub ends-empty : cleared T steps width ≡ answered tt → Joined T u v → EndsEmpty T (negative u ++ positive v)
   -- and where allowance and workspace cover it, the answer is `same` with its steps, and how many were on two different letters
