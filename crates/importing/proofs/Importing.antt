@@ -1,7 +1,6 @@
 -- The outcome of import, from what was read of the text, and what its answer says.
 use mathlib.Core.Path.{_≡_, refl, sym, ap, ap₂, subst, _∙_}
 use mathlib.Core.List.{List, [], _∷_, _++_, map}
-use mathlib.Core.Bool.{Bool, true, false}
 use Prim.Native.Nat.{ℕ, _+_, _≤_, _<_}
 use native.Mathlib.Omega.{arith}
 use native.Mathlib.Decide.{decLt}
@@ -21,8 +20,7 @@ use Rattle.model.specs.Images.{readTable}
 use Rattle.model.specs.Plain.{plainProgram}
 use Rattle.model.specs.Areas.{begins, outputAfter}
 use Rattle.model.specs.Stated.{refusal, packedAs}
-use Rattle.model.specs.Notation.{Pattern, mostNested, PatternInRange, meaning, moves, highest, patternText, noPattern, readPattern, readText, imported, import}
-use Rattle.model.proofs.Impossible.{impossible}
+use Rattle.model.specs.Notation.{Pattern, mostNested, meaning, moves, highest, noPattern, readPattern, readText, imported, import}
 use Rattle.model.proofs.Outcomes.{still-refused}
 use Rattle.theory.proofs.Notation.{notation-meaning}
 use Rattle.loading.proofs.Early.{Early, table-early}
@@ -31,7 +29,7 @@ use Rattle.engine.proofs.Letters.{letter-forward, letter-back}
 use Rattle.importing.specs.declared.reading.Span.{Span}
 use Rattle.importing.specs.Reading.{capped, keptPattern}
 use Rattle.importing.specs.Laying.{WordPut, PatternFits, PatternLaid}
-use Rattle.importing.specs.Import.{TextOf, textOutcome, Answers, ImportSays}
+use Rattle.importing.specs.Import.{TextOf, textOutcome, Answers, TextIs, Comes, ImportSays}
 use Rattle.importing.proofs.Keeping.{Answered, kept-answered, kept-refused, capped-low, capped-high}
 
 -- THE WHOLE TEXT
@@ -142,53 +140,6 @@ text-fits text s t room few inside = subst (λ o. PatternFits o 0 room) (sym (t 
 pub text-laid : (text : List ℕ) (s : Span) (t : TextOf text s) (before after : List ℕ) (end : ℕ) → PatternLaid (readPattern mostNested text) before 0 after end → WordPut before 0 (meaning (t .pattern)) after
 text-laid text s t before after end laid = subst (λ o. PatternLaid o before 0 after end) (t .pattern-read) laid .0
 
--- WHAT AN OUTCOME TELLS OF THE TEXT
-
-module _ (n : ℕ) (p : Pattern) (area : ℕ) where
-  abbrev thirdTest : Bool → Outcome Word
-  thirdTest b = unless b 13 (meaning p)
-
-  abbrev secondTest : Bool → Outcome Word
-  secondTest b = unless b 20 p >>= λ p. unless (ltb area (moves p)) 13 (meaning p)
-
-  abbrev firstTest : Bool → Outcome Word
-  firstTest b = unless b 5 p >>= λ p. unless (ltb 4095 (moves p)) 20 p >>= λ p. unless (ltb area (moves p)) 13 (meaning p)
-
-  moves-answered : (w : Word) → imported n p area ≡ answered w → w ≡ meaning p
-  unfolding imported
-  moves-answered w e = first (ltb n (highest p)) e
-    where
-      third : (b : Bool) → thirdTest b ≡ answered w → w ≡ meaning p
-      third true q = impossible (cc)
-      third false q = cc
-
-      second : (b : Bool) → secondTest b ≡ answered w → w ≡ meaning p
-      second true q = impossible (cc)
-      second false q = third (ltb area (moves p)) q
-
-      first : (b : Bool) → firstTest b ≡ answered w → w ≡ meaning p
-      first true q = impossible (cc)
-      first false q = second (ltb 4095 (moves p)) q
-
-  moves-not-19 : imported n p area ≡ refused 19 unplaced → ⊥
-  unfolding imported
-  moves-not-19 e = first (ltb n (highest p)) e
-    where
-      other : {m k : ℕ} → _≡_ {A = Outcome Word} (refused m unplaced) (refused k unplaced) → m ≡ k
-      other h = cc
-
-      third : (b : Bool) → thirdTest b ≡ refused 19 unplaced → ⊥
-      third true q = omega (arith, other q)
-      third false q = impossible (cc)
-
-      second : (b : Bool) → secondTest b ≡ refused 19 unplaced → ⊥
-      second true q = omega (arith, other q)
-      second false q = third (ltb area (moves p)) q
-
-      first : (b : Bool) → firstTest b ≡ refused 19 unplaced → ⊥
-      first true q = omega (arith, other q)
-      first false q = second (ltb 4095 (moves p)) q
-
 -- THE SERVICE
 
 module _ (table text : List ℕ) (area : ℕ) where
@@ -203,87 +154,77 @@ module _ (table text : List ℕ) (area : ℕ) where
   unfolding import outcome
   with-table T size e s = ap (λ o. o >>= outcome) e ∙ ap (λ n. textOutcome text n area) s
 
-  by-table : import table text area ≡ (readTable table >>= outcome)
-  unfolding import outcome
-  by-table = refl
-
-  -- an answer is the meaning of the pattern that the text is
-  answered-pattern : (w : Word) → import table text area ≡ answered w → (p : Pattern) × (readText text ≡ answered p) × (w ≡ meaning p)
-  unfolding outcome
-  answered-pattern w e = from-table (readTable table) (sym by-table ∙ e)
-    where
-      from-text : (n : ℕ) (o : Outcome Pattern) → readText text ≡ o → (o >>= λ p. imported n p area) ≡ answered w → (p : Pattern) × (readText text ≡ answered p) × (w ≡ meaning p)
-      from-text n (answered p) r q = (p, r, moves-answered n p area w q)
-      from-text n (refused m place) r q = impossible (cc)
-
-      from-table : (o : Outcome Presentation) → (o >>= λ T. textOutcome text (T .size) area) ≡ answered w → (p : Pattern) × (readText text ≡ answered p) × (w ≡ meaning p)
-      from-table (answered T) q = from-text (T .size) (readText text) refl q
-      from-table (refused m place) q = impossible (cc)
-
-  -- 19 comes of the text alone
-  refused-text-19 : import table text area ≡ refused 19 unplaced → readText text ≡ refused 19 unplaced
-  unfolding outcome
-  refused-text-19 e = from-table (readTable table) (table-early table) (sym by-table ∙ e)
-    where
-      from-text : (n : ℕ) (o : Outcome Pattern) → (o >>= λ p. imported n p area) ≡ refused 19 unplaced → o ≡ refused 19 unplaced
-      from-text n (answered p) q = absurd (moves-not-19 n p area q)
-      from-text n (refused m place) q = cc
-
-      number : {m : ℕ} {place : Place} → _≡_ {A = Outcome Word} (refused m place) (refused 19 unplaced) → m ≡ 19
-      number h = cc
-
-      from-table : (o : Outcome Presentation) → Early 3 o → (o >>= λ T. textOutcome text (T .size) area) ≡ refused 19 unplaced → readText text ≡ refused 19 unplaced
-      from-table (answered T) early q = from-text (T .size) (readText text) q
-      from-table (refused m place) early q = absurd (omega (arith, early, number q))
-
 -- the promise of the service, from its outcome
 module _ (table text before after : List ℕ) (r : Packed) (a : Answers (import table text (length before)) before after r) where
-  says-answer : (k : ℕ) → packedAs r ≡ answered k
-      → (p : Pattern) × PatternInRange p mostNested × (patternText p ≡ text) × (length (meaning p) ≡ k) × (take k after ≡ plainProgram (meaning p))
-  says-answer k told = from (import table text (length before)) refl
-    where
-      from : (o : Outcome Word) → import table text (length before) ≡ o → (p : Pattern) × PatternInRange p mostNested × (patternText p ≡ text) × (length (meaning p) ≡ k) × (take k after ≡ plainProgram (meaning p))
-      from (refused n place) e = absurd (not-answered (sym told ∙ a .0 ∙ ap (mapped length) e))
-        where
-          not-answered : _≡_ {A = Outcome ℕ} (answered k) (refused n place) → ⊥
-          not-answered h = impossible (cc)
-      from (answered w) e =
-          let found = answered-pattern table text (length before) w e in
-          let p = found .0 in
-          let back = notation-meaning .writes-read text p (found .1) in
-          let long : length w ≡ k = length-is (sym told ∙ a .0 ∙ ap (mapped length) e) in (
-            p,
-            back .1,
-            back .0,
-            ap length (sym (found .2)) ∙ long,
-            ap (take k) (a .1 ∙ ap (λ o. outputAfter plainProgram o before) e) ∙ take-at (plainProgram w) (drop (length (plainProgram w)) before) k (length-map w byte ∙ long) ∙ ap plainProgram (found .2),
-          )
-        where
-          length-is : _≡_ {A = Outcome ℕ} (answered k) (answered (length w)) → length w ≡ k
-          length-is h = cc
+  abbrev Come : Outcome ℕ → Type 0
+  Come = Comes table text after
 
-  says-19 : packedAs r ≡ refused 19 unplaced → (p : Pattern) → PatternInRange p mostNested → patternText p ≡ text → ⊥
-  says-19 told = from (import table text (length before)) refl
-    where
-      from : (o : Outcome Word) → import table text (length before) ≡ o → (p : Pattern) → PatternInRange p mostNested → patternText p ≡ text → ⊥
-      from (answered w) e = absurd (not-refused (sym told ∙ a .0 ∙ ap (mapped length) e))
-        where
-          not-refused : _≡_ {A = Outcome ℕ} (refused 19 unplaced) (answered (length w)) → ⊥
-          not-refused h = impossible (cc)
-      from (refused n place) e = notation-meaning .else-19 text 19 unplaced (refused-text-19 table text (length before) (e ∙ same (sym told ∙ a .0 ∙ ap (mapped length) e))) .1 .1
-        where
-          same : _≡_ {A = Outcome ℕ} (refused 19 unplaced) (refused n place) → _≡_ {A = Outcome Word} (refused n place) (refused 19 unplaced)
-          same h = cc
+  told-by : (o : Outcome Word) → import table text (length before) ≡ o → Come (mapped length o) → Come (packedAs r)
+  told-by o e c = subst Come (sym (a .0 ∙ ap (mapped length) e)) c
 
-  pub promised : (packedAs r ≡ mapped length (import table text (length before))) × ((after ≡ outputAfter plainProgram (import table text (length before)) before) × ImportSays text (packedAs r) after)
+  left-by : (o : Outcome Word) → import table text (length before) ≡ o → after ≡ outputAfter plainProgram o before
+  left-by o e = a .1 ∙ ap (λ q. outputAfter plainProgram q before) e
+
+  -- a table that is not read
+  by-table : (n : ℕ) (place : Place) → readTable table ≡ refused n place → Come (packedAs r)
+  unfolding import
+  by-table n place e =
+      told-by (refused n place) (ap (λ o. o >>= λ T. textOutcome text (T .size) (length before)) e) (Comes.no-table n place (subst (Early 3) e (table-early table)) e)
+
+  module _ (T : Presentation) (read : readTable table ≡ answered T) where
+    outcome-of : (o : Outcome Pattern) → readText text ≡ o → import table text (length before) ≡ (o >>= λ p. imported (T .size) p (length before))
+    outcome-of o e = with-table table text (length before) T (T .size) read refl ∙ ap (λ q. q >>= λ p. imported (T .size) p (length before)) e
+
+    -- a text that is not read
+    by-text : (n : ℕ) (place : Place) → readText text ≡ refused n place → Come (packedAs r)
+    by-text n place e =
+        let only = notation-meaning .else-19 text n place e in
+        told-by (refused 19 unplaced) (outcome-of (refused n place) e ∙ ap₂ refused (only .0) (only .1 .0))
+        (Comes.no-pattern T read (λ p is. only .1 .1 p (is .0) (is .1)))
+
+    module _ (p : Pattern) (e : readText text ≡ answered p) where
+      is : TextIs text p
+      is = let back = notation-meaning .writes-read text p e in (back .1, back .0)
+
+      many : length (meaning p) ≡ moves p
+      many = notation-meaning .counted p
+
+      -- a pattern, by the three tests in their order
+      by-tests : Dec (T .size < highest p) → Dec (4095 < moves p) → Dec (length before < moves p) → Come (packedAs r)
+      by-tests (yes h) second third =
+          told-by (refused 5 unplaced) (outcome-of (answered p) e ∙ move-above (T .size) p (length before) h) (Comes.above T read p is h)
+      by-tests (no low) (yes h) third =
+          told-by (refused 20 unplaced) (outcome-of (answered p) e ∙ too-many (T .size) p (length before) (omega arith) h)
+          (Comes.too-many T read p is (omega (arith, many)))
+      by-tests (no low) (no few) (yes h) =
+          let o = outcome-of (answered p) e ∙ too-short (T .size) p (length before) (omega arith) (omega arith) h in
+          let same : length after ≡ length before = ap length (left-by (refused 13 unplaced) o) in
+          told-by (refused 13 unplaced) o (Comes.too-short T read p is (omega (arith, many)))
+      by-tests (no low) (no few) (no room) =
+          let o = outcome-of (answered p) e ∙ laid-out (T .size) p (length before) (omega arith) (omega arith) (omega arith) in
+          told-by (answered (meaning p)) o
+          (Comes.laid T read p is
+          (ap (take (length (meaning p))) (left-by (answered (meaning p)) o)
+          ∙ take-at (plainProgram (meaning p)) (drop (length (plainProgram (meaning p))) before) (length (meaning p)) (length-map (meaning p) byte)))
+
+    from-text : (o : Outcome Pattern) → readText text ≡ o → Come (packedAs r)
+    from-text (answered p) e = by-tests p e (decLt (T .size) (highest p)) (decLt 4095 (moves p)) (decLt (length before) (moves p))
+    from-text (refused n place) e = by-text n place e
+
+  from-table : (o : Outcome Presentation) → readTable table ≡ o → Come (packedAs r)
+  from-table (answered T) e = from-text T e (readText text) refl
+  from-table (refused n place) e = by-table n place e
+
+  pub promised : (packedAs r ≡ mapped length (import table text (length before)))
+      × ((after ≡ outputAfter plainProgram (import table text (length before)) before) × ImportSays table text (packedAs r) after)
   promised = (
     a .0,
     (
       a .1,
       record {
-        answer = says-answer;
-        one-pattern = λ p q in-range in-range′ e e′. notation-meaning .one-tree p q in-range in-range′ (e ∙ sym e′);
-        no-pattern = says-19;
+        comes = from-table (readTable table) refl;
+        one-pattern = λ p q is is′. notation-meaning .one-tree p q (is .0) (is′ .0) (is .1 ∙ sym (is′ .1));
+        notation = notation-meaning;
       },
     ),
   )

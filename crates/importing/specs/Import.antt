@@ -1,15 +1,18 @@
 -- What reading a whole text gives, what import does with it, and what its answer says.
 use mathlib.Core.List.{List}
 use mathlib.Core.Path.{_≡_}
-use Prim.Native.Nat.{ℕ}
+use Prim.Native.Nat.{ℕ, _≤_, _<_}
 use lib.ListN.{length, take}
 use Rattle.model.specs.declared.answers.Packed.{Packed}
 use Rattle.model.specs.Word.{Word}
-use Rattle.model.specs.Outcome.{unplaced, Outcome, answered, refused, _>>=_, mapped}
-use Rattle.model.specs.Plain.{plainProgram}
+use Rattle.model.specs.Presentation.{Presentation}
+use Rattle.model.specs.Outcome.{Place, unplaced, Outcome, answered, refused, _>>=_, mapped}
+use Rattle.model.specs.Images.{readTable}
+use Rattle.model.specs.Plain.{mostLetters, plainProgram}
 use Rattle.model.specs.Areas.{outputAfter}
 use Rattle.model.specs.Stated.{packedAs}
 use Rattle.model.specs.Notation.{Pattern, mostNested, PatternInRange, meaning, moves, highest, patternText, noPattern, readPattern, readText, imported}
+use Rattle.theory.specs.Notation.{NotationMeaning}
 use Rattle.importing.specs.declared.reading.Span.{Span}
 use Rattle.importing.specs.declared.reading.Reading.{Reading}
 use Rattle.importing.specs.declared.reading.Reading.the-variants.{Read as SpanRead, NotPattern}
@@ -39,9 +42,31 @@ Answers outcome before after r = (packedAs r ≡ mapped length outcome) × (afte
 abbrev pub TextAnswered : List ℕ → ℕ → List ℕ → List ℕ → Packed → Type 0
 TextAnswered text n before after r = Answers (textOutcome text n (length before)) before after r
 
--- 6.17: after an answer the text is that of one pattern in range, no other, and the area begins with its moves, so many; after 19 it is the text of none
-pub record ImportSays (text : List ℕ) (told : Outcome ℕ) (area : List ℕ) : Type 0 where
-  pub answer : (k : ℕ) → told ≡ answered k
-      → (p : Pattern) × PatternInRange p mostNested × (patternText p ≡ text) × (length (meaning p) ≡ k) × (take k area ≡ plainProgram (meaning p))
-  pub one-pattern : (p q : Pattern) → PatternInRange p mostNested → PatternInRange q mostNested → patternText p ≡ text → patternText q ≡ text → p ≡ q
-  pub no-pattern : told ≡ refused 19 unplaced → (p : Pattern) → PatternInRange p mostNested → patternText p ≡ text → ⊥
+-- the text is that of p, a pattern in range
+abbrev pub TextIs : List ℕ → Pattern → Type 0
+TextIs text p = PatternInRange p mostNested × (patternText p ≡ text)
+
+-- 6.17: what each result says of the table and the text, beside the answer area as it was left; there is no other result
+pub data Comes (table text area : List ℕ) : Outcome ℕ → Type 0 where
+  -- 1 to 3 come of the table
+  no-table : (n : ℕ) (place : Place) → n ≤ 3 → readTable table ≡ refused n place → Comes table text area (refused n place)
+  -- 19: the text is that of no pattern in range
+  no-pattern : (T : Presentation) → readTable table ≡ answered T → ((p : Pattern) → TextIs text p → ⊥) → Comes table text area (refused 19 unplaced)
+  -- 5: a number of the pattern, also under a count of 0, is above the table's
+  above : (T : Presentation) → readTable table ≡ answered T → (p : Pattern) → TextIs text p → T .size < highest p → Comes table text area (refused 5 unplaced)
+  -- 20: the pattern means more moves than a program has
+  too-many : (T : Presentation) → readTable table ≡ answered T → (p : Pattern) → TextIs text p → mostLetters < length (meaning p)
+      → Comes table text area (refused 20 unplaced)
+  -- 13: it means more moves than the area has bytes
+  too-short : (T : Presentation) → readTable table ≡ answered T → (p : Pattern) → TextIs text p → length area < length (meaning p)
+      → Comes table text area (refused 13 unplaced)
+  -- an answer: the area begins with the moves that the pattern means, so many
+  laid : (T : Presentation) → readTable table ≡ answered T → (p : Pattern) → TextIs text p → take (length (meaning p)) area ≡ plainProgram (meaning p)
+      → Comes table text area (answered (length (meaning p)))
+
+pub record ImportSays (table text : List ℕ) (told : Outcome ℕ) (area : List ℕ) : Type 0 where
+  pub comes : Comes table text area told
+  -- a text is that of one pattern in range at the most
+  pub one-pattern : (p q : Pattern) → TextIs text p → TextIs text q → p ≡ q
+  -- as every text is that is read, and every pattern in range is read from its text
+  pub notation : NotationMeaning
