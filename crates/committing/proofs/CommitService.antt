@@ -3,14 +3,13 @@ use mathlib.Core.Path.{_≡_, refl, sym, ap, ap₂, _∙_}
 use mathlib.Core.List.{List}
 use mathlib.Core.Bool.{Bool, true, false, _&&_, cond}
 use Prim.Native.Nat.{ℕ, _+_, _≤_}
-use native.Mathlib.Omega.{arith}
-use borrow.Author.Tests.{eq-eqb, ne-eqb, le-ltb}
+use borrow.Author.Tests.{eq-eqb, ne-eqb}
 use lib.Dec.{eqb}
 use lib.ListN.{length, replicate}
 use Rattle.model.specs.Word.{Word}
 use Rattle.model.specs.Presentation.{Presentation}
 use Rattle.model.specs.Reversing.{Ending, finished, open-pair, stopped, reversing}
-use Rattle.model.specs.Outcome.{unplaced, Outcome, answered, refused, _>>=_, unless, mapped}
+use Rattle.model.specs.Outcome.{unplaced, Outcome, answered, refused, _>>=_, mapped}
 use Rattle.model.specs.Images.{readTable, readProgram}
 use Rattle.model.specs.Services.{Fraction, fractionOf, reverse, Sizes, sizes, sizesOf, enquire, agree, committedOf, commit}
 use Rattle.model.specs.Areas.{fractionBytes, outputAfter, workspaceAfter}
@@ -31,6 +30,7 @@ use Rattle.loading.proofs.Reading.{program-refused, program-runs}
 use Rattle.reversal.specs.Reverse.{Answers}
 use Rattle.reversal.proofs.Answers.{zero-after}
 use Rattle.reversal.proofs.ReverseService.{reverse-runs}
+use Rattle.enquiring.proofs.Foretelling.{foretells}
 use Rattle.committing.specs.Commit.{Commits, CommitMeaning}
 
 -- THE THREE TESTS
@@ -137,33 +137,6 @@ module _ (table program : List ℕ) (steps width : ℕ) (z : Sizes) (area : ℕ)
       let p = answer-of (readProgram (t .0 .size) program) (λ w. committedOf z area (reversing (t .0) steps width w)) f (t .2) in
       reverse-runs table program steps width area (t .0) (t .1) (p .0) (p .1) ∙ committed-reverses (reversing (t .0) steps width (p .0)) f (p .2)
 
-  same-agree : (n d k : ℕ) → eqb n n && (eqb d d && eqb k k) ≡ true
-  same-agree n d k = ap₂ (λ s t. s && t) (eq-eqb n n refl) (ap₂ (λ s t. s && t) (eq-eqb d d refl) (eq-eqb k k refl))
-
-  fits-answered : (e : Ending) → sizesOf e ≡ answered z → z .numerator + z .denominator ≤ area
-      → (f : Fraction) × (committedOf z area e ≡ answered f) × (sizes f ≡ z)
-  fits-answered (finished n d k r) h l =
-      let own : record { numerator = length n; denominator = length d; steps = k } ≡ z = cc in
-      let long : length n + length d ≤ area = omega (arith, ap (λ y. y .numerator) own, ap (λ y. y .denominator) own, l) in (
-        record { numerator = n; denominator = d; steps = k },
-        ap (λ y. cond (agree y (record { numerator = length n; denominator = length d; steps = k })) (fractionOf area (finished n d k r)) (refused 18 unplaced)) (sym own)
-            ∙ (ap (λ t. cond t (fractionOf area (finished n d k r)) (refused 18 unplaced)) (same-agree (length n) (length d) k)
-            ∙ ap (λ t. unless t 13 (record { numerator = n; denominator = d; steps = k })) (le-ltb area (length n + length d) long)),
-        own,
-      )
-  fits-answered (open-pair a b k) h l = impossible (cc)
-  fits-answered (stopped s) h l = impossible (cc)
-
-  -- with the numbers of an answered enquiry commit is not refused
-  pub enquired-commits : enquire table program steps width ≡ answered z → z .numerator + z .denominator ≤ area
-      → (f : Fraction) × (commit table program steps width z area ≡ answered f) × (sizes f ≡ z)
-  unfolding enquire
-  enquired-commits h l =
-      let t = answer-of (readTable table) (λ T. readProgram (T .size) program >>= λ w. sizesOf (reversing T steps width w)) z h in
-      let p = answer-of (readProgram (t .0 .size) program) (λ w. sizesOf (reversing (t .0) steps width w)) z (t .2) in
-      let c = fits-answered (reversing (t .0) steps width (p .0)) (p .2) l in
-      (c .0, commit-runs (t .0) (t .1) (p .0) (p .1) ∙ c .1, c .2)
-
 module _ (table program : List ℕ) (steps : ℕ) (workspace : List ℕ) (z : Sizes) (before : List ℕ) where
   abbrev outcome : Outcome Fraction
   outcome = commit table program steps (length workspace) z (length before)
@@ -188,9 +161,9 @@ module _ (table program : List ℕ) (steps : ℕ) (workspace : List ℕ) (z : Si
       answers : enquire table program steps (length workspace) ≡ answered z → z .numerator + z .denominator ≤ length before
           → (told ≡ answered z) × (after ≡ outputAfter fractionBytes reversal before)
       answers h l =
-          let c = enquired-commits table program steps (length workspace) z (length before) h l in (
-            t ∙ (ap (mapped sizes) (c .1) ∙ ap answered (c .2)),
-            a ∙ ap (λ o. outputAfter fractionBytes o before) (same (c .0) (c .1)),
+          let c = foretells table program steps (length workspace) (length before) .answers z h l in (
+            t ∙ (ap (mapped sizes) (c .3) ∙ ap answered (c .1)),
+            a ∙ ap (λ o. outputAfter fractionBytes o before) (c .3 ∙ sym (c .2)),
           )
 
       answered-same : (o : Outcome Fraction) (y : Sizes) → outcome ≡ o → mapped sizes o ≡ answered y → outcome ≡ reversal

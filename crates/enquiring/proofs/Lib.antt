@@ -1,1 +1,2 @@
 pub mod EnquireService
+pub mod Foretelling

@@ -1,14 +1,14 @@
--- What enquire makes of an ending.
+-- What enquire makes of an ending, and what its answer says of reverse and commit.
 use mathlib.Core.List.{List}
 use mathlib.Core.Path.{_≡_}
-use Prim.Native.Nat.{ℕ}
+use Prim.Native.Nat.{ℕ, _+_, _≤_, _<_}
 use lib.ListN.{length, replicate}
 use Rattle.model.specs.Word.{Word}
 use Rattle.model.specs.Presentation.{Presentation}
 use Rattle.model.specs.Reversing.{reversing}
-use Rattle.model.specs.Outcome.{answered}
+use Rattle.model.specs.Outcome.{Place, unplaced, Outcome, answered, refused}
 use Rattle.model.specs.Images.{readProgram}
-use Rattle.model.specs.Services.{sizesOf}
+use Rattle.model.specs.Services.{Sizes, sizes, Fraction, reverse, sizesOf, commit}
 use Rattle.model.specs.Stated.{stopRefusal, reversed}
 use Rattle.model.specs.declared.answers.Ending.{Ending}
 use Rattle.model.specs.declared.answers.Ending.the-variants.{Finished, Undefined, Stopped}
@@ -28,3 +28,18 @@ pub record ProgramEnquired (cells : List ℕ) (size : ℕ) (program : List ℕ) 
   pub wiped : workspace′ ≡ replicate (length workspace) 0
   pub answers : (T : Presentation) → Of cells size T → (w : Word) → readProgram size program ≡ answered w
       → reversed r ≡ sizesOf (reversing T budget (length workspace) w)
+
+-- what an enquiry says of reverse, and of commit with numbers handed in, in an answer area of `area` bytes
+pub record Foretells (told : Outcome Sizes) (area : ℕ) (reversing : Outcome Fraction) (committing : Sizes → Outcome Fraction) : Type 0 where
+  -- where both lengths fit the area, both answer with the same words, whose sizes are the enquiry's
+  pub answers : (z : Sizes) → told ≡ answered z → z .numerator + z .denominator ≤ area
+      → (f : Fraction) × (sizes f ≡ z) × (reversing ≡ answered f) × (committing z ≡ answered f)
+  -- where they do not, both are refused with 13
+  pub short-area : (z : Sizes) → told ≡ answered z → area < z .numerator + z .denominator → (reversing ≡ refused 13 unplaced) × (committing z ≡ refused 13 unplaced)
+  -- what refuses the enquiry refuses both, whatever is handed in
+  pub refuses : (n : ℕ) (place : Place) → told ≡ refused n place → (reversing ≡ refused n place) × ((z : Sizes) → committing z ≡ refused n place)
+
+-- WHAT AN ANSWER MEANS (specification 6.15): what was told, of the same images, allowance and workspace, and of every answer area
+abbrev pub EnquireMeaning : List ℕ → List ℕ → ℕ → ℕ → Outcome Sizes → Type 0
+EnquireMeaning table program steps width told =
+    (area : ℕ) → Foretells told area (reverse table program steps width area) (λ z. commit table program steps width z area)

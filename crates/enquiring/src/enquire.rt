@@ -5,7 +5,7 @@ ghost use Rattle.model.specs.Services.{enquire};
 ghost use Rattle.model.specs.Areas.{workspaceAfter};
 ghost use Rattle.model.specs.Stated.{reversed};
 ghost use Rattle.loading.specs.Loading.{ProgramRuns};
-ghost use Rattle.enquiring.specs.Enquire.{sizesTold, ProgramEnquired};
+ghost use Rattle.enquiring.specs.Enquire.{sizesTold, ProgramEnquired, EnquireMeaning};
 use areas::bytes::wipe;
 use cells::layout::CELLS;
 use loading::loading::TableProgram;
@@ -56,6 +56,7 @@ pub fn enquire_program(
 pub fn enquire(table: &[u8], program: &[u8], allowance: u16, workspace: &mut [u8]) -> Reversed
     ensures stated { λ r. ⌜ reversed r ≡ enquire (now (table .entry)) (now (program .entry)) allowance (length (now (workspace .entry))) ⌝ }
     ensures workspace { λ r. ⌜ now (workspace .exit) ≡ workspaceAfter (enquire (now (table .entry)) (now (program .entry)) allowance (length (now (workspace .entry)))) (now (workspace .entry)) ⌝ }
+    ensures meaning { λ r. ⌜ EnquireMeaning (now (table .entry)) (now (program .entry)) allowance (length (now (workspace .entry))) (reversed r) ⌝ }
 {
     let mut cells = [0u8; CELLS];
     let read = read_table_program(table, program, &mut cells);

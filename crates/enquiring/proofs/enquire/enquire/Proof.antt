@@ -4,6 +4,8 @@ use lib.ListN.{length}
 use Rattle.model.specs.Reversing.{reversing}
 use Rattle.model.specs.Areas.{workspaceAfter}
 use Rattle.loading.specs.Loading.{TableProgramDone}
+use Rattle.enquiring.specs.Enquire.{EnquireMeaning}
+use Rattle.enquiring.proofs.Foretelling.{foretells}
 use Rattle.enquiring.proofs.EnquireService.{zero-after, enquire-refused, enquire-runs}
 use Rattle.cells.proofs.Rules.{blank-zeros}
 use borrow.Author.Needs.{needs}
@@ -39,7 +41,14 @@ returns c =
     let r = c .before .read .given .0 .0 in
     let e = subst (TableProgramDone (s .args .table .now) (s .args .program .now) (v .last .1 .1 .0)) (c .before .read .given .1) (v .ensures) in
     let o = enquire-refused (s .args .table .now) (s .args .program .now) (s .args .allowance) (length (s .args .workspace .now)) r e in
-    (o .stated, o .workspace (s .args .workspace .now))
+    let stated = o .stated in (
+      stated,
+      (
+        o .workspace (s .args .workspace .now),
+        subst (EnquireMeaning (s .args .table .now) (s .args .program .now) (s .args .allowance) (length (s .args .workspace .now))) (sym stated)
+            (foretells (s .args .table .now) (s .args .program .now) (s .args .allowance) (length (s .args .workspace .now))),
+      ),
+    )
 
 same-length : tie.Need-same-length
 same-length c = search needs
@@ -52,9 +61,14 @@ returns-2 c =
     let p = t .runs in
     let q = p .accepted .program in
     let o = enquire-runs (s .args .table .now) (s .args .program .now) (s .args .allowance) (length (s .args .workspace .now)) (p .table) (t .table-read) (q .word) (t .program-read) in
-    let z = c .before .before .enquire-program .ensures in (
-      z .answers (p .table) (p .of) (q .word) (q .read) ∙ sym o,
-      z .wiped ∙ sym (ap (λ x. workspaceAfter x (s .args .workspace .now)) o ∙ zero-after (reversing (p .table) (s .args .allowance) (length (s .args .workspace .now)) (q .word)) (s .args .workspace .now)),
+    let z = c .before .before .enquire-program .ensures in
+    let stated = z .answers (p .table) (p .of) (q .word) (q .read) ∙ sym o in (
+      stated,
+      (
+        z .wiped ∙ sym (ap (λ x. workspaceAfter x (s .args .workspace .now)) o ∙ zero-after (reversing (p .table) (s .args .allowance) (length (s .args .workspace .now)) (q .word)) (s .args .workspace .now)),
+        subst (EnquireMeaning (s .args .table .now) (s .args .program .now) (s .args .allowance) (length (s .args .workspace .now))) (sym stated)
+            (foretells (s .args .table .now) (s .args .program .now) (s .args .allowance) (length (s .args .workspace .now))),
+      ),
     )
 
 pub enquire-spec : {M : Type 1} → statement M
