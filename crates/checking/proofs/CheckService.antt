@@ -29,6 +29,7 @@ use Rattle.images.specs.Programs.{ForwardOf}
 use Rattle.swaps.specs.Held.{heldAt, Placed, Carried}
 use Rattle.swaps.proofs.Applying.{held-length}
 use Rattle.loading.specs.Loading.{Images, readImages}
+use Rattle.images.proofs.RoundTrip.{table-in-range, chain-image-of}
 use Rattle.checking.specs.Check.{CheckMeaning}
 use Rattle.loading.proofs.Early.{chain-early}
 use Rattle.loading.proofs.Outcomes.{AsFound, reading-refused}
@@ -130,6 +131,7 @@ module _ (table first second entries : List ℕ) (width : ℕ) where
           λ h. passage-exactly T width u es v o′ .0 (sym (is T u v c es r) ∙ h),
           λ p. is T u v c es r ∙ passage-exactly T width u es v o′ .1 p,
         );
+        one-image = λ T u v c bs es r. chain-image-of (T .size) (table-in-range table T (c .table-read) .few) entries bs es r;
       }
     where
       is : (T : Presentation) (u v : Positive) → Compares table first second T u v → (es : List Entry) → readChain (T .size) entries ≡ answered es

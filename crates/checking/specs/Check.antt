@@ -8,7 +8,8 @@ use Rattle.model.specs.Word.{Positive}
 use Rattle.model.specs.Presentation.{Presentation}
 use Rattle.model.specs.Equivalence.{Entry, Joined}
 use Rattle.model.specs.Outcome.{Outcome, answered}
-use Rattle.model.specs.Images.{readChain}
+use Rattle.model.specs.Images.{chainImage, readChain}
+use Rattle.model.specs.Range.{AreBytes, ChainInRange}
 use Rattle.model.specs.Services.{Passage, joins, readForward, passage}
 use Rattle.model.specs.Areas.{Compares, workspaceAfter}
 use Rattle.model.specs.Stated.{checked}
@@ -38,3 +39,6 @@ pub record CheckMeaning (table first second entries : List ℕ) (width : ℕ) (o
   -- each outcome exactly where the entries lead as it says
   pub exactly : (T : Presentation) (u v : Positive) → Compares table first second T u v → (es : List Entry) → readChain (T .size) entries ≡ answered es
       → (o : Outcome Passage) → (outcome ≡ o) ↔ Passes T width u es v o
+  -- the image is the only one of its entries, and these are in range
+  pub one-image : (T : Presentation) (u v : Positive) → Compares table first second T u v → AreBytes entries → (es : List Entry)
+      → readChain (T .size) entries ≡ answered es → (entries ≡ chainImage (T .size) es) × ChainInRange (T .size) es

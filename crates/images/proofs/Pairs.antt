@@ -2,7 +2,7 @@
 use mathlib.Core.Path.{_≡_, ap, _∙_}
 use mathlib.Core.Bool.{cond}
 use mathlib.Core.List.{List}
-use Prim.Native.Nat.{ℕ, _+_, _<_}
+use Prim.Native.Nat.{ℕ, _+_, _*_, _<_}
 use native.Mathlib.Omega.{arith}
 use borrow.Author.Tests.{eq-eqb, ne-eqb}
 use lib.Dec.{eqb}
@@ -17,7 +17,14 @@ use Rattle.images.specs.declared.tables.TablePart.the-variants.{Next, En
 use Rattle.images.specs.Fields.{FieldAt, from}
 use Rattle.cells.specs.Layout.{Letters, cellAt}
 use Rattle.cells.proofs.Kept.{undefined-held, undefined-kept, words-held, words-kept}
-use Rattle.images.specs.Tables.{WordAt, WordDone, PairAt, PairDone}
+use Rattle.images.specs.Tables.{WordFrom, WordDone, PairFrom, PairDone}
+
+-- a word and a pair of a table image that were read, from so far on and up to here
+abbrev pub WordAt : List ℕ → ℕ → ℕ → List ℕ → ℕ → List ℕ → ℕ → Type 0
+WordAt image at size before cell after next = WordFrom (wordField size) (from image) (8 * length image) 64 at size before cell after next
+
+abbrev pub PairAt : List ℕ → ℕ → ℕ → List ℕ → ℕ → ℕ → List ℕ → ℕ → Type 0
+PairAt image at size before a b after next = PairFrom (pairField size) (from image) (8 * length image) at size before a b after next
 
 unfoldable pairOf : ℕ → Read ℕ → Outcome (Read Complement)
 pairOf size bit = cond (eqb (bit .value) 0) (answered (record { value = undefined; rest = bit .rest })) (definedField size (bit .rest))

@@ -24,7 +24,7 @@ use Rattle.cells.specs.Stands.{HoldsFirst, HoldsWeights, Stands, Blank}
 use Rattle.cells.specs.Kept.{SameCell, HoldsPair}
 use Rattle.cells.proofs.Kept.{holds-kept, same-cell-after, swap-letters}
 use Rattle.cells.proofs.Rules.{of-some, of-few}
-use Rattle.images.specs.Tables.{HoldsRow, PairFrom, RowFrom, RowAt, RowsHeld, rowsThen, LoadedOr, TableOf, TableDone, SizeDone}
+use Rattle.images.specs.Tables.{HoldsRow, PairFrom, RowFrom, RowsHeld, rowsThen, LoadedOr, TableOf, TableDone, SizeDone}
 use Rattle.images.specs.declared.tables.TableRead.{TableRead}
 use Rattle.images.specs.declared.tables.TableRead.the-variants.{Table, Refused}
 use Rattle.images.proofs.Several.{after, after-none, several-step, several-refused, several-done, several-length, rows-step, rows-refused, rows-done}
@@ -300,7 +300,7 @@ module _ (image : List ℕ) (begin size : ℕ) (some : 1 ≤ size) (few : size �
   image-rows-none cells inside blank = rows-none (pairField size) (from image) (8 * length image) begin size some few cells inside blank
 
   module _ (start cells : List ℕ) (at a : ℕ) (f : RowsFilled (pairField size) (from image) (8 * length image) begin size start cells at a) where
-    pub image-rows-more : a ≤ size → (cells' : List ℕ) (next : ℕ) → length cells' ≡ length cells → RowAt image at size cells a cells' next → RowsFilled (pairField size) (from image) (8 * length image) begin size start cells' next (a + 1)
+    pub image-rows-more : a ≤ size → (cells' : List ℕ) (next : ℕ) → length cells' ≡ length cells → RowFrom (pairField size) (from image) (8 * length image) at size cells a cells' next → RowsFilled (pairField size) (from image) (8 * length image) begin size start cells' next (a + 1)
     image-rows-more h cells' next same r = rows-more (pairField size) (from image) (8 * length image) begin size some few start cells at a f h cells' next same r
 
     module _ (excess : List ℕ) where

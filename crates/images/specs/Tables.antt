@@ -69,20 +69,11 @@ RowDoneFrom reader source limit at size before a after Ends = several reader (si
 RowDoneFrom reader source limit at size before a after Wrong = several reader (size - a) (source at) ≡ refused 2 unplaced
 
 -- .. from a table image, whose positions are those of its bits
-abbrev pub WordAt : List ℕ → ℕ → ℕ → List ℕ → ℕ → List ℕ → ℕ → Type 0
-WordAt image at size before cell after next = WordFrom (wordField size) (from image) (8 * length image) 64 at size before cell after next
-
 abbrev pub WordDone : List ℕ → ℕ → ℕ → List ℕ → ℕ → List ℕ → TablePart → Type 0
 WordDone image at size before cell after r = WordDoneFrom (wordField size) (from image) (8 * length image) 64 at size before cell after r
 
-abbrev pub PairAt : List ℕ → ℕ → ℕ → List ℕ → ℕ → ℕ → List ℕ → ℕ → Type 0
-PairAt image at size before a b after next = PairFrom (pairField size) (from image) (8 * length image) at size before a b after next
-
 abbrev pub PairDone : List ℕ → ℕ → ℕ → List ℕ → ℕ → ℕ → List ℕ → TablePart → Type 0
 PairDone image at size before a b after r = PairDoneFrom (pairField size) (from image) (8 * length image) at size before a b after r
-
-abbrev pub RowAt : List ℕ → ℕ → ℕ → List ℕ → ℕ → List ℕ → ℕ → Type 0
-RowAt image at size before a after next = RowFrom (pairField size) (from image) (8 * length image) at size before a after next
 
 abbrev pub RowDone : List ℕ → ℕ → ℕ → List ℕ → ℕ → List ℕ → TablePart → Type 0
 RowDone image at size before a after r = RowDoneFrom (pairField size) (from image) (8 * length image) at size before a after r

@@ -4,12 +4,16 @@ use mathlib.Core.List.{[], _∷_, _++_, append-nil}
 use Prim.Native.Nat.{ℕ}
 use Rattle.model.specs.Word.{Positive, positive, negative}
 use Rattle.model.specs.Presentation.{Presentation, Complement, undefined, complement, complete}
-use Rattle.model.specs.Reversing.{Ending, finished, open-pair, stopped, reversing, Leftmost, Residual, NoResidual}
+use Rattle.model.specs.Reversing.{Ending, finished, open-pair, stopped, reversing, Leftmost, Residual}
 use Rattle.model.specs.Checks.{residue, missing, ofEnding, under}
 use Rattle.model.proofs.Impossible.{impossible}
 use Rattle.model.proofs.Words.{fraction-injective}
 use Rattle.model.proofs.Leftmost.{fraction-stuck, counted, same-end, open-unfinished}
 use Rattle.model.proofs.Endings.{Ends, reversing-ends}
+
+-- u\v is undefined: the reversing never finishes, for it comes to an open pair or goes on for ever
+abbrev pub NoResidual : Presentation → Positive → Positive → Type 0
+NoResidual T u v = (n d : Positive) → Residual T u v n d → ⊥
 
 module _ (T : Presentation) where
   -- there is at most one

@@ -128,7 +128,3 @@ CoversRoom width (go {w} e c r) = (length w ≤ width) × CoversRoom width r
 -- 3.5: n is u\v, and d is v\u: the undoing of u, followed by v, finishes with them
 abbrev pub Residual : Presentation → Positive → Positive → Positive → Positive → Type 0
 Residual T u v n d = (k : ℕ) × Finishes T (negative u ++ positive v) n d k
-
--- 3.5: u\v is undefined: the reversing never finishes, for it comes to an open pair or goes on for ever
-abbrev pub NoResidual : Presentation → Positive → Positive → Type 0
-NoResidual T u v = (n d : Positive) → Residual T u v n d → ⊥

@@ -1,21 +1,23 @@
 -- What a packing service writes reads back as its subject, so that packing and unpacking undo each other.
-use mathlib.Core.Path.{_≡_, sym, ap, _∙_}
+use mathlib.Core.Path.{_≡_, refl, sym, ap, _∙_}
 use mathlib.Core.List.{List}
 use Prim.Native.Nat.{ℕ, _≤_}
 use native.Mathlib.Omega.{arith}
 use lib.Dec.{ltb}
-use lib.ListN.{length}
+use lib.ListN.{length, take, drop}
+use lib.Seq.{take-at}
 use Rattle.model.specs.Presentation.{Presentation}
 use Rattle.model.specs.Word.{Word}
-use Rattle.model.specs.Outcome.{Outcome, answered, _>>=_}
+use Rattle.model.specs.Outcome.{Outcome, answered, refused, _>>=_, mapped}
 use Rattle.model.specs.Range.{AreBytes}
+use Rattle.model.specs.Areas.{outputAfter}
 use Rattle.model.specs.Images.{readTable, readProgram, programImage, tableImage}
 use Rattle.model.specs.Plain.{plainProgram, readPlainProgram, readPlainTable, plainTable}
 use Rattle.model.specs.Services.{fitted, programUnder, plainProgramUnder, unpackProgram, packProgram, packTable, unpackTable}
-use Rattle.model.proofs.Impossible.{answer-of, not-refused}
+use Rattle.model.proofs.Impossible.{impossible, answer-of, same-answer, not-refused}
 use Rattle.images.proofs.RoundTrip.{table-reads-back, table-image-of, table-in-range, program-reads-back, program-image-of, program-in-range}
 use Rattle.plain_forms.proofs.PlainTrip.{plain-table-reads-back, plain-table-of, plain-program-reads-back, plain-program-of}
-use Rattle.packing.specs.RoundTrips.{Undoes, RoundTrips}
+use Rattle.packing.specs.RoundTrips.{Undone}
 use Rattle.packing.proofs.Packing.{long-area}
 
 -- THE BYTES WRITTEN ARE READ AS THE SUBJECT
@@ -48,6 +50,12 @@ module _ (table : List ℕ) (T : Presentation) (size : ℕ) (e : readTable table
 
 -- UNPACK AFTER PACK, AND PACK AFTER UNPACK
 
+-- what `there` writes of some bytes, `back` turns into these bytes again, in every area that has room for them
+abbrev pub Undoes : (there back : List ℕ → ℕ → Outcome (List ℕ)) → Type 0
+Undoes there back =
+    (bytes : List ℕ) → AreBytes bytes → (area : ℕ) (written : List ℕ) → there bytes area ≡ answered written
+    → (room : ℕ) → length bytes ≤ room → back written room ≡ answered bytes
+
 -- read by one reader and written as the other reads, then back
 module _ {A : Type 0} (read : List ℕ → Outcome A) (write : A → List ℕ) (read′ : List ℕ → Outcome A) (write′ : A → List ℕ) (bytes : List ℕ)
     (stood : (x : A) → read bytes ≡ answered x → (bytes ≡ write x) × (read′ (write′ x) ≡ answered x)) where
@@ -60,13 +68,13 @@ module _ {A : Type 0} (read : List ℕ → Outcome A) (write : A → List ℕ) (
       ap (λ o. o >>= λ x. fitted room (write x)) (ap read′ (sym image) ∙ b .1)
       ∙ (ap (fitted room) (sym (b .0)) ∙ long-area room bytes h)
 
-table-unpacked : Undoes packTable unpackTable
+pub table-unpacked : Undoes packTable unpackTable
 unfolding packTable unpackTable
 table-unpacked plain bs =
     undone readPlainTable plainTable readTable tableImage plain
     (λ T e. (plain-table-of plain T e .0, table-reads-back T (plain-table-of plain T e .1)))
 
-table-packed : Undoes unpackTable packTable
+pub table-packed : Undoes unpackTable packTable
 unfolding packTable unpackTable
 table-packed table bs =
     undone readTable tableImage readPlainTable plainTable table
@@ -77,7 +85,7 @@ module _ (table : List ℕ) (f : Presentation → Outcome (List ℕ)) where
   table-of : (written : List ℕ) → (readTable table >>= f) ≡ answered written → (T : Presentation) × (readTable table ≡ answered T) × (f T ≡ answered written)
   table-of written e = answer-of (readTable table) f written e
 
-program-unpacked : (table : List ℕ) → Undoes (packProgram table) (unpackProgram table)
+pub program-unpacked : (table : List ℕ) → Undoes (packProgram table) (unpackProgram table)
 unfolding packProgram unpackProgram
 program-unpacked table plain bs area written e room h =
     let t = table-of table (λ T. readPlainProgram (T .size) plain >>= λ w. fitted area (programImage (T .size) w)) written e in
@@ -87,7 +95,7 @@ program-unpacked table plain bs area written e room h =
     ∙ undone (readPlainProgram n) plainProgram (readProgram n) (programImage n) plain
     (λ w p. (plain-program-of n plain bs w p .0, program-reads-back n few w (plain-program-of n plain bs w p .1))) area written (t .2) room h
 
-program-packed : (table : List ℕ) → Undoes (unpackProgram table) (packProgram table)
+pub program-packed : (table : List ℕ) → Undoes (unpackProgram table) (packProgram table)
 unfolding packProgram unpackProgram
 program-packed table program bs area written e room h =
     let t = table-of table (λ T. readProgram (T .size) program >>= λ w. fitted area (plainProgram w)) written e in
@@ -97,11 +105,20 @@ program-packed table program bs area written e room h =
     ∙ undone (readProgram n) (programImage n) (readPlainProgram n) plainProgram program
     (λ w p. (program-image-of n few program bs w p .0, plain-program-reads-back n few w (program-in-range n few program w p))) area written (t .2) room h
 
-pub round-trips : RoundTrips
-round-trips =
-    record {
-      table-unpacked = table-unpacked;
-      table-packed = table-packed;
-      program-unpacked = program-unpacked;
-      program-packed = program-packed;
-    }
+-- .. OF WHAT A CALL WROTE
+
+module _ (there back : List ℕ → ℕ → Outcome (List ℕ)) (undoes : Undoes there back) (bytes before after : List ℕ) (told : Outcome ℕ) where
+  undone-by : told ≡ mapped length (there bytes (length before)) → after ≡ outputAfter (λ b. b) (there bytes (length before)) before
+      → (o : Outcome (List ℕ)) → there bytes (length before) ≡ o → Undone back bytes told after
+  undone-by t a (refused n place) e bs k h room fits = let refusal = sym h ∙ (t ∙ ap (mapped length) e) in impossible (cc)
+  undone-by t a (answered image) e bs k h room fits =
+      let long : length image ≡ k = same-answer (length image) k (sym (ap (mapped length) e) ∙ (sym t ∙ h)) in
+      let taken : take k after ≡ image =
+      ap (take k) (a ∙ ap (λ o. outputAfter (λ b. b) o before) e) ∙ take-at image (drop (length image) before) k long in
+      ap (λ l. back l room) taken ∙ undoes bytes bs (length before) image e room fits
+
+  -- what a service promises of its outcome, and that this is undone
+  pub undone-too : {R : Type 0} → (told ≡ mapped length (there bytes (length before))) × ((after ≡ outputAfter (λ b. b) (there bytes (length before)) before) × R)
+      → (told ≡ mapped length (there bytes (length before)))
+      × ((after ≡ outputAfter (λ b. b) (there bytes (length before)) before) × (R × Undone back bytes told after))
+  undone-too p = (p .0, (p .1 .0, (p .1 .1, undone-by (p .0) (p .1 .0) (there bytes (length before)) refl)))

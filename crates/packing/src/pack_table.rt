@@ -14,13 +14,15 @@ ghost use Rattle.model.specs.Areas.{outputAfter, ReadsBack};
 ghost use Rattle.model.specs.Stated.{packedAs};
 ghost use Rattle.model.specs.Images.{readTable};
 ghost use Rattle.model.specs.Plain.{readPlainTable};
-ghost use Rattle.model.specs.Services.{packTable};
+ghost use Rattle.model.specs.Services.{packTable, unpackTable};
+ghost use Rattle.packing.specs.RoundTrips.{Undone};
 
 // The image is made in a local area first, so that its length is known before anything is written.
 pub fn pack(plain: &[u8], answer: &mut [u8]) -> Packed
     ensures stated { λ r. ⌜ packedAs r ≡ mapped length (packTable (now (plain .entry)) (length (now (answer .entry)))) ⌝ }
     ensures answer { λ r. ⌜ now (answer .exit) ≡ outputAfter (λ b. b) (packTable (now (plain .entry)) (length (now (answer .entry)))) (now (answer .entry)) ⌝ }
     ensures readable { λ r. ⌜ ReadsBack (readPlainTable (now (plain .entry))) readTable (packedAs r) (now (answer .exit)) ⌝ }
+    ensures undone { λ r. ⌜ Undone unpackTable (now (plain .entry)) (packedAs r) (now (answer .exit)) ⌝ }
 {
     let mut cells = [0u8; CELLS];
     match read_plain_table(plain, &mut cells) {

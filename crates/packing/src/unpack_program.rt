@@ -11,12 +11,14 @@ ghost use lib.ListN.{length};
 ghost use Rattle.model.specs.Outcome.{mapped};
 ghost use Rattle.model.specs.Areas.{outputAfter, ReadsBack};
 ghost use Rattle.model.specs.Stated.{packedAs};
-ghost use Rattle.model.specs.Services.{unpackProgram, programUnder, plainProgramUnder};
+ghost use Rattle.model.specs.Services.{unpackProgram, programUnder, plainProgramUnder, packProgram};
+ghost use Rattle.packing.specs.RoundTrips.{Undone};
 
 pub fn unpack(table: &[u8], program: &[u8], answer: &mut [u8]) -> Packed
     ensures stated { λ r. ⌜ packedAs r ≡ mapped length (unpackProgram (now (table .entry)) (now (program .entry)) (length (now (answer .entry)))) ⌝ }
     ensures answer { λ r. ⌜ now (answer .exit) ≡ outputAfter (λ b. b) (unpackProgram (now (table .entry)) (now (program .entry)) (length (now (answer .entry)))) (now (answer .entry)) ⌝ }
     ensures readable { λ r. ⌜ ReadsBack (programUnder (now (table .entry)) (now (program .entry))) (plainProgramUnder (now (table .entry))) (packedAs r) (now (answer .exit)) ⌝ }
+    ensures undone { λ r. ⌜ Undone (packProgram (now (table .entry))) (now (program .entry)) (packedAs r) (now (answer .exit)) ⌝ }
 {
     match tables::table_size(table) {
         TableRead::Refused(refusal) => Packed::Refused(refusal),

@@ -14,7 +14,7 @@ use Rattle.model.proofs.Impossible.{impossible}
 use Rattle.model.proofs.Listing.{earlier-transitive, ordered-rest, ordered-after}
 use Rattle.areas.proofs.Parts.{taken-length}
 use Rattle.ways.specs.Marks.{isEnding, StartFound, HasEnd, EndFound}
-use Rattle.ways.specs.Area.{Marked, entryBytes, spelled, words, Legible, Spells, Between, Fits, Listed}
+use Rattle.ways.specs.Area.{Marked, entryBytes, spelled, words, Legible, Spells, Fits, Listed}
 use Rattle.ways.proofs.NewWords.{part-at}
 
 pub spelled-append : (xs ys : List Marked) → spelled (xs ++ ys) ≡ spelled xs ++ spelled ys
@@ -194,6 +194,17 @@ all-before (p ∷ pre) m post o x n = go (List·Memᴰ·cases-cons n) (all-befor
     go (inr k) rest = rest k
 
 -- HALVING
+
+-- the words come before v up to one place, and after v from another on
+pub record Between (ms : List Marked) (v : Positive) (low high : ℕ) : Type 0 where
+  pub before : List Marked
+  pub middle : List Marked
+  pub after : List Marked
+  pub parts : ms ≡ before ++ (middle ++ after)
+  pub low-is : low ≡ length (spelled before)
+  pub high-is : high ≡ low + length (spelled middle)
+  pub earlier-all : (m : Marked) → List·Memᴰ m before → earlier (m .word) v ≡ true
+  pub later-all : (m : Marked) → List·Memᴰ m after → earlier v (m .word) ≡ true
 
 module _ (area : List ℕ) (used : ℕ) (ms : List Marked) (s : Spells area used ms) (v : Positive) where
   pub between-all : Between ms v 0 used

@@ -2,7 +2,7 @@
 use mathlib.Core.List.{List, [], _∷_, _++_, map, List·Memᴰ}
 use mathlib.Core.Bool.{true, false}
 use mathlib.Core.Path.{_≡_}
-use Prim.Native.Nat.{ℕ, _+_, _≤_, _<_}
+use Prim.Native.Nat.{ℕ, _≤_, _<_}
 use lib.ListN.{length, take, getD}
 use Rattle.model.specs.Word.{Positive}
 use Rattle.model.specs.Enumeration.{concatMap}
@@ -46,17 +46,6 @@ pub record Listed (ms : List Marked) (v : Positive) : Type 0 where
   pub among : List·Memᴰ one ms
   pub not-before : earlier v (one .word) ≡ false
   pub not-after : earlier (one .word) v ≡ false
-
--- the words come before v up to one place, and after v from another on
-pub record Between (ms : List Marked) (v : Positive) (low high : ℕ) : Type 0 where
-  pub before : List Marked
-  pub middle : List Marked
-  pub after : List Marked
-  pub parts : ms ≡ before ++ (middle ++ after)
-  pub low-is : low ≡ length (spelled before)
-  pub high-is : high ≡ low + length (spelled middle)
-  pub earlier-all : (m : Marked) → List·Memᴰ m before → earlier (m .word) v ≡ true
-  pub later-all : (m : Marked) → List·Memᴰ m after → earlier v (m .word) ≡ true
 
 -- v has its place at a byte: between those before and those after it
 pub record Fits (ms : List Marked) (v : Positive) (at : ℕ) : Type 0 where

@@ -5,9 +5,9 @@ use native.Mathlib.Omega.{arith}
 use lib.ListN.{set, length-set}
 use Rattle.images.specs.Fields.{FieldDone, FieldAt}
 use Rattle.cells.specs.Layout.{cellAt}
-use Rattle.images.specs.Tables.{WordDone, WordAt, PairAt}
+use Rattle.images.specs.Tables.{WordDone}
 use Rattle.cells.proofs.Kept.{cell-inside, swap-letters}
-use Rattle.images.proofs.Pairs.{bit-ends, pair-undefined, first-refused, second-done}
+use Rattle.images.proofs.Pairs.{WordAt, PairAt, bit-ends, pair-undefined, first-refused, second-done}
 use borrow.Author.Needs.{needs}
 use Rattle.images.proofs.tables.read_pair.Statement.{statement}
 use Rattle.images.proofs.tables.read_pair.Tie as tie

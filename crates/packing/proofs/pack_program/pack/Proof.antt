@@ -7,7 +7,7 @@ use lib.ListN.{length, set, length-set}
 use Rattle.model.specs.declared.answers.Refusal.the-variants.{AnswerShort}
 use Rattle.model.specs.Word.{letter}
 use Rattle.model.specs.Bits.{bytesFor, pack}
-use Rattle.model.specs.Services.{packProgram, programUnder, plainProgramUnder}
+use Rattle.model.specs.Services.{packProgram, programUnder, plainProgramUnder, unpackProgram}
 use Rattle.bits.proofs.Width.{width-small}
 use Rattle.bits.proofs.Packing.{length-packed}
 use Rattle.images.specs.Tables.{SizeDone, SizeOf}
@@ -17,7 +17,7 @@ use Rattle.bits.specs.Fields.{Appended}
 use Rattle.images.proofs.Letters.{near}
 use Rattle.images.proofs.Appending.{program-length, program-bits, program-image, image-written}
 use Rattle.packing.proofs.Packing.{refused-keeps, answered-writes, short-area, long-area, pack-table-refused, pack-program-refused, pack-read}
-use Rattle.packing.proofs.ReadBack.{program-back}
+use Rattle.packing.proofs.ReadBack.{undone-too, program-unpacked, program-back}
 use borrow.Author.Needs.{needs}
 use Rattle.packing.proofs.pack_program.pack.Statement.{statement}
 use Rattle.packing.proofs.pack_program.pack.Tie as tie
@@ -97,8 +97,9 @@ returns c =
     let w = c .before in
     let k = told (w .before) in
     let s = start k in
-    refused-keeps (plainProgramUnder (s .args .table .now) (s .args .plain .now)) (programUnder (s .args .table .now)) (packProgram (s .args .table .now) (s .args .plain .now) (length (s .args .answer .now))) (s .args .answer .now) AnswerShort
-    (image-of w ∙ short-area (length (s .args .answer .now)) (pack (programBits (k .before .size .given .0 .0) (s .args .plain .now))) (omega (arith, c .if1 .taken, image-length w)))
+    undone-too (packProgram (s .args .table .now)) (unpackProgram (s .args .table .now)) (program-unpacked (s .args .table .now)) (s .args .plain .now) (s .args .answer .now) _ _
+    (refused-keeps (plainProgramUnder (s .args .table .now) (s .args .plain .now)) (programUnder (s .args .table .now)) (packProgram (s .args .table .now) (s .args .plain .now) (length (s .args .answer .now))) (s .args .answer .now) AnswerShort
+    (image-of w ∙ short-area (length (s .args .answer .now)) (pack (programBits (k .before .size .given .0 .0) (s .args .plain .now))) (omega (arith, c .if1 .taken, image-length w))))
 
 sub-answer : tie.Need-sub-answer
 sub-answer c = search needs
@@ -124,16 +125,18 @@ write-program-requires c κs =
 returns-2 : tie.Need-returns-2
 returns-2 c =
     let s = c .before .before .before .before .before .before .before in
-    refused-keeps (plainProgramUnder (s .args .table .now) (s .args .plain .now)) (programUnder (s .args .table .now)) (packProgram (s .args .table .now) (s .args .plain .now) (length (s .args .answer .now))) (s .args .answer .now) (c .before .refusal .given .0 .0)
-    (pack-table-refused (s .args .table .now) (s .args .plain .now) (length (s .args .answer .now)) (c .before .refusal .given .0 .0) (subst (SizeDone (s .args .table .now)) (c .before .refusal .given .1) (c .before .before .before .table-size .ensures)))
+    undone-too (packProgram (s .args .table .now)) (unpackProgram (s .args .table .now)) (program-unpacked (s .args .table .now)) (s .args .plain .now) (s .args .answer .now) _ _
+    (refused-keeps (plainProgramUnder (s .args .table .now) (s .args .plain .now)) (programUnder (s .args .table .now)) (packProgram (s .args .table .now) (s .args .plain .now) (length (s .args .answer .now))) (s .args .answer .now) (c .before .refusal .given .0 .0)
+    (pack-table-refused (s .args .table .now) (s .args .plain .now) (length (s .args .answer .now)) (c .before .refusal .given .0 .0) (subst (SizeDone (s .args .table .now)) (c .before .refusal .given .1) (c .before .before .before .table-size .ensures))))
 
 returns-3 : tie.Need-returns-3
 returns-3 c =
     let k = c .before .before .before .before in
     let s = start k in
-    refused-keeps (plainProgramUnder (s .args .table .now) (s .args .plain .now)) (programUnder (s .args .table .now)) (packProgram (s .args .table .now) (s .args .plain .now) (length (s .args .answer .now))) (s .args .answer .now) (c .before .refusal2 .given .0 .0)
+    undone-too (packProgram (s .args .table .now)) (unpackProgram (s .args .table .now)) (program-unpacked (s .args .table .now)) (s .args .plain .now) (s .args .answer .now) _ _
+    (refused-keeps (plainProgramUnder (s .args .table .now) (s .args .plain .now)) (programUnder (s .args .table .now)) (packProgram (s .args .table .now) (s .args .plain .now) (length (s .args .answer .now))) (s .args .answer .now) (c .before .refusal2 .given .0 .0)
     (pack-program-refused (s .args .table .now) (s .args .plain .now) (length (s .args .answer .now)) (size-of k .table) _ (size-of k .read) (size-of k .size-is) (c .before .refusal2 .given .0 .0)
-    (subst (PlainDone (s .args .plain .now) (k .before .size .given .0 .0)) (c .before .refusal2 .given .1) (c .before .before .before .read-plain-program .ensures)))
+    (subst (PlainDone (s .args .plain .now) (k .before .size .given .0 .0)) (c .before .refusal2 .given .1) (c .before .before .before .read-plain-program .ensures))))
 
 same-length : tie.Need-same-length
 same-length c =
@@ -148,7 +151,8 @@ returns-4 c =
     let s = start k in
     let bits = programBits (k .before .size .given .0 .0) (s .args .plain .now) in
     let n = bits-length w in
-    answered-writes (plainProgramUnder (s .args .table .now) (s .args .plain .now)) (programUnder (s .args .table .now)) (packProgram (s .args .table .now) (s .args .plain .now) (length (s .args .answer .now))) (s .args .answer .now) (pack bits) (v .write-program .last .1 .1 .0) _
+    undone-too (packProgram (s .args .table .now)) (unpackProgram (s .args .table .now)) (program-unpacked (s .args .table .now)) (s .args .plain .now) (s .args .answer .now) _ _
+    (answered-writes (plainProgramUnder (s .args .table .now) (s .args .plain .now)) (programUnder (s .args .table .now)) (packProgram (s .args .table .now) (s .args .plain .now) (length (s .args .answer .now))) (s .args .answer .now) (pack bits) (v .write-program .last .1 .1 .0) _
     (image-of w ∙ long-area (length (s .args .answer .now)) (pack bits) (omega (arith, v .before .before .if1 .left, image-length w)))
     (image-length w)
     (image-written (s .args .answer .now) (v .write-program .last .1 .1 .0) bits (λ i. k .before .before .before .before .slice-known .given i .fits) (λ i. c .slice-known2 .given i .fits) (program-bits (k .before .size .given .0 .0) (s .args .plain .now))
@@ -156,7 +160,7 @@ returns-4 c =
     (subst (λ m. Appended (set (s .args .answer .now) (bytesFor m - 1) 0) 0 bits (v .write-program .last .1 .1 .0)) (sym n) (v .write-program .ensures)))
     (ap (programUnder (s .args .table .now)) (sym (program-image (k .before .size .given .0 .0) (s .args .plain .now)))
     ∙ program-back (s .args .table .now) (size-of k .table) _ (size-of k .read) (size-of k .size-is) (s .args .plain .now)
-    (λ i. k .before .before .before .before .before .shared-slice-known2 .given i .fits) (map letter (s .args .plain .now)) (plain-of (w .before) .read))
+    (λ i. k .before .before .before .before .before .shared-slice-known2 .given i .fits) (map letter (s .args .plain .now)) (plain-of (w .before) .read)))
 
 pub pack-spec : {M : Type 1} → statement M
 pack-spec =

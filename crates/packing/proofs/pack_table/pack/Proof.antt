@@ -11,14 +11,14 @@ use Rattle.model.specs.Enumeration.{concatMap}
 use Rattle.model.specs.Bits.{digits, bytesFor, pack}
 use Rattle.model.specs.Images.{weightWidth, pairBits, tableImage, readTable}
 use Rattle.model.specs.Plain.{readPlainTable}
-use Rattle.model.specs.Services.{packTable}
+use Rattle.model.specs.Services.{packTable, unpackTable}
 use Rattle.model.specs.Range.{AreBytes}
 use Rattle.bits.proofs.Packing.{length-packed}
 use Rattle.plain_forms.specs.Reading.{PlainTableDone, PlainTableOf}
 use Rattle.images.proofs.Appending.{bytes-first, zero-image, table-bits, table-image}
 use Rattle.images.proofs.Weights.{loaded-weights, loaded-table}
 use Rattle.packing.proofs.Packing.{refused-keeps, answered-writes, short-area, long-area, plain-refused, plain-read}
-use Rattle.packing.proofs.ReadBack.{table-back}
+use Rattle.packing.proofs.ReadBack.{undone-too, table-unpacked, table-back}
 use Rattle.packing.proofs.pack_table.pack.Statement.{statement}
 use Rattle.packing.proofs.pack_table.pack.Tie as tie
 
@@ -90,8 +90,9 @@ returns c =
     let v = c .before .before in
     let s = start (told v) in
     let t = table-of (told v) in
-    refused-keeps (readPlainTable (s .args .plain .now)) readTable (packTable (s .args .plain .now) (length (s .args .answer .now))) (s .args .answer .now) AnswerShort
-    (plain-read (s .args .plain .now) (length (s .args .answer .now)) (t .table) (t .read) ∙ short-area (length (s .args .answer .now)) (tableImage (t .table)) (omega (arith, c .if1 .taken, image-length v)))
+    undone-too packTable unpackTable table-unpacked (s .args .plain .now) (s .args .answer .now) _ _
+    (refused-keeps (readPlainTable (s .args .plain .now)) readTable (packTable (s .args .plain .now) (length (s .args .answer .now))) (s .args .answer .now) AnswerShort
+    (plain-read (s .args .plain .now) (length (s .args .answer .now)) (t .table) (t .read) ∙ short-area (length (s .args .answer .now)) (tableImage (t .table)) (omega (arith, c .if1 .taken, image-length v))))
 
 slice-aggregate-copy-bytes : tie.Need-slice-aggregate-copy-bytes
 slice-aggregate-copy-bytes c = search needs
@@ -103,8 +104,9 @@ returns-2 : tie.Need-returns-2
 returns-2 c =
     let s = c .before .before .before .before .before .before .before .before in
     let r = c .before .before .before .before in
-    refused-keeps (readPlainTable (s .args .plain .now)) readTable (packTable (s .args .plain .now) (length (s .args .answer .now))) (s .args .answer .now) (c .before .refusal .given .0 .0)
-    (plain-refused (s .args .plain .now) (length (s .args .answer .now)) (c .before .refusal .given .0 .0) (subst (PlainTableDone (s .args .plain .now) (r .read-plain-table .last .1 .0)) (c .before .refusal .given .1) (r .read-plain-table .ensures .1)))
+    undone-too packTable unpackTable table-unpacked (s .args .plain .now) (s .args .answer .now) _ _
+    (refused-keeps (readPlainTable (s .args .plain .now)) readTable (packTable (s .args .plain .now) (length (s .args .answer .now))) (s .args .answer .now) (c .before .refusal .given .0 .0)
+    (plain-refused (s .args .plain .now) (length (s .args .answer .now)) (c .before .refusal .given .0 .0) (subst (PlainTableDone (s .args .plain .now) (r .read-plain-table .last .1 .0)) (c .before .refusal .given .1) (r .read-plain-table .ensures .1))))
 
 same-length : tie.Need-same-length
 same-length c = search needs
@@ -119,13 +121,14 @@ returns-3 c =
     let copied = u .copy-bytes .ensures .1 in
     let bs : AreBytes (take (bytesFor (v .pack-cells .result)) (v .pack-cells .last .1 .1 .0)) =
     bytes-first (take (bytesFor (v .pack-cells .result)) (v .pack-cells .last .1 .1 .0)) (drop (bytesFor (v .pack-cells .result)) (s .args .answer .now)) (subst AreBytes copied (λ i. c .slice-known2 .given i .fits)) in
-    answered-writes (readPlainTable (s .args .plain .now)) readTable (packTable (s .args .plain .now) (length (s .args .answer .now))) (s .args .answer .now) (tableImage (t .table)) (u .copy-bytes .last .1 .1 .0) _
+    undone-too packTable unpackTable table-unpacked (s .args .plain .now) (s .args .answer .now) _ _
+    (answered-writes (readPlainTable (s .args .plain .now)) readTable (packTable (s .args .plain .now) (length (s .args .answer .now))) (s .args .answer .now) (tableImage (t .table)) (u .copy-bytes .last .1 .1 .0) _
     (plain-read (s .args .plain .now) (length (s .args .answer .now)) (t .table) (t .read) ∙ long-area (length (s .args .answer .now)) (tableImage (t .table)) (omega (arith, e .if1 .left, image-length v)))
     (image-length v)
     (copied
     ∙ (ap (λ l. l ++ drop (bytesFor (v .pack-cells .result)) (s .args .answer .now)) (image-taken v bs)
     ∙ ap (λ n. tableImage (t .table) ++ drop n (s .args .answer .now)) (sym (image-length v))))
-    (table-back (s .args .plain .now) (t .table) (t .read))
+    (table-back (s .args .plain .now) (t .table) (t .read)))
 
 pub pack-spec : {M : Type 1} → statement M
 pack-spec =

@@ -7,11 +7,11 @@ use lib.ListN.{length, drop, length-map}
 use Rattle.model.specs.declared.answers.Refusal.the-variants.{AnswerShort}
 use Rattle.model.specs.Word.{byte}
 use Rattle.model.specs.Plain.{plainProgram}
-use Rattle.model.specs.Services.{unpackProgram, programUnder, plainProgramUnder}
+use Rattle.model.specs.Services.{unpackProgram, programUnder, plainProgramUnder, packProgram}
 use Rattle.images.specs.Tables.{SizeDone, SizeOf}
 use Rattle.images.specs.Programs.{ProgramDone, ProgramOf}
 use Rattle.packing.proofs.Packing.{refused-keeps, answered-writes, short-area, long-area, unpack-table-refused, unpack-program-refused, unpack-read}
-use Rattle.packing.proofs.ReadBack.{plain-program-back}
+use Rattle.packing.proofs.ReadBack.{undone-too, program-packed, plain-program-back}
 use borrow.Author.Needs.{needs}
 use Rattle.packing.proofs.unpack_program.unpack.Statement.{statement}
 use Rattle.packing.proofs.unpack_program.unpack.Tie as tie
@@ -54,9 +54,10 @@ returns c =
     let k = m .before .before .before .before in
     let s = start k in
     let w = program-of m .word in
-    refused-keeps (programUnder (s .args .table .now) (s .args .program .now)) (plainProgramUnder (s .args .table .now)) (unpackProgram (s .args .table .now) (s .args .program .now) (length (s .args .answer .now))) (s .args .answer .now) AnswerShort
+    undone-too (unpackProgram (s .args .table .now)) (packProgram (s .args .table .now)) (program-packed (s .args .table .now)) (s .args .program .now) (s .args .answer .now) _ _
+    (refused-keeps (programUnder (s .args .table .now) (s .args .program .now)) (plainProgramUnder (s .args .table .now)) (unpackProgram (s .args .table .now) (s .args .program .now) (length (s .args .answer .now))) (s .args .answer .now) AnswerShort
     (unpack-read (s .args .table .now) (s .args .program .now) (length (s .args .answer .now)) (size-of k .table) _ (size-of k .read) (size-of k .size-is) w (program-of m .read)
-    ∙ short-area (length (s .args .answer .now)) (plainProgram w) (omega (arith, c .if1 .taken, program-of m .count-is, length-map w byte)))
+    ∙ short-area (length (s .args .answer .now)) (plainProgram w) (omega (arith, c .if1 .taken, program-of m .count-is, length-map w byte))))
 
 unpack-letters-requires : tie.Need-unpack-letters-requires
 unpack-letters-requires c κs =
@@ -67,16 +68,18 @@ unpack-letters-requires c κs =
 returns-2 : tie.Need-returns-2
 returns-2 c =
     let s = c .before .before .before .before .before .before .before in
-    refused-keeps (programUnder (s .args .table .now) (s .args .program .now)) (plainProgramUnder (s .args .table .now)) (unpackProgram (s .args .table .now) (s .args .program .now) (length (s .args .answer .now))) (s .args .answer .now) (c .before .refusal .given .0 .0)
-    (unpack-table-refused (s .args .table .now) (s .args .program .now) (length (s .args .answer .now)) (c .before .refusal .given .0 .0) (subst (SizeDone (s .args .table .now)) (c .before .refusal .given .1) (c .before .before .before .table-size .ensures)))
+    undone-too (unpackProgram (s .args .table .now)) (packProgram (s .args .table .now)) (program-packed (s .args .table .now)) (s .args .program .now) (s .args .answer .now) _ _
+    (refused-keeps (programUnder (s .args .table .now) (s .args .program .now)) (plainProgramUnder (s .args .table .now)) (unpackProgram (s .args .table .now) (s .args .program .now) (length (s .args .answer .now))) (s .args .answer .now) (c .before .refusal .given .0 .0)
+    (unpack-table-refused (s .args .table .now) (s .args .program .now) (length (s .args .answer .now)) (c .before .refusal .given .0 .0) (subst (SizeDone (s .args .table .now)) (c .before .refusal .given .1) (c .before .before .before .table-size .ensures))))
 
 returns-3 : tie.Need-returns-3
 returns-3 c =
     let k = c .before .before .before .before in
     let s = start k in
-    refused-keeps (programUnder (s .args .table .now) (s .args .program .now)) (plainProgramUnder (s .args .table .now)) (unpackProgram (s .args .table .now) (s .args .program .now) (length (s .args .answer .now))) (s .args .answer .now) (c .before .refusal2 .given .0 .0)
+    undone-too (unpackProgram (s .args .table .now)) (packProgram (s .args .table .now)) (program-packed (s .args .table .now)) (s .args .program .now) (s .args .answer .now) _ _
+    (refused-keeps (programUnder (s .args .table .now) (s .args .program .now)) (plainProgramUnder (s .args .table .now)) (unpackProgram (s .args .table .now) (s .args .program .now) (length (s .args .answer .now))) (s .args .answer .now) (c .before .refusal2 .given .0 .0)
     (unpack-program-refused (s .args .table .now) (s .args .program .now) (length (s .args .answer .now)) (size-of k .table) _ (size-of k .read) (size-of k .size-is) (c .before .refusal2 .given .0 .0)
-    (subst (ProgramDone (s .args .program .now) (k .before .size .given .0 .0)) (c .before .refusal2 .given .1) (c .before .before .before .read-program .ensures)))
+    (subst (ProgramDone (s .args .program .now) (k .before .size .given .0 .0)) (c .before .refusal2 .given .1) (c .before .before .before .read-program .ensures))))
 
 same-length : tie.Need-same-length
 same-length c = search needs
@@ -88,12 +91,13 @@ returns-4 c =
     let k = m .before .before .before .before in
     let s = start k in
     let w = program-of m .word in
-    answered-writes (programUnder (s .args .table .now) (s .args .program .now)) (plainProgramUnder (s .args .table .now)) (unpackProgram (s .args .table .now) (s .args .program .now) (length (s .args .answer .now))) (s .args .answer .now) (plainProgram w) (u .unpack-letters .last .1 .1 .1 .0) _
+    undone-too (unpackProgram (s .args .table .now)) (packProgram (s .args .table .now)) (program-packed (s .args .table .now)) (s .args .program .now) (s .args .answer .now) _ _
+    (answered-writes (programUnder (s .args .table .now) (s .args .program .now)) (plainProgramUnder (s .args .table .now)) (unpackProgram (s .args .table .now) (s .args .program .now) (length (s .args .answer .now))) (s .args .answer .now) (plainProgram w) (u .unpack-letters .last .1 .1 .1 .0) _
     (unpack-read (s .args .table .now) (s .args .program .now) (length (s .args .answer .now)) (size-of k .table) _ (size-of k .read) (size-of k .size-is) w (program-of m .read)
     ∙ long-area (length (s .args .answer .now)) (plainProgram w) (omega (arith, u .before .before .if1 .left, program-of m .count-is, length-map w byte)))
     (length-map w byte ∙ program-of m .count-is)
     (u .unpack-letters .ensures .1 w (program-of m .read) ∙ ap (λ n. plainProgram w ++ drop n (s .args .answer .now)) {x = 0 + length (plainProgram w)} {y = length (plainProgram w)} (omega arith))
-    (plain-program-back (s .args .table .now) (size-of k .table) _ (size-of k .read) (size-of k .size-is) (s .args .program .now) w (program-of m .read))
+    (plain-program-back (s .args .table .now) (size-of k .table) _ (size-of k .read) (size-of k .size-is) (s .args .program .now) w (program-of m .read)))
 
 pub unpack-spec : {M : Type 1} → statement M
 unpack-spec =

@@ -8,10 +8,10 @@ use Rattle.model.specs.declared.answers.Refusal.the-variants.{AnswerShort}
 use Rattle.model.specs.Enumeration.{concatMap}
 use Rattle.model.specs.Images.{readTable}
 use Rattle.model.specs.Plain.{plainPair, plainTable, readPlainTable}
-use Rattle.model.specs.Services.{unpackTable}
+use Rattle.model.specs.Services.{unpackTable, packTable}
 use Rattle.images.specs.Tables.{TableDone, TableOf}
 use Rattle.packing.proofs.Packing.{refused-keeps, answered-writes, short-area, long-area, table-refused, table-read, plain-bytes, taken-first}
-use Rattle.packing.proofs.ReadBack.{plain-table-back}
+use Rattle.packing.proofs.ReadBack.{undone-too, table-packed, plain-table-back}
 use Rattle.cells.proofs.Rules.{blank-zeros}
 use Rattle.images.proofs.Weights.{loaded-weights, loaded-table}
 use borrow.Author.Needs.{needs}
@@ -70,8 +70,9 @@ returns c =
     let k = v .before .before .before in
     let s = start k in
     let t = table-of k in
-    refused-keeps (readTable (s .args .table .now)) readPlainTable (unpackTable (s .args .table .now) (length (s .args .answer .now))) (s .args .answer .now) AnswerShort
-    (table-read (s .args .table .now) (length (s .args .answer .now)) (t .table) (t .read) ∙ short-area (length (s .args .answer .now)) (plainTable (t .table)) (omega (arith, c .if1 .taken, bytes-length v)))
+    undone-too unpackTable packTable table-packed (s .args .table .now) (s .args .answer .now) _ _
+    (refused-keeps (readTable (s .args .table .now)) readPlainTable (unpackTable (s .args .table .now) (length (s .args .answer .now))) (s .args .answer .now) AnswerShort
+    (table-read (s .args .table .now) (length (s .args .answer .now)) (t .table) (t .read) ∙ short-area (length (s .args .answer .now)) (plainTable (t .table)) (omega (arith, c .if1 .taken, bytes-length v))))
 
 slice-aggregate-copy-bytes : tie.Need-slice-aggregate-copy-bytes
 slice-aggregate-copy-bytes c = search needs
@@ -83,8 +84,9 @@ returns-2 : tie.Need-returns-2
 returns-2 c =
     let s = c .before .before .before .before .before .before .before .before in
     let r = c .before .before .before .before in
-    refused-keeps (readTable (s .args .table .now)) readPlainTable (unpackTable (s .args .table .now) (length (s .args .answer .now))) (s .args .answer .now) (c .before .refusal .given .0 .0)
-    (table-refused (s .args .table .now) (length (s .args .answer .now)) (c .before .refusal .given .0 .0) (subst (TableDone (s .args .table .now) (r .read-table .last .1 .0)) (c .before .refusal .given .1) (r .read-table .ensures .1)))
+    undone-too unpackTable packTable table-packed (s .args .table .now) (s .args .answer .now) _ _
+    (refused-keeps (readTable (s .args .table .now)) readPlainTable (unpackTable (s .args .table .now) (length (s .args .answer .now))) (s .args .answer .now) (c .before .refusal .given .0 .0)
+    (table-refused (s .args .table .now) (length (s .args .answer .now)) (c .before .refusal .given .0 .0) (subst (TableDone (s .args .table .now) (r .read-table .last .1 .0)) (c .before .refusal .given .1) (r .read-table .ensures .1))))
 
 same-length : tie.Need-same-length
 same-length c = search needs
@@ -97,13 +99,14 @@ returns-3 c =
     let k = v .before .before .before in
     let s = start k in
     let t = table-of k in
-    answered-writes (readTable (s .args .table .now)) readPlainTable (unpackTable (s .args .table .now) (length (s .args .answer .now))) (s .args .answer .now) (plainTable (t .table)) (u .copy-bytes .last .1 .1 .0) _
+    undone-too unpackTable packTable table-packed (s .args .table .now) (s .args .answer .now) _ _
+    (answered-writes (readTable (s .args .table .now)) readPlainTable (unpackTable (s .args .table .now) (length (s .args .answer .now))) (s .args .answer .now) (plainTable (t .table)) (u .copy-bytes .last .1 .1 .0) _
     (table-read (s .args .table .now) (length (s .args .answer .now)) (t .table) (t .read) ∙ long-area (length (s .args .answer .now)) (plainTable (t .table)) (omega (arith, e .if1 .left, bytes-length v)))
     (bytes-length v)
     (u .copy-bytes .ensures .1
     ∙ (ap (λ l. l ++ drop (v .write-plain-table .result) (s .args .answer .now)) (bytes-taken v)
     ∙ ap (λ n. plainTable (t .table) ++ drop n (s .args .answer .now)) (sym (bytes-length v))))
-    (plain-table-back (s .args .table .now) (t .table) (t .read))
+    (plain-table-back (s .args .table .now) (t .table) (t .read)))
 
 pub unpack-spec : {M : Type 1} → statement M
 unpack-spec =

@@ -6,8 +6,8 @@ use native.Mathlib.Omega.{arith}
 use borrow.Author.Needs.{needs}
 use lib.ListN.{length, take, drop}
 use Rattle.ways.specs.Swap.{newWord, OrderMeans}
-use Rattle.ways.specs.Area.{Marked, Spells, Between}
-use Rattle.ways.proofs.Spelling.{between-all, between-none, step-ends, step-inside, step-same, step-earlier, step-later}
+use Rattle.ways.specs.Area.{Marked, Spells}
+use Rattle.ways.proofs.Spelling.{Between, between-all, between-none, step-ends, step-inside, step-same, step-earlier, step-later}
 use Rattle.ways.proofs.search.find_place.Statement.{statement}
 use Rattle.ways.proofs.search.find_place.Tie as tie
 
