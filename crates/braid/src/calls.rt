@@ -4,7 +4,7 @@ ghost use mathlib.Core.Path.{_≡_};
 ghost use Rattle.model.specs.Outcome.{mapped, answered};
 ghost use Rattle.model.specs.Images.{readTable};
 ghost use Rattle.model.specs.Plain.{plainProgram, readPlainTable};
-ghost use Rattle.model.specs.Services.{sizes, reverse, enquire, commit, leftReverse, clear, mirrorClear, compare, chain, remainder, check, packTable, unpackTable, packProgram, unpackProgram, listable, verdictIn, programUnder, plainProgramUnder};
+ghost use Rattle.model.specs.Services.{sizes, reverse, enquire, commit, leftReverse, clear, mirrorClear, compare, chain, remainder, check, packTable, unpackTable, packProgram, unpackProgram, programUnder, plainProgramUnder};
 ghost use Rattle.model.specs.Bed.{bed};
 ghost use Rattle.model.specs.Ways.{ways, waysArea};
 ghost use Rattle.model.specs.Notation.{import};
@@ -14,6 +14,7 @@ ghost use Rattle.model.specs.Areas.{outputAfter, workspaceAfter, fractionBytes,
 ghost use Rattle.model.specs.Stated.{counted, counts};
 ghost use Rattle.clearing.specs.Clear.{ClearMeaning};
 ghost use Rattle.reversal.specs.Reverse.{ReverseMeaning};
+ghost use Rattle.enquiring.specs.Enquire.{EnquireMeaning};
 ghost use Rattle.committing.specs.Commit.{CommitMeaning};
 ghost use Rattle.left_reversal.specs.LeftReverse.{LeftMeaning};
 ghost use Rattle.mirror_clearing.specs.MirrorClear.{MirrorClearMeaning};
@@ -23,11 +24,13 @@ ghost use Rattle.remainders.specs.Remainder.{RemainderMeaning};
 ghost use Rattle.checking.specs.Check.{CheckMeaning};
 ghost use Rattle.bed.specs.Meaning.{BedSays};
 ghost use Rattle.ways.specs.Service.{WaysSay};
+ghost use Rattle.packing.specs.RoundTrips.{Undone};
 ghost use Rattle.importing.specs.Import.{ImportSays};
 ghost use Rattle.signed_comparing.specs.Service.{SignedSays};
 ghost use Rattle.trays.specs.Meaning.{TraySays};
 ghost use Rattle.braid.specs.Told.{told, sizesTold, passedTold, verdictTold, signedTold, chainTold, remainderTold, passageTold, bytesTold, countsTold, logsTold};
 ghost use Rattle.braid.specs.Values.{Tells};
+ghost use Rattle.braid.specs.Meant.{Meant, ChainSays};
 use crate::numbers::Numbers;
 use crate::numbers::of_chained;
 use crate::numbers::of_checked;
@@ -80,7 +83,7 @@ pub extern "C" fn braid_reverse(
     ensures told { λ r. ⌜ Tells (told sizesTold (mapped sizes (reverse (now (table .entry)) (now (program .entry)) allowance (length (now (workspace .entry))) (length (now (answer .entry)))))) r (now (values .exit)) ⌝ }
     ensures answer { λ r. ⌜ now (answer .exit) ≡ outputAfter fractionBytes (reverse (now (table .entry)) (now (program .entry)) allowance (length (now (workspace .entry))) (length (now (answer .entry)))) (now (answer .entry)) ⌝ }
     ensures workspace { λ r. ⌜ now (workspace .exit) ≡ workspaceAfter (reverse (now (table .entry)) (now (program .entry)) allowance (length (now (workspace .entry))) (length (now (answer .entry)))) (now (workspace .entry)) ⌝ }
-    ensures meaning { λ r. ⌜ ReverseMeaning (now (table .entry)) (now (program .entry)) (mapped sizes (reverse (now (table .entry)) (now (program .entry)) allowance (length (now (workspace .entry))) (length (now (answer .entry))))) (now (answer .exit)) ⌝ }
+    ensures meaning { λ r. ⌜ Meant sizesTold (λ o. ReverseMeaning (now (table .entry)) (now (program .entry)) o (now (answer .exit))) r (now (values .exit)) ⌝ }
 {
     let reversed = reverse(table, program, allowance, workspace, answer);
     tell(of_reversed(reversed), values)
@@ -96,6 +99,7 @@ pub extern "C" fn braid_enquire(
 ) -> u8
     ensures told { λ r. ⌜ Tells (told sizesTold (enquire (now (table .entry)) (now (program .entry)) allowance (length (now (workspace .entry))))) r (now (values .exit)) ⌝ }
     ensures workspace { λ r. ⌜ now (workspace .exit) ≡ workspaceAfter (enquire (now (table .entry)) (now (program .entry)) allowance (length (now (workspace .entry)))) (now (workspace .entry)) ⌝ }
+    ensures meaning { λ r. ⌜ Meant sizesTold (EnquireMeaning (now (table .entry)) (now (program .entry)) allowance (length (now (workspace .entry)))) r (now (values .exit)) ⌝ }
 {
     let reversed = enquire(table, program, allowance, workspace);
     tell(of_reversed(reversed), values)
@@ -116,7 +120,7 @@ pub extern "C" fn braid_commit(
     ensures told { λ r. ⌜ Tells (told sizesTold (mapped sizes (commit (now (table .entry)) (now (program .entry)) allowance (length (now (workspace .entry))) (record { numerator = numerator; denominator = denominator; steps = steps }) (length (now (answer .entry)))))) r (now (values .exit)) ⌝ }
     ensures answer { λ r. ⌜ now (answer .exit) ≡ outputAfter fractionBytes (commit (now (table .entry)) (now (program .entry)) allowance (length (now (workspace .entry))) (record { numerator = numerator; denominator = denominator; steps = steps }) (length (now (answer .entry)))) (now (answer .entry)) ⌝ }
     ensures workspace { λ r. ⌜ now (workspace .exit) ≡ workspaceAfter (commit (now (table .entry)) (now (program .entry)) allowance (length (now (workspace .entry))) (record { numerator = numerator; denominator = denominator; steps = steps }) (length (now (answer .entry)))) (now (workspace .entry)) ⌝ }
-    ensures meaning { λ r. ⌜ CommitMeaning (now (table .entry)) (now (program .entry)) allowance (length (now (workspace .entry))) (record { numerator = numerator; denominator = denominator; steps = steps }) (now (answer .entry)) (now (answer .exit)) (mapped sizes (commit (now (table .entry)) (now (program .entry)) allowance (length (now (workspace .entry))) (record { numerator = numerator; denominator = denominator; steps = steps }) (length (now (answer .entry))))) ⌝ }
+    ensures meaning { λ r. ⌜ Meant sizesTold (CommitMeaning (now (table .entry)) (now (program .entry)) allowance (length (now (workspace .entry))) (record { numerator = numerator; denominator = denominator; steps = steps }) (now (answer .entry)) (now (answer .exit))) r (now (values .exit)) ⌝ }
 {
     let numbers = Handed {
         numerator,
@@ -139,7 +143,7 @@ pub extern "C" fn braid_left_reverse(
     ensures told { λ r. ⌜ Tells (told sizesTold (mapped sizes (leftReverse (now (table .entry)) (now (program .entry)) allowance (length (now (workspace .entry))) (length (now (answer .entry)))))) r (now (values .exit)) ⌝ }
     ensures answer { λ r. ⌜ now (answer .exit) ≡ outputAfter fractionBytes (leftReverse (now (table .entry)) (now (program .entry)) allowance (length (now (workspace .entry))) (length (now (answer .entry)))) (now (answer .entry)) ⌝ }
     ensures workspace { λ r. ⌜ now (workspace .exit) ≡ workspaceAfter (leftReverse (now (table .entry)) (now (program .entry)) allowance (length (now (workspace .entry))) (length (now (answer .entry)))) (now (workspace .entry)) ⌝ }
-    ensures meaning { λ r. ⌜ LeftMeaning (now (table .entry)) (now (program .entry)) allowance (length (now (workspace .entry))) (now (answer .entry)) (now (answer .exit)) (mapped sizes (leftReverse (now (table .entry)) (now (program .entry)) allowance (length (now (workspace .entry))) (length (now (answer .entry))))) ⌝ }
+    ensures meaning { λ r. ⌜ Meant sizesTold (LeftMeaning (now (table .entry)) (now (program .entry)) allowance (length (now (workspace .entry))) (now (answer .entry)) (now (answer .exit))) r (now (values .exit)) ⌝ }
 {
     let reversed = left_reverse(table, program, allowance, workspace, answer);
     tell(of_reversed(reversed), values)
@@ -154,7 +158,7 @@ pub extern "C" fn braid_clear(
 ) -> u8
     ensures told { λ r. ⌜ Tells (told passedTold (clear (now (table .entry)) allowance (length (now (workspace .entry))))) r (now (values .exit)) ⌝ }
     ensures workspace { λ r. ⌜ now (workspace .exit) ≡ workspaceAfter (clear (now (table .entry)) allowance (length (now (workspace .entry)))) (now (workspace .entry)) ⌝ }
-    ensures meaning { λ r. ⌜ ClearMeaning (now (table .entry)) (clear (now (table .entry)) allowance (length (now (workspace .entry)))) ⌝ }
+    ensures meaning { λ r. ⌜ Meant passedTold (ClearMeaning (now (table .entry))) r (now (values .exit)) ⌝ }
 {
     let cleared = clear(table, allowance, workspace);
     tell(of_cleared(cleared), values)
@@ -169,7 +173,7 @@ pub extern "C" fn braid_mirror_clear(
 ) -> u8
     ensures told { λ r. ⌜ Tells (told passedTold (mirrorClear (now (table .entry)) allowance (length (now (workspace .entry))))) r (now (values .exit)) ⌝ }
     ensures workspace { λ r. ⌜ now (workspace .exit) ≡ workspaceAfter (mirrorClear (now (table .entry)) allowance (length (now (workspace .entry)))) (now (workspace .entry)) ⌝ }
-    ensures meaning { λ r. ⌜ MirrorClearMeaning (now (table .entry)) allowance (length (now (workspace .entry))) (mirrorClear (now (table .entry)) allowance (length (now (workspace .entry)))) ⌝ }
+    ensures meaning { λ r. ⌜ Meant passedTold (MirrorClearMeaning (now (table .entry)) allowance (length (now (workspace .entry)))) r (now (values .exit)) ⌝ }
 {
     let cleared = mirror_clear(table, allowance, workspace);
     tell(of_cleared(cleared), values)
@@ -186,7 +190,7 @@ pub extern "C" fn braid_compare(
 ) -> u8
     ensures told { λ r. ⌜ Tells (told verdictTold (compare (now (table .entry)) (now (first .entry)) (now (second .entry)) allowance (length (now (workspace .entry))))) r (now (values .exit)) ⌝ }
     ensures workspace { λ r. ⌜ now (workspace .exit) ≡ workspaceAfter (compare (now (table .entry)) (now (first .entry)) (now (second .entry)) allowance (length (now (workspace .entry)))) (now (workspace .entry)) ⌝ }
-    ensures meaning { λ r. ⌜ Meaning (now (table .entry)) (now (first .entry)) (now (second .entry)) allowance (length (now (workspace .entry))) (λ T v. answered v) (compare (now (table .entry)) (now (first .entry)) (now (second .entry)) allowance (length (now (workspace .entry)))) ⌝ }
+    ensures meaning { λ r. ⌜ Meant verdictTold (Meaning (now (table .entry)) (now (first .entry)) (now (second .entry)) allowance (length (now (workspace .entry))) (λ T v. answered v)) r (now (values .exit)) ⌝ }
 {
     let compared = compare(table, first, second, allowance, workspace);
     tell(of_compared(compared), values)
@@ -203,7 +207,7 @@ pub extern "C" fn braid_compare_signed(
 ) -> u8
     ensures told { λ r. ⌜ Tells (told signedTold (compareSigned (now (table .entry)) (now (first .entry)) (now (second .entry)) allowance (length (now (workspace .entry))))) r (now (values .exit)) ⌝ }
     ensures workspace { λ r. ⌜ now (workspace .exit) ≡ workspaceAfter (compareSigned (now (table .entry)) (now (first .entry)) (now (second .entry)) allowance (length (now (workspace .entry)))) (now (workspace .entry)) ⌝ }
-    ensures meaning { λ r. ⌜ SignedSays (now (table .entry)) (now (first .entry)) (now (second .entry)) allowance (length (now (workspace .entry))) (compareSigned (now (table .entry)) (now (first .entry)) (now (second .entry)) allowance (length (now (workspace .entry)))) ⌝ }
+    ensures meaning { λ r. ⌜ Meant signedTold (SignedSays (now (table .entry)) (now (first .entry)) (now (second .entry)) allowance (length (now (workspace .entry)))) r (now (values .exit)) ⌝ }
 {
     let compared = compare_signed(table, first, second, allowance, workspace);
     tell(of_compared_signed(compared), values)
@@ -223,7 +227,7 @@ pub extern "C" fn braid_chain(
     ensures workspace { λ r. ⌜ now (workspace .exit) ≡ workspaceAfter (chain (now (table .entry)) (now (first .entry)) (now (second .entry)) allowance (length (now (workspace .entry))) (length (now (answer .entry)))) (now (workspace .entry)) ⌝ }
     ensures area { λ r. ⌜ ChainArea (now (table .entry)) (now (first .entry)) (now (second .entry)) (now (answer .entry)) (now (answer .exit)) (chain (now (table .entry)) (now (first .entry)) (now (second .entry)) allowance (length (now (workspace .entry))) (length (now (answer .entry)))) ⌝ }
     ensures checks { λ r. ⌜ ListedChecks (now (table .entry)) (now (first .entry)) (now (second .entry)) (now (answer .entry)) (now (answer .exit)) (chain (now (table .entry)) (now (first .entry)) (now (second .entry)) allowance (length (now (workspace .entry))) (length (now (answer .entry)))) ⌝ }
-    ensures meaning { λ r. ⌜ Meaning (now (table .entry)) (now (first .entry)) (now (second .entry)) allowance (length (now (workspace .entry))) (λ T v. listable (T .size) (length (now (answer .entry))) v) (mapped verdictIn (chain (now (table .entry)) (now (first .entry)) (now (second .entry)) allowance (length (now (workspace .entry))) (length (now (answer .entry))))) ⌝ }
+    ensures meaning { λ r. ⌜ Meant chainTold (ChainSays (now (table .entry)) (now (first .entry)) (now (second .entry)) allowance (length (now (workspace .entry))) (now (answer .entry)) (now (answer .exit))) r (now (values .exit)) ⌝ }
 {
     let chained = chain(table, first, second, allowance, workspace, answer);
     tell(of_chained(chained), values)
@@ -242,7 +246,7 @@ pub extern "C" fn braid_remainder(
     ensures told { λ r. ⌜ Tells (told remainderTold (mapped counted (remainder (now (table .entry)) (now (done .entry)) (now (pattern .entry)) allowance (length (now (workspace .entry))) (length (now (answer .entry)))))) r (now (values .exit)) ⌝ }
     ensures answer { λ r. ⌜ now (answer .exit) ≡ outputAfter remainderBytes (remainder (now (table .entry)) (now (done .entry)) (now (pattern .entry)) allowance (length (now (workspace .entry))) (length (now (answer .entry)))) (now (answer .entry)) ⌝ }
     ensures workspace { λ r. ⌜ now (workspace .exit) ≡ workspaceAfter (remainder (now (table .entry)) (now (done .entry)) (now (pattern .entry)) allowance (length (now (workspace .entry))) (length (now (answer .entry)))) (now (workspace .entry)) ⌝ }
-    ensures meaning { λ r. ⌜ RemainderMeaning (now (table .entry)) (now (done .entry)) (now (pattern .entry)) allowance (length (now (workspace .entry))) (length (now (answer .entry))) (mapped counted (remainder (now (table .entry)) (now (done .entry)) (now (pattern .entry)) allowance (length (now (workspace .entry))) (length (now (answer .entry))))) (now (answer .exit)) ⌝ }
+    ensures meaning { λ r. ⌜ Meant remainderTold (λ o. RemainderMeaning (now (table .entry)) (now (done .entry)) (now (pattern .entry)) allowance (length (now (workspace .entry))) (length (now (answer .entry))) o (now (answer .exit))) r (now (values .exit)) ⌝ }
 {
     let remaining = remainder(table, done, pattern, allowance, workspace, answer);
     tell(of_remaining(remaining), values)
@@ -259,7 +263,7 @@ pub extern "C" fn braid_check(
 ) -> u8
     ensures told { λ r. ⌜ Tells (told passageTold (check (now (table .entry)) (now (first .entry)) (now (second .entry)) (now (entries .entry)) (length (now (workspace .entry))))) r (now (values .exit)) ⌝ }
     ensures workspace { λ r. ⌜ now (workspace .exit) ≡ workspaceAfter (check (now (table .entry)) (now (first .entry)) (now (second .entry)) (now (entries .entry)) (length (now (workspace .entry)))) (now (workspace .entry)) ⌝ }
-    ensures meaning { λ r. ⌜ CheckMeaning (now (table .entry)) (now (first .entry)) (now (second .entry)) (now (entries .entry)) (length (now (workspace .entry))) (check (now (table .entry)) (now (first .entry)) (now (second .entry)) (now (entries .entry)) (length (now (workspace .entry)))) ⌝ }
+    ensures meaning { λ r. ⌜ Meant passageTold (CheckMeaning (now (table .entry)) (now (first .entry)) (now (second .entry)) (now (entries .entry)) (length (now (workspace .entry)))) r (now (values .exit)) ⌝ }
 {
     let checked = check(table, first, second, entries, workspace);
     tell(of_checked(checked), values)
@@ -269,7 +273,8 @@ pub extern "C" fn braid_check(
 pub extern "C" fn braid_pack_table(plain: &[u8], answer: &mut [u8], values: &mut [u64; 4]) -> u8
     ensures told { λ r. ⌜ Tells (told bytesTold (mapped length (packTable (now (plain .entry)) (length (now (answer .entry)))))) r (now (values .exit)) ⌝ }
     ensures answer { λ r. ⌜ now (answer .exit) ≡ outputAfter (λ b. b) (packTable (now (plain .entry)) (length (now (answer .entry)))) (now (answer .entry)) ⌝ }
-    ensures readable { λ r. ⌜ ReadsBack (readPlainTable (now (plain .entry))) readTable (mapped length (packTable (now (plain .entry)) (length (now (answer .entry))))) (now (answer .exit)) ⌝ }
+    ensures readable { λ r. ⌜ Meant bytesTold (λ o. ReadsBack (readPlainTable (now (plain .entry))) readTable o (now (answer .exit))) r (now (values .exit)) ⌝ }
+    ensures undone { λ r. ⌜ Meant bytesTold (λ o. Undone unpackTable (now (plain .entry)) o (now (answer .exit))) r (now (values .exit)) ⌝ }
 {
     let packed = pack_table::pack(plain, answer);
     tell(of_packed(packed), values)
@@ -279,7 +284,8 @@ pub extern "C" fn braid_pack_table(plain: &[u8], answer: &mut [u8], values: &mut
 pub extern "C" fn braid_unpack_table(table: &[u8], answer: &mut [u8], values: &mut [u64; 4]) -> u8
     ensures told { λ r. ⌜ Tells (told bytesTold (mapped length (unpackTable (now (table .entry)) (length (now (answer .entry)))))) r (now (values .exit)) ⌝ }
     ensures answer { λ r. ⌜ now (answer .exit) ≡ outputAfter (λ b. b) (unpackTable (now (table .entry)) (length (now (answer .entry)))) (now (answer .entry)) ⌝ }
-    ensures readable { λ r. ⌜ ReadsBack (readTable (now (table .entry))) readPlainTable (mapped length (unpackTable (now (table .entry)) (length (now (answer .entry))))) (now (answer .exit)) ⌝ }
+    ensures readable { λ r. ⌜ Meant bytesTold (λ o. ReadsBack (readTable (now (table .entry))) readPlainTable o (now (answer .exit))) r (now (values .exit)) ⌝ }
+    ensures undone { λ r. ⌜ Meant bytesTold (λ o. Undone packTable (now (table .entry)) o (now (answer .exit))) r (now (values .exit)) ⌝ }
 {
     let unpacked = unpack_table::unpack(table, answer);
     tell(of_packed(unpacked), values)
@@ -294,7 +300,8 @@ pub extern "C" fn braid_pack_program(
 ) -> u8
     ensures told { λ r. ⌜ Tells (told bytesTold (mapped length (packProgram (now (table .entry)) (now (plain .entry)) (length (now (answer .entry)))))) r (now (values .exit)) ⌝ }
     ensures answer { λ r. ⌜ now (answer .exit) ≡ outputAfter (λ b. b) (packProgram (now (table .entry)) (now (plain .entry)) (length (now (answer .entry)))) (now (answer .entry)) ⌝ }
-    ensures readable { λ r. ⌜ ReadsBack (plainProgramUnder (now (table .entry)) (now (plain .entry))) (programUnder (now (table .entry))) (mapped length (packProgram (now (table .entry)) (now (plain .entry)) (length (now (answer .entry))))) (now (answer .exit)) ⌝ }
+    ensures readable { λ r. ⌜ Meant bytesTold (λ o. ReadsBack (plainProgramUnder (now (table .entry)) (now (plain .entry))) (programUnder (now (table .entry))) o (now (answer .exit))) r (now (values .exit)) ⌝ }
+    ensures undone { λ r. ⌜ Meant bytesTold (λ o. Undone (unpackProgram (now (table .entry))) (now (plain .entry)) o (now (answer .exit))) r (now (values .exit)) ⌝ }
 {
     let packed = pack_program::pack(table, plain, answer);
     tell(of_packed(packed), values)
@@ -309,7 +316,8 @@ pub extern "C" fn braid_unpack_program(
 ) -> u8
     ensures told { λ r. ⌜ Tells (told bytesTold (mapped length (unpackProgram (now (table .entry)) (now (program .entry)) (length (now (answer .entry)))))) r (now (values .exit)) ⌝ }
     ensures answer { λ r. ⌜ now (answer .exit) ≡ outputAfter (λ b. b) (unpackProgram (now (table .entry)) (now (program .entry)) (length (now (answer .entry)))) (now (answer .entry)) ⌝ }
-    ensures readable { λ r. ⌜ ReadsBack (programUnder (now (table .entry)) (now (program .entry))) (plainProgramUnder (now (table .entry))) (mapped length (unpackProgram (now (table .entry)) (now (program .entry)) (length (now (answer .entry))))) (now (answer .exit)) ⌝ }
+    ensures readable { λ r. ⌜ Meant bytesTold (λ o. ReadsBack (programUnder (now (table .entry)) (now (program .entry))) (plainProgramUnder (now (table .entry))) o (now (answer .exit))) r (now (values .exit)) ⌝ }
+    ensures undone { λ r. ⌜ Meant bytesTold (λ o. Undone (packProgram (now (table .entry))) (now (program .entry)) o (now (answer .exit))) r (now (values .exit)) ⌝ }
 {
     let unpacked = unpack_program::unpack(table, program, answer);
     tell(of_packed(unpacked), values)
@@ -325,7 +333,7 @@ pub extern "C" fn braid_bed(
 ) -> u8
     ensures told { λ r. ⌜ Tells (told bytesTold (mapped length (bed (now (table .entry)) (now (program .entry)) moves (length (now (answer .entry)))))) r (now (values .exit)) ⌝ }
     ensures answer { λ r. ⌜ now (answer .exit) ≡ outputAfter (λ b. b) (bed (now (table .entry)) (now (program .entry)) moves (length (now (answer .entry)))) (now (answer .entry)) ⌝ }
-    ensures meaning { λ r. ⌜ BedSays (now (table .entry)) (now (program .entry)) moves (mapped length (bed (now (table .entry)) (now (program .entry)) moves (length (now (answer .entry))))) (now (answer .exit)) ⌝ }
+    ensures meaning { λ r. ⌜ Meant bytesTold (λ o. BedSays (now (table .entry)) (now (program .entry)) moves o (now (answer .exit))) r (now (values .exit)) ⌝ }
 {
     let shown = bed(table, program, moves, answer);
     tell(of_packed(shown), values)
@@ -340,7 +348,7 @@ pub extern "C" fn braid_ways(
 ) -> u8
     ensures told { λ r. ⌜ Tells (told countsTold (mapped counts (ways (now (table .entry)) (now (program .entry)) (length (now (answer .entry)))))) r (now (values .exit)) ⌝ }
     ensures answer { λ r. ⌜ now (answer .exit) ≡ waysArea (ways (now (table .entry)) (now (program .entry)) (length (now (answer .entry)))) (now (answer .entry)) ⌝ }
-    ensures meaning { λ r. ⌜ WaysSay (now (table .entry)) (now (program .entry)) (mapped counts (ways (now (table .entry)) (now (program .entry)) (length (now (answer .entry))))) (now (answer .exit)) ⌝ }
+    ensures meaning { λ r. ⌜ Meant countsTold (λ o. WaysSay (now (table .entry)) (now (program .entry)) o (now (answer .exit))) r (now (values .exit)) ⌝ }
 {
     let listed = ways(table, program, answer);
     tell(of_ways(listed), values)
@@ -355,7 +363,7 @@ pub extern "C" fn braid_import(
 ) -> u8
     ensures told { λ r. ⌜ Tells (told bytesTold (mapped length (import (now (table .entry)) (now (text .entry)) (length (now (answer .entry)))))) r (now (values .exit)) ⌝ }
     ensures answer { λ r. ⌜ now (answer .exit) ≡ outputAfter plainProgram (import (now (table .entry)) (now (text .entry)) (length (now (answer .entry)))) (now (answer .entry)) ⌝ }
-    ensures meaning { λ r. ⌜ ImportSays (now (text .entry)) (mapped length (import (now (table .entry)) (now (text .entry)) (length (now (answer .entry))))) (now (answer .exit)) ⌝ }
+    ensures meaning { λ r. ⌜ Meant bytesTold (λ o. ImportSays (now (table .entry)) (now (text .entry)) o (now (answer .exit))) r (now (values .exit)) ⌝ }
 {
     let imported = import(table, text, answer);
     tell(of_packed(imported), values)
@@ -374,7 +382,7 @@ pub extern "C" fn braid_tray(
     ensures told { λ r. ⌜ Tells (told logsTold (mapped length (tray (now (table .entry)) (now (logs .entry)) (now (pattern .entry)) allowance (length (now (workspace .entry))) (length (now (answer .entry)))))) r (now (values .exit)) ⌝ }
     ensures answer { λ r. ⌜ now (answer .exit) ≡ outputAfter trayBytes (tray (now (table .entry)) (now (logs .entry)) (now (pattern .entry)) allowance (length (now (workspace .entry))) (length (now (answer .entry)))) (now (answer .entry)) ⌝ }
     ensures workspace { λ r. ⌜ now (workspace .exit) ≡ workspaceAfter (tray (now (table .entry)) (now (logs .entry)) (now (pattern .entry)) allowance (length (now (workspace .entry))) (length (now (answer .entry)))) (now (workspace .entry)) ⌝ }
-    ensures meaning { λ r. ⌜ TraySays (now (table .entry)) (now (logs .entry)) (now (pattern .entry)) allowance (length (now (workspace .entry))) (mapped length (tray (now (table .entry)) (now (logs .entry)) (now (pattern .entry)) allowance (length (now (workspace .entry))) (length (now (answer .entry))))) (now (answer .exit)) ⌝ }
+    ensures meaning { λ r. ⌜ Meant logsTold (λ o. TraySays (now (table .entry)) (now (logs .entry)) (now (pattern .entry)) allowance (length (now (workspace .entry))) o (now (answer .exit))) r (now (values .exit)) ⌝ }
 {
     let compared = tray(table, logs, pattern, allowance, workspace, answer);
     tell(of_tray_compared(compared), values)

@@ -188,7 +188,7 @@ module _ (table first second : List ℕ) (steps width area : ℕ) where
   chain-means o e T u v c =
       subst (DemandThree T u v steps width (listable (T .size) area))
       (sym (ap (mapped verdictIn) (e ∙ chain-runs T u v c) ∙ verdict-back (T .size) (comparison T u v steps width >>= listable (T .size) area)))
-      (demand-three-told T u v steps width (listable (T .size) area) (shown (T .size)))
+      (demand-three-told T u v steps width (listable (T .size) area) (shown (T .size)) (λ k. refl))
 
   -- only a comparison that said `same` is told so
   same-told : (T : Presentation) (u v : Positive) → Compares table first second T u v → (k r bytes : ℕ)

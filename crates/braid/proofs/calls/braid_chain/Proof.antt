@@ -1,13 +1,10 @@
 -- `braid::calls::braid_chain` meets its contract.
-use mathlib.Core.Path.{ap, subst, _∙_}
-use lib.ListN.{length}
-use Rattle.model.specs.Outcome.{mapped}
-use Rattle.model.specs.Services.{listable, verdictIn}
+use mathlib.Core.Path.{subst}
 use Rattle.model.specs.Areas.{ChainArea}
-use Rattle.comparing.specs.Compare.{Meaning}
 use Rattle.chaining.specs.Chain.{ListedChecks}
-use Rattle.braid.specs.Told.{told, chainTold}
-use Rattle.braid.specs.Values.{Tells}
+use Rattle.model.specs.Stated.{chained}
+use Rattle.braid.specs.Told.{chainTold}
+use Rattle.braid.proofs.Telling.{tells-outcome, meant}
 use borrow.Author.Needs.{needs}
 use Rattle.braid.proofs.calls.braid_chain.Statement.{statement}
 use Rattle.braid.proofs.calls.braid_chain.Tie as tie
@@ -32,7 +29,7 @@ returns c =
     let s = c .before .before .before .before .before .before .before .before .before .before .before .before .before .before .before in
     let z = c .before .before .before .before .before .before .before .chain in
     let e = z .ensures .0 in
-    (subst (λ n. Tells n (c .tell .result) (c .tell .last .1 .0)) (c .before .before .of-chained .ensures ∙ ap (told chainTold) e) (c .tell .ensures), (z .ensures .1 .0, (subst (ChainArea (s .args .table .now) (s .args .first .now) (s .args .second .now) (s .args .answer .now) (z .last .1 .1 .1 .1 .1 .0)) e (z .ensures .1 .1 .0), (subst (ListedChecks (s .args .table .now) (s .args .first .now) (s .args .second .now) (s .args .answer .now) (z .last .1 .1 .1 .1 .1 .0)) e (z .ensures .1 .1 .1 .0), subst (λ o. Meaning (s .args .table .now) (s .args .first .now) (s .args .second .now) (s .args .allowance) (length (s .args .workspace .now)) (λ T v. listable (T .size) (length (s .args .answer .now)) v) (mapped verdictIn o)) e (z .ensures .1 .1 .1 .1)))))
+    (tells-outcome chainTold (chained (z .result)) (c .before .before .of-chained .ensures) (c .tell .ensures) e, (z .ensures .1 .0, (subst (ChainArea (s .args .table .now) (s .args .first .now) (s .args .second .now) (s .args .answer .now) (z .last .1 .1 .1 .1 .1 .0)) e (z .ensures .1 .1 .0), (subst (ListedChecks (s .args .table .now) (s .args .first .now) (s .args .second .now) (s .args .answer .now) (z .last .1 .1 .1 .1 .1 .0)) e (z .ensures .1 .1 .1 .0), meant chainTold (chained (z .result)) (c .before .before .of-chained .ensures) (c .tell .ensures) (record { area = z .ensures .1 .1 .0; checks = z .ensures .1 .1 .1 .0; verdict = z .ensures .1 .1 .1 .1 })))))
 
 pub braid-chain-spec : {M : Type 1} → statement M
 braid-chain-spec =

@@ -1,8 +1,7 @@
 -- `braid::calls::braid_clear` meets its contract.
-use mathlib.Core.Path.{ap, subst, _∙_}
-use Rattle.clearing.specs.Clear.{ClearMeaning}
-use Rattle.braid.specs.Told.{told, passedTold}
-use Rattle.braid.specs.Values.{Tells}
+use Rattle.model.specs.Stated.{clearedAs}
+use Rattle.braid.specs.Told.{passedTold}
+use Rattle.braid.proofs.Telling.{tells-outcome, meant}
 use borrow.Author.Needs.{needs}
 use Rattle.braid.proofs.calls.braid_clear.Statement.{statement}
 use Rattle.braid.proofs.calls.braid_clear.Tie as tie
@@ -21,10 +20,9 @@ same-length c = search needs
 
 returns : tie.Need-returns
 returns c =
-    let s = c .before .before .before .before .before .before .before .before .before in
     let z = c .before .before .before .before .before .clear in
     let e = z .ensures .0 in
-    (subst (λ n. Tells n (c .tell .result) (c .tell .last .1 .0)) (c .before .before .of-cleared .ensures ∙ ap (told passedTold) e) (c .tell .ensures), (z .ensures .1 .0, subst (ClearMeaning (s .args .table .now)) e (z .ensures .1 .1)))
+    (tells-outcome passedTold (clearedAs (z .result)) (c .before .before .of-cleared .ensures) (c .tell .ensures) e, (z .ensures .1 .0, meant passedTold (clearedAs (z .result)) (c .before .before .of-cleared .ensures) (c .tell .ensures) (z .ensures .1 .1)))
 
 pub braid-clear-spec : {M : Type 1} → statement M
 braid-clear-spec =

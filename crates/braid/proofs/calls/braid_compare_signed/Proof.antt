@@ -1,9 +1,7 @@
 -- `braid::calls::braid_compare_signed` meets its contract.
-use mathlib.Core.Path.{ap, subst, _∙_}
-use lib.ListN.{length}
-use Rattle.signed_comparing.specs.Service.{SignedSays}
-use Rattle.braid.specs.Told.{told, signedTold}
-use Rattle.braid.specs.Values.{Tells}
+use Rattle.model.specs.Stated.{comparedSigned}
+use Rattle.braid.specs.Told.{signedTold}
+use Rattle.braid.proofs.Telling.{tells-outcome, meant}
 use borrow.Author.Needs.{needs}
 use Rattle.braid.proofs.calls.braid_compare_signed.Statement.{statement}
 use Rattle.braid.proofs.calls.braid_compare_signed.Tie as tie
@@ -22,10 +20,9 @@ same-length c = search needs
 
 returns : tie.Need-returns
 returns c =
-    let s = c .before .before .before .before .before .before .before .before .before .before .before in
     let z = c .before .before .before .before .before .compare-signed in
     let e = z .ensures .0 in
-    (subst (λ n. Tells n (c .tell .result) (c .tell .last .1 .0)) (c .before .before .of-compared-signed .ensures ∙ ap (told signedTold) e) (c .tell .ensures), (z .ensures .1 .0, subst (SignedSays (s .args .table .now) (s .args .first .now) (s .args .second .now) (s .args .allowance) (length (s .args .workspace .now))) e (z .ensures .1 .1)))
+    (tells-outcome signedTold (comparedSigned (z .result)) (c .before .before .of-compared-signed .ensures) (c .tell .ensures) e, (z .ensures .1 .0, meant signedTold (comparedSigned (z .result)) (c .before .before .of-compared-signed .ensures) (c .tell .ensures) (z .ensures .1 .1)))
 
 pub braid-compare-signed-spec : {M : Type 1} → statement M
 braid-compare-signed-spec =

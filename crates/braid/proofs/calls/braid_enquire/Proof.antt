@@ -1,7 +1,7 @@
 -- `braid::calls::braid_enquire` meets its contract.
-use mathlib.Core.Path.{ap, subst, _∙_}
-use Rattle.braid.specs.Told.{told, sizesTold}
-use Rattle.braid.specs.Values.{Tells}
+use Rattle.model.specs.Stated.{reversed}
+use Rattle.braid.specs.Told.{sizesTold}
+use Rattle.braid.proofs.Telling.{tells-outcome, meant}
 use borrow.Author.Needs.{needs}
 use Rattle.braid.proofs.calls.braid_enquire.Statement.{statement}
 use Rattle.braid.proofs.calls.braid_enquire.Tie as tie
@@ -22,7 +22,7 @@ returns : tie.Need-returns
 returns c =
     let z = c .before .before .before .before .before .enquire in
     let e = z .ensures .0 in
-    (subst (λ n. Tells n (c .tell .result) (c .tell .last .1 .0)) (c .before .before .of-reversed .ensures ∙ ap (told sizesTold) e) (c .tell .ensures), z .ensures .1)
+    (tells-outcome sizesTold (reversed (z .result)) (c .before .before .of-reversed .ensures) (c .tell .ensures) e, (z .ensures .1 .0, meant sizesTold (reversed (z .result)) (c .before .before .of-reversed .ensures) (c .tell .ensures) (z .ensures .1 .1)))
 
 pub braid-enquire-spec : {M : Type 1} → statement M
 braid-enquire-spec =

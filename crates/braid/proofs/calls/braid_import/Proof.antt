@@ -1,8 +1,7 @@
 -- `braid::calls::braid_import` meets its contract.
-use mathlib.Core.Path.{ap, subst, _∙_}
-use Rattle.braid.specs.Told.{told, bytesTold}
-use Rattle.braid.specs.Values.{Tells}
-use Rattle.importing.specs.Import.{ImportSays}
+use Rattle.model.specs.Stated.{packedAs}
+use Rattle.braid.specs.Told.{bytesTold}
+use Rattle.braid.proofs.Telling.{tells-outcome, meant}
 use borrow.Author.Needs.{needs}
 use Rattle.braid.proofs.calls.braid_import.Statement.{statement}
 use Rattle.braid.proofs.calls.braid_import.Tie as tie
@@ -21,10 +20,9 @@ same-length c = search needs
 
 returns : tie.Need-returns
 returns c =
-    let s = c .before .before .before .before .before .before .before .before .before .before in
     let z = c .before .before .before .before .before .import in
     let e = z .ensures .0 in
-    (subst (λ n. Tells n (c .tell .result) (c .tell .last .1 .0)) (c .before .before .of-packed .ensures ∙ ap (told bytesTold) e) (c .tell .ensures), (z .ensures .1 .0, subst (λ o. ImportSays (s .args .text .now) o (z .last .1 .1 .0)) e (z .ensures .1 .1)))
+    (tells-outcome bytesTold (packedAs (z .result)) (c .before .before .of-packed .ensures) (c .tell .ensures) e, (z .ensures .1 .0, meant bytesTold (packedAs (z .result)) (c .before .before .of-packed .ensures) (c .tell .ensures) (z .ensures .1 .1)))
 
 pub braid-import-spec : {M : Type 1} → statement M
 braid-import-spec = tie.close (tie.spec import-requires of-packed-requires tell-requires same-length returns)

@@ -1,9 +1,7 @@
 -- `braid::calls::braid_left_reverse` meets its contract.
-use mathlib.Core.Path.{ap, subst, _∙_}
-use Rattle.braid.specs.Told.{told, sizesTold}
-use Rattle.braid.specs.Values.{Tells}
-use lib.ListN.{length}
-use Rattle.left_reversal.specs.LeftReverse.{LeftMeaning}
+use Rattle.model.specs.Stated.{reversed}
+use Rattle.braid.specs.Told.{sizesTold}
+use Rattle.braid.proofs.Telling.{tells-outcome, meant}
 use borrow.Author.Needs.{needs}
 use Rattle.braid.proofs.calls.braid_left_reverse.Statement.{statement}
 use Rattle.braid.proofs.calls.braid_left_reverse.Tie as tie
@@ -25,10 +23,9 @@ same-length-2 c = search needs
 
 returns : tie.Need-returns
 returns c =
-    let s = c .before .before .before .before .before .before .before .before .before .before .before .before .before .before in
     let z = c .before .before .before .before .before .before .before .left-reverse in
     let e = z .ensures .0 in
-    (subst (λ n. Tells n (c .tell .result) (c .tell .last .1 .0)) (c .before .before .of-reversed .ensures ∙ ap (told sizesTold) e) (c .tell .ensures), (z .ensures .1 .0, (z .ensures .1 .1 .0, subst (LeftMeaning (s .args .table .now) (s .args .program .now) (s .args .allowance) (length (s .args .workspace .now)) (s .args .answer .now) (z .last .1 .1 .1 .1 .0)) e (z .ensures .1 .1 .1))))
+    (tells-outcome sizesTold (reversed (z .result)) (c .before .before .of-reversed .ensures) (c .tell .ensures) e, (z .ensures .1 .0, (z .ensures .1 .1 .0, meant sizesTold (reversed (z .result)) (c .before .before .of-reversed .ensures) (c .tell .ensures) (z .ensures .1 .1 .1))))
 
 pub braid-left-reverse-spec : {M : Type 1} → statement M
 braid-left-reverse-spec =

@@ -1,10 +1,7 @@
 -- `braid::calls::braid_pack_table` meets its contract.
-use mathlib.Core.Path.{ap, subst, _∙_}
-use Rattle.model.specs.Images.{readTable}
-use Rattle.model.specs.Plain.{readPlainTable}
-use Rattle.model.specs.Areas.{ReadsBack}
-use Rattle.braid.specs.Told.{told, bytesTold}
-use Rattle.braid.specs.Values.{Tells}
+use Rattle.model.specs.Stated.{packedAs}
+use Rattle.braid.specs.Told.{bytesTold}
+use Rattle.braid.proofs.Telling.{tells-outcome, meant}
 use borrow.Author.Needs.{needs}
 use Rattle.braid.proofs.calls.braid_pack_table.Statement.{statement}
 use Rattle.braid.proofs.calls.braid_pack_table.Tie as tie
@@ -23,10 +20,9 @@ same-length c = search needs
 
 returns : tie.Need-returns
 returns c =
-    let s = c .before .before .before .before .before .before .before .before .before in
     let z = c .before .before .before .before .before .pack in
     let e = z .ensures .0 in
-    (subst (λ n. Tells n (c .tell .result) (c .tell .last .1 .0)) (c .before .before .of-packed .ensures ∙ ap (told bytesTold) e) (c .tell .ensures), (z .ensures .1 .0, subst (λ o. ReadsBack (readPlainTable (s .args .plain .now)) readTable o (z .last .1 .0)) e (z .ensures .1 .1)))
+    (tells-outcome bytesTold (packedAs (z .result)) (c .before .before .of-packed .ensures) (c .tell .ensures) e, (z .ensures .1 .0, (meant bytesTold (packedAs (z .result)) (c .before .before .of-packed .ensures) (c .tell .ensures) (z .ensures .1 .1 .0), meant bytesTold (packedAs (z .result)) (c .before .before .of-packed .ensures) (c .tell .ensures) (z .ensures .1 .1 .1))))
 
 pub braid-pack-table-spec : {M : Type 1} → statement M
 braid-pack-table-spec =

@@ -1,9 +1,7 @@
 -- `braid::calls::braid_remainder` meets its contract.
-use mathlib.Core.Path.{ap, subst, _∙_}
-use lib.ListN.{length}
-use Rattle.remainders.specs.Remainder.{RemainderMeaning}
-use Rattle.braid.specs.Told.{told, remainderTold}
-use Rattle.braid.specs.Values.{Tells}
+use Rattle.model.specs.Stated.{remaining}
+use Rattle.braid.specs.Told.{remainderTold}
+use Rattle.braid.proofs.Telling.{tells-outcome, meant}
 use borrow.Author.Needs.{needs}
 use Rattle.braid.proofs.calls.braid_remainder.Statement.{statement}
 use Rattle.braid.proofs.calls.braid_remainder.Tie as tie
@@ -25,10 +23,9 @@ same-length-2 c = search needs
 
 returns : tie.Need-returns
 returns c =
-    let s = c .before .before .before .before .before .before .before .before .before .before .before .before .before .before .before in
     let z = c .before .before .before .before .before .before .before .remainder in
     let e = z .ensures .0 in
-    (subst (λ n. Tells n (c .tell .result) (c .tell .last .1 .0)) (c .before .before .of-remaining .ensures ∙ ap (told remainderTold) e) (c .tell .ensures), (z .ensures .1 .0, (z .ensures .1 .1 .0, subst (λ x. RemainderMeaning (s .args .table .now) (s .args .done .now) (s .args .pattern .now) (s .args .allowance) (length (s .args .workspace .now)) (length (s .args .answer .now)) x (z .last .1 .1 .1 .1 .1 .0)) e (z .ensures .1 .1 .1))))
+    (tells-outcome remainderTold (remaining (z .result)) (c .before .before .of-remaining .ensures) (c .tell .ensures) e, (z .ensures .1 .0, (z .ensures .1 .1 .0, meant remainderTold (remaining (z .result)) (c .before .before .of-remaining .ensures) (c .tell .ensures) (z .ensures .1 .1 .1))))
 
 pub braid-remainder-spec : {M : Type 1} → statement M
 braid-remainder-spec =

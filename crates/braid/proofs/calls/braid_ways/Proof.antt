@@ -1,8 +1,7 @@
 -- `braid::calls::braid_ways` meets its contract.
-use mathlib.Core.Path.{ap, subst, _∙_}
-use Rattle.braid.specs.Told.{told, countsTold}
-use Rattle.braid.specs.Values.{Tells}
-use Rattle.ways.specs.Service.{WaysSay}
+use Rattle.model.specs.Stated.{listedAs}
+use Rattle.braid.specs.Told.{countsTold}
+use Rattle.braid.proofs.Telling.{tells-outcome, meant}
 use borrow.Author.Needs.{needs}
 use Rattle.braid.proofs.calls.braid_ways.Statement.{statement}
 use Rattle.braid.proofs.calls.braid_ways.Tie as tie
@@ -21,10 +20,9 @@ same-length c = search needs
 
 returns : tie.Need-returns
 returns c =
-    let s = c .before .before .before .before .before .before .before .before .before .before in
     let z = c .before .before .before .before .before .ways in
     let e = z .ensures .0 in
-    (subst (λ n. Tells n (c .tell .result) (c .tell .last .1 .0)) (c .before .before .of-ways .ensures ∙ ap (told countsTold) e) (c .tell .ensures), (z .ensures .1 .0, subst (λ o. WaysSay (s .args .table .now) (s .args .program .now) o (z .last .1 .1 .0)) e (z .ensures .1 .1)))
+    (tells-outcome countsTold (listedAs (z .result)) (c .before .before .of-ways .ensures) (c .tell .ensures) e, (z .ensures .1 .0, meant countsTold (listedAs (z .result)) (c .before .before .of-ways .ensures) (c .tell .ensures) (z .ensures .1 .1)))
 
 pub braid-ways-spec : {M : Type 1} → statement M
 braid-ways-spec =
