@@ -213,6 +213,10 @@ static void comparing(void)
          "1 0 0 0", AREA, nothing, 0);
     hold("unequal weights give 8 with 1, 2", compared(ALL_OF(unequal), ALL_OF(one_of_2), ALL_OF(two_of_2)), BRAID_UNEQUAL_WEIGHTS,
          "1 1 2 0", 0, nothing, 0);
+    hold("also for two empty programs", compared(ALL_OF(unequal), ALL_OF(empty_first), ALL_OF(empty_second)), BRAID_UNEQUAL_WEIGHTS, "1 1 2 0",
+         0, nothing, 0);
+    hold("the same table passes with weights 1 and 2", compared(ALL_OF(heavy), ALL_OF(empty_first), ALL_OF(empty_second)), BRAID_ANSWER,
+         "0 0 0 0", AREA, nothing, 0);
 }
 
 /* What the weights 1 and 2 of two moves make of the relation 1 2 1 = 2 2. */

@@ -198,7 +198,9 @@ fn a_cube_that_fails() {
 fn unequal_weights() {
     for table in [doubled().weighing(vec![1, 1]), completions_alone()] {
         assert_eq!(compared(&table, &[1], &[1], WIDE), Err(Refusal::at(8, Place::Pair(1, 2))));
+        assert_eq!(compared(&table, &[], &[], WIDE), Err(Refusal::at(8, Place::Pair(1, 2))));
     }
+    assert_eq!(compared(&doubled(), &[], &[], WIDE), Ok((Verdict::Same, 0)));
 }
 
 #[test]
