@@ -495,6 +495,7 @@ static void ways(void)
     static const uint8_t first_two[] = {1, 2, 1, 3, 2, 1, 0, 1, 2, 3, 1, 2, 1, 0};
     uint8_t sixteen[112], none[111];
     uint8_t result;
+    size_t i;
     hold("the words joined to 1 2 1", listed(ALL_OF(braid3), ALL_OF(image_121), AREA), BRAID_ANSWER, "2 8 0 0", 0, ALL_OF(two_words));
     hold("and to 2 1 2, in 8 bytes", listed(ALL_OF(braid3), ALL_OF(image_212), 8), BRAID_ANSWER, "2 8 0 0", 0, ALL_OF(two_words));
     hold("7 bytes give 13, and are zero", listed(ALL_OF(braid3), ALL_OF(image_121), 7), BRAID_ANSWER_SHORT, "0 0 0 0", 0, ALL_OF(zeros));
@@ -503,6 +504,9 @@ static void ways(void)
     result = listed(ALL_OF(braid3), ALL_OF(image_121321), sizeof sixteen);
     memcpy(sixteen, answer, sizeof sixteen);
     tally("the first two of the words joined to 1 2 1 3 2 1", memcmp(sixteen, first_two, sizeof first_two) == 0);
+    for (i = 7; i < sizeof sixteen; i += 7) {
+        tally("each of 6 moves, and after the one before it", sixteen[i + 6] == 0 && memcmp(sixteen + i - 7, sixteen + i, 7) < 0);
+    }
     hold("16 words in 112 bytes", result, BRAID_ANSWER, "16 112 0 0", 0, ALL_OF(sixteen));
     memset(none, 0, sizeof none);
     hold("111 bytes give 13", listed(ALL_OF(braid3), ALL_OF(image_121321), sizeof none), BRAID_ANSWER_SHORT, "0 0 0 0", 0, ALL_OF(none));
