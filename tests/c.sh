@@ -1,5 +1,5 @@
 #!/bin/sh
-# The C interface: what the archive wants of a linker, the example of README and a program that joins two programs, the header's sizes and stack, long texts,
+# The C interface: what the archive wants of a linker, the version that the specification names, the example of README and a program that joins two programs, the header's sizes and stack, long texts,
 # then the sheet of cases as C and as C++, all compiled with the strictest warnings as errors. The last line is 'N passed, M failed' over all of it.
 cd "$(dirname "$0")/.." || exit 1
 sh tests/library.sh || exit 1
@@ -50,6 +50,8 @@ nm -g $library | sed -n 's/^[0-9a-f]* T \(braid_.*\)/\1/p' | sort > target/defin
 grep -o 'uint8_t braid_[a-z_]*(' include/braid.h | sed 's/uint8_t //; s/(//' | grep -v text | sort > target/declared
 cmp target/defined target/declared
 one "the calls that the header declares" $?
+[ "$(sed -n 's/^#define BRAID_VERSION_M[A-Z]* //p' include/braid.h | paste -s -d . -)" = "$(sed -n 's/^Version \([0-9.]*\), .*/\1/p' docs/SPECIFICATION.md)" ]
+one "the version that the specification names" $?
 gcc -std=c11 $strict -Wl,-z,now tests/archive.c $library -o target/archive || exit 1
 sheet "sizes, stack and long texts" target/archive
 gcc -std=c11 $strict tests/sheet.c $library -o target/sheet_c || exit 1

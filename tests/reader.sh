@@ -1,5 +1,6 @@
 #!/bin/sh
-# Runs the bench reader on the samples and compares what it writes byte for byte. Usage: tests/reader.sh [READER]
+# Runs the bench reader on the samples and compares what it writes byte for byte. Files whose reads fail are made by tests/reads.c (gcc).
+# Usage: tests/reader.sh [READER]
 cd "$(dirname "$0")/.." || exit 1
 reader=${1:-target/bin/reader}
 samples=samples
@@ -60,6 +61,24 @@ expect "refusal 6: a program file of 4,096 bytes" 'refused 6\n' $samples/braid3.
 expect "refusal 6: a program file longer than 4,096 bytes" 'refused 6\n' $samples/braid3.table "$work/long.program"
 expect "refusal 10 with its pair" 'refused 10 1 2\n' $samples/open2.table $samples/open2.program
 expect "refusal 12: a program that never ends" 'refused 12\n' $samples/endless3.table $samples/endless.program
+
+# reads that give a few bytes each, or fail: READS has a character for each read, at most so many bytes, or x for one that fails. The first file is read to its end
+# before the second, which takes a read more than its bytes need.
+gcc -std=c11 -Wall -Wextra -Werror -pedantic -shared -fPIC tests/reads.c -o "$work/reads.so" || exit 1
+# through LABEL READS TEXT: the reader on the first two samples, with such reads, writes exactly TEXT
+through() {
+    printf "$3" > "$work/expected"
+    : > "$work/expected_errors"
+    READS=$2 LD_PRELOAD="$work/reads.so" "$reader" $samples/braid3.table $samples/first.program > "$work/written" 2> "$work/errors"
+    hold "$1"
+}
+through "files read byte by byte" 11111111111111 "$five"
+through "refusal 1: the first read fails" x 'refused 1\n'
+through "refusal 1: a table of which all is read before a read fails" 9x 'refused 1\n'
+through "refusal 1: a table of which a part is read before a read fails" 31x 'refused 1\n'
+through "refusal 4: a program whose first read fails" 99x 'refused 4\n'
+through "refusal 4: a program of which all is read before a read fails" 999x 'refused 4\n'
+through "refusal 4: a program of which a part is read before a read fails" 992x 'refused 4\n'
 
 # a report that cannot be written: one line on standard error, with the reason
 : > "$work/expected"

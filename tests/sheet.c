@@ -31,6 +31,9 @@ static const uint8_t endless[] = {0x20, 0x04, 0x90, 0x86, 0x50, 0x45, 0x29, 0x26
 static const uint8_t heavy[] = {0x10, 0x65, 0x0C};
 static const uint8_t heavy_unequal[] = {0x10, 0x63, 0x20};
 
+/* Two moves of weights 1 and 3: 1 1 1 = 2. */
+static const uint8_t tripled[] = {0x10, 0xA4, 0x00};
+
 /* 1 3 = 2 1 and 1 2 = 3 3, which clears while its mirror does not. */
 static const uint8_t one_way[] = {0x20, 0x04, 0x61, 0x22, 0x8C};
 
@@ -134,6 +137,7 @@ static void packing(void)
     static const uint8_t unequal_plain[] = {2, 1, 1, 2, 2, 1, 1, 2};
     static const uint8_t heavy_plain[] = {2, 1, 2, 2, 2, 1, 1, 2};
     static const uint8_t heavy_unequal_plain[] = {2, 1, 2, 1, 2, 2, 1, 1};
+    static const uint8_t tripled_plain[] = {2, 1, 3, 2, 1, 1, 0};
     static const uint8_t heaviest_plain[] = {2, 1, BRAID_MOST_WEIGHT, BRAID_OPEN}, heaviest[] = {0x11, 0xC0};
     static const uint8_t too_heavy[] = {2, 1, BRAID_MOST_WEIGHT + 1, BRAID_OPEN}, weightless[] = {2, 0}, no_weight[] = {2, 1};
     static const uint8_t endless_plain[] = {3, 1, 1, 1, 2, 2, 1, 2, 1, 2, 2, 3, 1, 2, 1, 3, 2, 3, 2, 2, 2, 3};
@@ -148,6 +152,7 @@ static void packing(void)
     table_forms("the table of unequal weights", ALL_OF(unequal_plain), ALL_OF(unequal));
     table_forms("1 2 1 = 2 2", ALL_OF(heavy_plain), ALL_OF(heavy));
     table_forms("1 2 = 2 1 1", ALL_OF(heavy_unequal_plain), ALL_OF(heavy_unequal));
+    table_forms("1 1 1 = 2", ALL_OF(tripled_plain), ALL_OF(tripled));
     table_forms("the heaviest move", ALL_OF(heaviest_plain), ALL_OF(heaviest));
     table_forms("the endless table", ALL_OF(endless_plain), ALL_OF(endless));
     table_forms("the table that clears alone", ALL_OF(one_way_plain), ALL_OF(one_way));
@@ -213,6 +218,10 @@ static void comparing(void)
          "1 0 0 0", AREA, nothing, 0);
     hold("unequal weights give 8 with 1, 2", compared(ALL_OF(unequal), ALL_OF(one_of_2), ALL_OF(two_of_2)), BRAID_UNEQUAL_WEIGHTS,
          "1 1 2 0", 0, nothing, 0);
+    hold("also for two empty programs", compared(ALL_OF(unequal), ALL_OF(empty_first), ALL_OF(empty_second)), BRAID_UNEQUAL_WEIGHTS, "1 1 2 0",
+         0, nothing, 0);
+    hold("the same table passes with weights 1 and 2", compared(ALL_OF(heavy), ALL_OF(empty_first), ALL_OF(empty_second)), BRAID_ANSWER,
+         "0 0 0 0", AREA, nothing, 0);
 }
 
 /* What the weights 1 and 2 of two moves make of the relation 1 2 1 = 2 2. */
@@ -481,10 +490,26 @@ static void ways(void)
     static const uint8_t no_moves[] = {0x00, 0x00}, back_move[] = {0x00, 0x18};
     /* 2 2 and 1 under n = 2. */
     static const uint8_t image_22[] = {0x00, 0x25}, image_1[] = {0x00, 0x10}, by_letters[] = {1, 2, 1, 0, 2, 2, 0};
+    /* 1 2 1 3 2 1, and the first two of the words joined to it. */
+    static const uint8_t plain_121321[] = {1, 2, 1, 3, 2, 1}, image_121321[] = {0x00, 0x60, 0x42, 0x20};
+    static const uint8_t first_two[] = {1, 2, 1, 3, 2, 1, 0, 1, 2, 3, 1, 2, 1, 0};
+    uint8_t sixteen[112], none[111];
+    uint8_t result;
+    size_t i;
     hold("the words joined to 1 2 1", listed(ALL_OF(braid3), ALL_OF(image_121), AREA), BRAID_ANSWER, "2 8 0 0", 0, ALL_OF(two_words));
     hold("and to 2 1 2, in 8 bytes", listed(ALL_OF(braid3), ALL_OF(image_212), 8), BRAID_ANSWER, "2 8 0 0", 0, ALL_OF(two_words));
     hold("7 bytes give 13, and are zero", listed(ALL_OF(braid3), ALL_OF(image_121), 7), BRAID_ANSWER_SHORT, "0 0 0 0", 0, ALL_OF(zeros));
     hold("words of different lengths by their letters", listed(ALL_OF(heavy), ALL_OF(image_22), AREA), BRAID_ANSWER, "2 7 0 0", 0, ALL_OF(by_letters));
+    program_forms("1 2 1 3 2 1", ALL_OF(plain_121321), ALL_OF(image_121321));
+    result = listed(ALL_OF(braid3), ALL_OF(image_121321), sizeof sixteen);
+    memcpy(sixteen, answer, sizeof sixteen);
+    tally("the first two of the words joined to 1 2 1 3 2 1", memcmp(sixteen, first_two, sizeof first_two) == 0);
+    for (i = 7; i < sizeof sixteen; i += 7) {
+        tally("each of 6 moves, and after the one before it", sixteen[i + 6] == 0 && memcmp(sixteen + i - 7, sixteen + i, 7) < 0);
+    }
+    hold("16 words in 112 bytes", result, BRAID_ANSWER, "16 112 0 0", 0, ALL_OF(sixteen));
+    memset(none, 0, sizeof none);
+    hold("111 bytes give 13", listed(ALL_OF(braid3), ALL_OF(image_121321), sizeof none), BRAID_ANSWER_SHORT, "0 0 0 0", 0, ALL_OF(none));
     hold("a program of no moves", listed(ALL_OF(braid3), ALL_OF(no_moves), 1), BRAID_ANSWER, "1 1 0 0", 0, ALL_OF(end_only));
     hold("it needs a byte", listed(ALL_OF(braid3), ALL_OF(no_moves), 0), BRAID_ANSWER_SHORT, "0 0 0 0", 0, nothing, 0);
     hold("the cube rule plays no part", listed(ALL_OF(broken_cube), ALL_OF(no_moves), 1), BRAID_ANSWER, "1 1 0 0", 0, ALL_OF(end_only));
@@ -558,8 +583,9 @@ static void hold_each(const char *const *texts, size_t count, enum braid_result 
 
 static void importing(void)
 {
-    static const char *const no_moves[] = {"", "()", "(1 2)^0", "()^99 -()"};
-    static const char *const no_patterns[] = {" 1", "1 ", "1  2", "01", "0", "1^", "--1", "^2", "( 1)", "1)", "100", "1^100", "4^0 x", "(((((((((1)))))))))"};
+    static const char *const no_moves[] = {"", "()", "(1 2)^0", "()^99 -()", "(((((((())))))))"};
+    static const char *const no_patterns[] = {" 1", "1 ", "1  2", "01", "0", "1^", "--1", "^2", "( 1)", "1)", "100", "1^100", "4^0 x", "(((((((((1)))))))))",
+                                              "((((((((()))))))))"};
     static const char *const no_such_moves[] = {"4", "4^0", "(1 99)^0", "(1^99)^41 1^37 4"};
     static const char *const too_many[] = {"(1^99)^41 1^37", "((((((((1^99)^99)^99)^99)^99)^99)^99)^99)^99"};
     static const uint8_t twice_undone[] = {130, 129, 130, 129}, two_back[] = {129, 129, 3}, undone[] = {131, 2, 2, 2, 129}, one[] = {1};
@@ -612,6 +638,8 @@ static void signed_comparing(void)
     static const uint8_t image_12_1[] = {0x00, 0x30, 0x60}, image_2_12[] = {0x00, 0x3A, 0x08}, image_1_2[] = {0x00, 0x21, 0x40};
     static const uint8_t image_2_1[] = {0x00, 0x2A, 0x00}, one[] = {0x00, 0x10}, one_again[] = {0x00, 0x10};
     static const uint8_t there_and_back[] = {0x00, 0x24}, back_and_there[] = {0x00, 0x28}, image_1_4[] = {0x00, 0x21, 0xC0};
+    /* 1 1 under n = 3; 1 1 1 and 2 under n = 2. */
+    static const uint8_t one_one[] = {0x00, 0x20, 0x00}, one_one_one[] = {0x00, 0x30, 0x00}, two[] = {0x00, 0x14};
     /* The braid table of 4 moves, and its plain form. */
     static const uint8_t braid4[] = {0x30, 0x00, 0x92, 0x10, 0xC6, 0x12, 0x38, 0x92, 0x92, 0x68, 0xE2, 0xCB, 0x8A, 0xC0};
     static const uint8_t braid4_plain[] = {4, 1, 1, 1, 1, 2, 2, 1, 2, 1, 2, 1, 3, 1, 1, 1, 4, 1, 1, 2, 3, 2, 2, 2, 3, 1, 4, 1, 2, 2, 4, 3, 2, 3, 4};
@@ -626,6 +654,8 @@ static void signed_comparing(void)
          "1 2 2 0", AREA, nothing, 0);
     hold("1 is different from no moves by weight", compared_signed(ALL_OF(braid3), ALL_OF(one), ALL_OF(empty_program), AREA), BRAID_ANSWER, "1 0 0 0", AREA,
          nothing, 0);
+    hold("1 is different from 1 1 by weight, after a step", compared_signed(ALL_OF(braid3), ALL_OF(one), ALL_OF(one_one), AREA), BRAID_ANSWER, "1 1 0 0",
+         AREA, nothing, 0);
     hold("the set of 36 words in 166 bytes", compared_signed(ALL_OF(braid3), ALL_OF(image_12_1), ALL_OF(image_2_12), 166), BRAID_ANSWER, "0 4 1 0", 166,
          nothing, 0);
     hold("165 give 12 with the set", compared_signed(ALL_OF(braid3), ALL_OF(image_12_1), ALL_OF(image_2_12), 165), BRAID_WORKSPACE_SHORT, "4 0 0 0", 165,
@@ -644,8 +674,24 @@ static void signed_comparing(void)
          "0 1 1 0", 5, nothing, 0);
     hold("4 bytes give 12 with its set", compared_signed(ALL_OF(one_move), ALL_OF(there_and_back), ALL_OF(back_and_there), 4), BRAID_WORKSPACE_SHORT,
          "4 0 0 0", 4, nothing, 0);
+    hold("2 bytes do not hold its first words", compared_signed(ALL_OF(one_move), ALL_OF(there_and_back), ALL_OF(back_and_there), 2), BRAID_WORKSPACE_SHORT,
+         "4 0 0 0", 2, nothing, 0);
+    hold("nor do they at allowance 0", braid_compare_signed(ALL_OF(one_move), ALL_OF(there_and_back), ALL_OF(back_and_there), 0, workspace, 2, values),
+         BRAID_WORKSPACE_SHORT, "4 0 0 0", 2, nothing, 0);
     hold("no bytes give it, too", compared_signed(ALL_OF(one_move), ALL_OF(empty_program), ALL_OF(empty_again), 0), BRAID_WORKSPACE_SHORT, "4 0 0 0", 0,
          nothing, 0);
+    hold("1 1 1 is the same as 2 in 12 bytes", compared_signed(ALL_OF(tripled), ALL_OF(one_one_one), ALL_OF(two), 12), BRAID_ANSWER, "0 3 0 0", 12, nothing, 0);
+    hold("11 give 12 with the set", compared_signed(ALL_OF(tripled), ALL_OF(one_one_one), ALL_OF(two), 11), BRAID_WORKSPACE_SHORT, "4 0 0 0", 11, nothing, 0);
+    hold("7 hold all of it but a zero byte", compared_signed(ALL_OF(tripled), ALL_OF(one_one_one), ALL_OF(two), 7), BRAID_WORKSPACE_SHORT, "4 0 0 0", 7,
+         nothing, 0);
+    hold("4 do not hold its first words", compared_signed(ALL_OF(tripled), ALL_OF(one_one_one), ALL_OF(two), 4), BRAID_WORKSPACE_SHORT, "4 0 0 0", 4, nothing,
+         0);
+    hold("in 12 bytes allowance 3 suffices", braid_compare_signed(ALL_OF(tripled), ALL_OF(one_one_one), ALL_OF(two), 3, workspace, 12, values), BRAID_ANSWER,
+         "0 3 0 0", 12, nothing, 0);
+    hold("2 give 11 at the programs", braid_compare_signed(ALL_OF(tripled), ALL_OF(one_one_one), ALL_OF(two), 2, workspace, 12, values), BRAID_ALLOWANCE_USED,
+         "0 0 0 0", 12, nothing, 0);
+    hold("1 gives 11 with the set", braid_compare_signed(ALL_OF(tripled), ALL_OF(one_one_one), ALL_OF(two), 1, workspace, 12, values), BRAID_ALLOWANCE_USED,
+         "4 0 0 0", 12, nothing, 0);
     hold("the set of 4 moves gives 22", compared_empty(ALL_OF(braid4)), BRAID_SET_TOO_LARGE, "0 0 0 0", AREA, nothing, 0);
     hold("also with moves", compared_signed(ALL_OF(braid4), ALL_OF(image_1_4), ALL_OF(empty_program), AREA), BRAID_SET_TOO_LARGE, "0 0 0 0", AREA, nothing, 0);
     hold("an open pair gives 21 with 1, 2", compared_empty(ALL_OF(open_pair)), BRAID_SET_OPEN_PAIR, "1 1 2 0", AREA, nothing, 0);

@@ -11,7 +11,7 @@ use Rattle.model.specs.Bits.{field, finish}
 use Rattle.model.specs.Images.{readTable, readProgram, readChain, tableImage, programImage, chainImage}
 use Rattle.model.specs.Services.{reverse, clear, readForward, compare, comparison, check, followed, same-after, different-after, joins}
 use Rattle.model.proofs.Case.{Case, _gives_, All}
-use Rattle.model.proofs.Samples.{braid3, braid1, open2, broken3, unequal2, image, log, pattern, braidBytes, first, firstBytes, second}
+use Rattle.model.proofs.Samples.{braid3, braid1, open2, broken3, unequal2, heavy2, image, log, pattern, braidBytes, first, firstBytes, second}
 
 abbrev pub sheet : List {1} Case
 sheet =
@@ -43,9 +43,10 @@ sheet =
     (clear (image broken3) 65535 32768 gives refused 9 (triple-of 1 2 3)) ∷
     (side broken3 65535 32768 1 2 3 gives residue (1 ∷ [])) ∷
     (side broken3 65535 32768 2 1 3 gives residue []) ∷
-    -- case 19
-    (compare (image unequal2) (pattern 2 []) (pattern 2 []) 65535 32768 gives refused 8 (pair-of 1 2)) ∷ []
+    -- case 19: the same call with weights 1, and with weights 1 and 2
+    (compare (image unequal2) (pattern 2 []) (pattern 2 []) 65535 32768 gives refused 8 (pair-of 1 2)) ∷
+    (compare (image heavy2) (pattern 2 []) (pattern 2 []) 65535 32768 gives answered (same-after 0 0)) ∷ []
 
 pub sheet-holds : All sheet
 unfolding tableImage programImage chainImage field finish readTable readProgram readChain readForward reverse compare comparison check followed applied clear cleared under side against cubeAt reversing run next complete
-sheet-holds = (refl, (refl, (refl, (refl, (refl, (refl, (refl, (refl, (refl, (refl, (refl, (refl, (refl, (refl, (refl, (refl, tt))))))))))))))))
+sheet-holds = (refl, (refl, (refl, (refl, (refl, (refl, (refl, (refl, (refl, (refl, (refl, (refl, (refl, (refl, (refl, (refl, (refl, tt)))))))))))))))))

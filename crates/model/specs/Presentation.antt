@@ -18,7 +18,7 @@ pub record Presentation : Type 0 where
   pub excess : List ℕ
   pub rows : List (List Complement)
 
--- 2.2: the weight of a letter, so at least 1; a number that names none weighs 1
+-- 2.2: the weight of a letter, so at least 1; of the numbers that name none, 0 weighs what letter 1 does, and those past the list's end weigh 1
 abbrev pub weightOf : Presentation → ℕ → ℕ
 weightOf T a = suc (getD (T .excess) (a - 1) 0)
 

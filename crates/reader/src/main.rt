@@ -1,22 +1,8 @@
 // The bench reader (specification 9): what a table image and a program image come to.
-use libc::STDOUT_FILENO;
-ghost use Rattle.io.specs.Counts.{Counts};
+mod files;
 
-// Reads the start of the file that an argument names, and gives how many bytes. A file that cannot be read, or no such argument, counts as
-// empty. No table or program image has more than 2,561 bytes, so a longer file is refused however much more it has.
-fn read_named(argument: usize, image: &mut [u8]) -> usize
-    ensures { λ r. ⌜ Counts r (now (image .exit)) ⌝ }
-{
-    let mut path = io::buffer();
-    let length = os::arg(argument, &mut path);
-    let file = os::open_read(&path[..length]);
-    if file < 0 {
-        return 0;
-    }
-    let count = io::read_full(file, image);
-    libc::close(file);
-    count
-}
+use crate::files::read_named;
+use libc::STDOUT_FILENO;
 
 fn main() {
     let mut table = io::buffer();

@@ -198,7 +198,9 @@ fn a_cube_that_fails() {
 fn unequal_weights() {
     for table in [doubled().weighing(vec![1, 1]), completions_alone()] {
         assert_eq!(compared(&table, &[1], &[1], WIDE), Err(Refusal::at(8, Place::Pair(1, 2))));
+        assert_eq!(compared(&table, &[], &[], WIDE), Err(Refusal::at(8, Place::Pair(1, 2))));
     }
+    assert_eq!(compared(&doubled(), &[], &[], WIDE), Ok((Verdict::Same, 0)));
 }
 
 #[test]
@@ -344,6 +346,7 @@ fn listings() {
     assert_eq!(of(&[1, 2, 1], 7), Err(Refusal::plain(13)));
     assert_eq!(of(&[], 1), Ok((1, vec![0])));
     assert_eq!(of(&[], 0), Err(Refusal::plain(13)));
+    assert_eq!(program_image(3, &[1, 2, 1, 3, 2, 1]), [0x00, 0x60, 0x42, 0x20]);
     let (words, listing) = of(&[1, 2, 1, 3, 2, 1], 112).unwrap();
     assert_eq!((words, listing.len(), &listing[..14]), (16, 112, &[1, 2, 1, 3, 2, 1, 0, 1, 2, 3, 1, 2, 1, 0][..]));
     let heavy = table_image(&doubled());
@@ -403,7 +406,7 @@ fn imports() {
     let of = |text: &str, area: usize| import(&table_image(&braid(3)), text.as_bytes(), area);
     let refused = |number| Err(Refusal::plain(number));
     assert_eq!([4, 3].map(|area| of("-(1 2)^2", area)), [Ok(vec![-2, -1, -2, -1]), refused(13)]);
-    for text in ["", "()", "(1 2)^0", "()^99 -()"] {
+    for text in ["", "()", "(1 2)^0", "()^99 -()", "(((((((())))))))"] {
         assert_eq!(of(text, 0), Ok(vec![]), "{text:?}");
     }
     assert_eq!(of("-1^2 3", 3), Ok(vec![-1, -1, 3]));
@@ -412,6 +415,7 @@ fn imports() {
     for text in [" 1", "1 ", "1  2", "01", "0", "1^", "--1", "^2", "( 1)", "1)", "100", "1^100", "(((((((((1)))))))))", "4^0 x"] {
         assert_eq!(of(text, 9), refused(19), "{text:?}");
     }
+    assert_eq!(of("((((((((()))))))))", 9), refused(19));
     assert_eq!(of("((((((((1))))))))", 1), Ok(vec![1]));
     for text in ["4", "4^0", "(1 99)^0", "(1^99)^41 1^37 4"] {
         assert_eq!(of(text, 9), refused(5), "{text:?}");
@@ -423,9 +427,17 @@ fn imports() {
     assert_eq!(import(&[], b"x", 9), refused(1));
 }
 
+/// J of specification 10: 1 1 1 = 2, where 2 weighs 3.
+fn tripled() -> Table {
+    Table::light(2, vec![Some((vec![1, 1], vec![]))]).weighing(vec![1, 3])
+}
+
 fn signed(table: &Table, first: &[i8], second: &[i8], workspace: usize) -> Result<(Verdict, [usize; 2]), Refusal> {
+    signed_within(table, first, second, Limits { workspace, ..WIDE })
+}
+
+fn signed_within(table: &Table, first: &[i8], second: &[i8], limits: Limits) -> Result<(Verdict, [usize; 2]), Refusal> {
     let [first, second] = [first, second].map(|word| program_image(table.moves, word));
-    let limits = Limits { workspace, ..WIDE };
     let decided = compare_signed(&table_image(table), &first, &second, limits, &mut Most::default());
     decided.map(|Decision { verdict, first, second }| (verdict, [first, second]))
 }
@@ -437,8 +449,18 @@ fn signed_comparisons() {
     assert_eq!(signed(&braid(3), &[1], &[1], 1_000), Ok((Same, [1, 0])));
     assert_eq!(signed(&braid(3), &[1, -2], &[-2, 1], 1_000), Ok((Different, [2, 2])));
     assert_eq!(signed(&braid(3), &[1], &[], 1_000), Ok((Different, [0, 0])));
+    assert_eq!(signed(&braid(3), &[1], &[1, 1], 1_000), Ok((Different, [1, 0])));
     let in_set = |number| Err(Refusal::at(number, Place::Set));
     assert_eq!([5, 4].map(|w| signed(&braid(1), &[1, -1], &[-1, 1], w)), [Ok((Same, [1, 1])), in_set(12)]);
+    assert_eq!(signed(&braid(1), &[1, -1], &[-1, 1], 2), in_set(12));
+    assert_eq!(signed_within(&braid(1), &[1, -1], &[-1, 1], Limits { allowance: 0, workspace: 2 }), in_set(12));
+    assert_eq!(table_image(&tripled()), [0x10, 0xA4, 0x00]);
+    assert_eq!(signed(&tripled(), &[1, 1, 1], &[2], 12), Ok((Same, [3, 0])));
+    for workspace in [11, 7, 4] {
+        assert_eq!(signed(&tripled(), &[1, 1, 1], &[2], workspace), in_set(12));
+    }
+    let allowed = |allowance| signed_within(&tripled(), &[1, 1, 1], &[2], Limits { allowance, workspace: 12 });
+    assert_eq!([3, 2, 1].map(allowed), [Ok((Same, [3, 0])), Err(Refusal::plain(11)), in_set(11)]);
     for word in [vec![], vec![1, -4], vec![2, 3, -2]] {
         assert_eq!(signed(&braid(4), &word, &[], 32_768), Err(Refusal::plain(22)));
     }
