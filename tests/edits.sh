@@ -1,30 +1,110 @@
 #!/bin/sh
 # The list of must-fail edits in docs/MUST_FAIL.md is made from the edits: looks that it is the current one, or with --write makes it.
+# Then that each edit says what it must, and a case for each fault that this look must find. The last line is 'N passed, M failed'.
 cd "$(dirname "$0")/.." || exit 1
-mkdir -p target
-{
+passed=0
+failed=0
+
+# listed TREE: the page, from the comments of the edits
+listed() {
     echo '# The must-fail edits'
     echo
     echo 'Each is one wrong version of a crate, which the check must refuse because a fact no longer holds. Made from the edits by `sh tests/edits.sh --write`.'
     echo
-    echo '| crate | edit | wrong version |'
-    echo '|---|---|---|'
-    for edit in crates/*/must-fail/*.edit; do
-        crate=$(echo "$edit" | cut -d/ -f2)
+    echo 'The last column names an input at which the version is wrong. Tables B, S, O and so on, W, A, k and z are those of section 10 of `SPECIFICATION.md`;'
+    echo 'what is not named is as in 2.4 there. An edit is of `src/` or `specs/`. What it changes in a proof beside that only fits the proof to the edited shape,'
+    echo 'so that the fact alone is refused, and its line `# fits the proof:` says what. An edit of `proofs/` alone changes what a public law there states,'
+    echo 'and its line `# wrong law:` names the law.'
+    echo
+    echo '| crate | edit | wrong version | where it is wrong |'
+    echo '|---|---|---|---|'
+    for edit in "$1"/crates/*/must-fail/*.edit; do
+        path=${edit#"$1"/crates/}
+        crate=${path%%/*}
         label=$(basename "$edit" .edit)
-        text=$(sed -n 's/^# *//p' "$edit" | tr '\n' ' ' | sed 's/ *$//; s/|/\\|/g')
-        echo "| \`$crate\` | \`$label\` | $text |"
+        text=$(sed -n -e '/^# wrong at: /d' -e '/^# fits the proof: /d' -e '/^# wrong law: /d' -e 's/^# *//p' "$edit" | tr '\n' ' ' | sed 's/ *$//; s/|/\\|/g')
+        input=$(sed -n 's/^# wrong at: *//p' "$edit" | tr '\n' ' ' | sed 's/ *$//; s/|/\\|/g')
+        echo "| \`$crate\` | \`$label\` | $text | $input |"
     done
-} > target/must-fail.md
+}
+
+# faults TREE: each edit that does not say in its comments what it must
+faults() {
+    for edit in "$1"/crates/*/must-fail/*.edit; do
+        [ -f "$edit" ] || { echo "no edit is there"; continue; }
+        awk -v edit="${edit#"$1"/}" -v crate="${edit%/must-fail/*}" '
+            function fault(text) { print edit ": " text }
+            /^# wrong at: / { at++; if ($0 !~ /^# wrong at: .+: .+/) bare = 1; next }
+            /^# fits the proof: ./ { fits++; next }
+            /^# wrong law: / { law++; name = $4; if (!sub(/:$/, "", name) || NF < 5) name = ""; next }
+            /^# ./ { said++ }
+            /^file: / { file = substr($0, 7) }
+            /^old: / && file ~ /^proofs\// { proof++; files[file] = 1 }
+            /^old: / && file !~ /^proofs\// { version++ }
+            END {
+                if (!said) fault("no comment says what the wrong version is")
+                if (at != 1 || bare) fault("no line \"# wrong at: INPUT: ..\"")
+                if (version && proof && fits != 1) fault("a proof is changed, and no line \"# fits the proof: ..\"")
+                if (fits && !(version && proof)) fault("it fits no proof")
+                if (!version && law != 1) fault("only a proof is changed, and no line \"# wrong law: NAME: ..\"")
+                if (law && version) fault("not only a law is changed")
+                if (law && !version) {
+                    there = 0
+                    for (f in files) while ((getline line < (crate "/" f)) > 0) if (name != "" && index(line, "pub " name " : ")) there = 1
+                    if (!there) fault("no public law of this name in the file that is changed")
+                }
+            }' "$edit"
+    done
+}
+
+mkdir -p target
+listed . > target/must-fail.md
 if [ "$1" = --write ]; then
     cp target/must-fail.md docs/MUST_FAIL.md
     exit 0
 fi
-untold=$(grep -c '| *|$' target/must-fail.md)
-if [ "$untold" -eq 0 ] && cmp -s target/must-fail.md docs/MUST_FAIL.md; then
-    echo "1 passed, 0 failed"
+if cmp -s target/must-fail.md docs/MUST_FAIL.md; then
+    passed=$((passed + 1))
 else
-    echo "docs/MUST_FAIL.md is not what the edits say, or an edit has no comment: sh tests/edits.sh --write"
-    echo "0 passed, 1 failed"
-    exit 1
+    failed=$((failed + 1))
+    echo "failed: docs/MUST_FAIL.md is not what the edits say: sh tests/edits.sh --write"
 fi
+found=$(faults .)
+if [ -z "$found" ]; then passed=$((passed + 1)); else failed=$((failed + 1)); printf 'failed: edits that do not say what they must\n%s\n' "$found"; fi
+
+work=$(mktemp -d) || exit 1
+trap 'rm -rf "$work"' EXIT
+mkdir -p "$work/crates/x/must-fail" "$work/crates/x/proofs"
+printf 'law : Type\npub other : Type\npub named : Type\n' > "$work/crates/x/proofs/A.antt"
+
+# judged FAULT LINES: an edit of these lines has one fault, which is told so; with no FAULT it has none
+judged() {
+    printf '%b' "$2" > "$work/crates/x/must-fail/y.edit"
+    found=$(faults "$work")
+    if [ "$found" = "${1:+crates/x/must-fail/y.edit: $1}" ]; then
+        passed=$((passed + 1))
+    else
+        failed=$((failed + 1))
+        printf 'failed: of an edit with %s it is found: %s\n' "${1:-no fault}" "$found"
+    fi
+}
+said='# a version\n'
+input='# wrong at: clear S: 2, right is 1\n'
+version='file: specs/A.antt\nold: 1\nnew: 2\n'
+proof='file: proofs/A.antt\nold: 1\nnew: 2\n'
+judged '' "$said$input$version"
+judged '' "$said$input# fits the proof: a need\n$version$proof"
+judged '' "$said$input# wrong law: named: its hypothesis\n$proof"
+judged 'no comment says what the wrong version is' "$input$version"
+judged 'no line "# wrong at: INPUT: .."' "$said$version"
+judged 'no line "# wrong at: INPUT: .."' "$said# wrong at: clear S\n$version"
+judged 'a proof is changed, and no line "# fits the proof: .."' "$said$input$version$proof"
+judged 'it fits no proof' "$said$input# fits the proof: a need\n$version"
+judged 'only a proof is changed, and no line "# wrong law: NAME: .."' "$said$input$proof"
+judged 'only a proof is changed, and no line "# wrong law: NAME: .."' "$said${input}file: specs/A.antt\n$proof"
+judged 'not only a law is changed' "$said$input# fits the proof: a need\n# wrong law: named: its hypothesis\n$version$proof"
+judged 'no public law of this name in the file that is changed' "$said$input# wrong law: law: its hypothesis\n$proof"
+judged 'no public law of this name in the file that is changed' "$said$input# wrong law: named\n$proof"
+
+echo "$passed passed, $failed failed"
+[ "$failed" -eq 0 ]
