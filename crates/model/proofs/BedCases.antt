@@ -93,11 +93,22 @@ pub record BedCases : Type 0 where
   pub beds-hold : All beds
   pub bed-calls-hold : All bedCalls
 
-pub bed-cases-hold : BedCases
+braid-tables-hold : All braidTables
 unfolding tableImage programImage field finish readTable readProgram isBraid readBraid bed complete
+braid-tables-hold = (refl, (refl, (refl, (refl, (refl, (refl, (refl, (refl, (refl, (refl, (refl, tt)))))))))))
+
+beds-hold : All beds
+unfolding tableImage programImage field finish readTable readProgram isBraid readBraid bed complete
+beds-hold = (refl, (refl, (refl, (refl, (refl, (refl, (refl, (refl, (refl, (refl, (refl, (refl, (refl, tt)))))))))))))
+
+bed-calls-hold : All bedCalls
+unfolding tableImage programImage field finish readTable readProgram isBraid readBraid bed complete
+bed-calls-hold = (refl, (refl, (refl, (refl, (refl, (refl, (refl, (refl, (refl, (refl, (refl, (refl, (refl, (refl, (refl, (refl, (refl, (refl, (refl, tt)))))))))))))))))))
+
+pub bed-cases-hold : BedCases
 bed-cases-hold =
     record {
-      braid-tables-hold = (refl, (refl, (refl, (refl, (refl, (refl, (refl, (refl, (refl, (refl, (refl, tt)))))))))));
-      beds-hold = (refl, (refl, (refl, (refl, (refl, (refl, (refl, (refl, (refl, (refl, (refl, (refl, (refl, tt)))))))))))));
-      bed-calls-hold = (refl, (refl, (refl, (refl, (refl, (refl, (refl, (refl, (refl, (refl, (refl, (refl, (refl, (refl, (refl, (refl, (refl, (refl, (refl, tt)))))))))))))))))));
+      braid-tables-hold = braid-tables-hold;
+      beds-hold = beds-hold;
+      bed-calls-hold = bed-calls-hold;
     }

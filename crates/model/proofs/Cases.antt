@@ -305,16 +305,47 @@ pub record Further : Type 0 where
   pub chains-hold : All chains
   pub areas-hold : All areas
 
-pub further-holds : Further
+endings-hold : All endings
 unfolding tableImage programImage chainImage plainTable field finish readTable readProgram readChain readForward readPlainTable readPlainProgram reverse compare comparison chain remainder quotient check followed applied clear cleared packTable unpackTable packProgram unpackProgram under side against cubeAt reversing run next complete
+endings-hold = (refl, (refl, (refl, (refl, (refl, (refl, (refl, (refl, (refl, (refl, (refl, (refl, (refl, (refl, (refl, tt)))))))))))))))
+
+triples-hold : All triples
+unfolding tableImage programImage chainImage plainTable field finish readTable readProgram readChain readForward readPlainTable readPlainProgram reverse compare comparison chain remainder quotient check followed applied clear cleared packTable unpackTable packProgram unpackProgram under side against cubeAt reversing run next complete
+triples-hold = (refl, (refl, (refl, (refl, (refl, (refl, (refl, (refl, (refl, (refl, (refl, (refl, (refl, (refl, (refl, (refl, (refl, tt)))))))))))))))))
+
+tables-hold : All tables
+unfolding tableImage programImage chainImage plainTable field finish readTable readProgram readChain readForward readPlainTable readPlainProgram reverse compare comparison chain remainder quotient check followed applied clear cleared packTable unpackTable packProgram unpackProgram under side against cubeAt reversing run next complete
+tables-hold = (refl, (refl, (refl, (refl, (refl, (refl, (refl, (refl, (refl, (refl, (refl, (refl, (refl, (refl, (refl, (refl, (refl, (refl, (refl, (refl, (refl, (refl, (refl, (refl, (refl, (refl, (refl, (refl, (refl, (refl, (refl, (refl, (refl, (refl, tt))))))))))))))))))))))))))))))))))
+
+programs-hold : All programs
+unfolding tableImage programImage chainImage plainTable field finish readTable readProgram readChain readForward readPlainTable readPlainProgram reverse compare comparison chain remainder quotient check followed applied clear cleared packTable unpackTable packProgram unpackProgram under side against cubeAt reversing run next complete
+programs-hold = (refl, (refl, (refl, (refl, (refl, (refl, (refl, (refl, (refl, (refl, (refl, (refl, (refl, (refl, (refl, (refl, (refl, (refl, (refl, (refl, (refl, (refl, (refl, (refl, tt))))))))))))))))))))))))
+
+comparisons-hold : All comparisons
+unfolding tableImage programImage chainImage plainTable field finish readTable readProgram readChain readForward readPlainTable readPlainProgram reverse compare comparison chain remainder quotient check followed applied clear cleared packTable unpackTable packProgram unpackProgram under side against cubeAt reversing run next complete
+comparisons-hold = (refl, (refl, (refl, (refl, (refl, (refl, (refl, (refl, (refl, (refl, (refl, (refl, (refl, (refl, (refl, (refl, tt))))))))))))))))
+
+remainders-hold : All remainders
+unfolding tableImage programImage chainImage plainTable field finish readTable readProgram readChain readForward readPlainTable readPlainProgram reverse compare comparison chain remainder quotient check followed applied clear cleared packTable unpackTable packProgram unpackProgram under side against cubeAt reversing run next complete
+remainders-hold = (refl, (refl, (refl, (refl, (refl, (refl, (refl, (refl, (refl, (refl, (refl, (refl, (refl, (refl, (refl, (refl, (refl, (refl, (refl, (refl, (refl, (refl, (refl, (refl, (refl, (refl, tt))))))))))))))))))))))))))
+
+chains-hold : All chains
+unfolding tableImage programImage chainImage plainTable field finish readTable readProgram readChain readForward readPlainTable readPlainProgram reverse compare comparison chain remainder quotient check followed applied clear cleared packTable unpackTable packProgram unpackProgram under side against cubeAt reversing run next complete
+chains-hold = (refl, (refl, (refl, (refl, (refl, (refl, (refl, (refl, (refl, (refl, (refl, (refl, (refl, (refl, (refl, (refl, (refl, (refl, (refl, (refl, tt))))))))))))))))))))
+
+areas-hold : All areas
+unfolding tableImage programImage chainImage plainTable field finish readTable readProgram readChain readForward readPlainTable readPlainProgram reverse compare comparison chain remainder quotient check followed applied clear cleared packTable unpackTable packProgram unpackProgram under side against cubeAt reversing run next complete
+areas-hold = (refl, (refl, (refl, (refl, (refl, (refl, (refl, (refl, tt))))))))
+
+pub further-holds : Further
 further-holds =
     record {
-      endings-hold = (refl, (refl, (refl, (refl, (refl, (refl, (refl, (refl, (refl, (refl, (refl, (refl, (refl, (refl, (refl, tt)))))))))))))));
-      triples-hold = (refl, (refl, (refl, (refl, (refl, (refl, (refl, (refl, (refl, (refl, (refl, (refl, (refl, (refl, (refl, (refl, (refl, tt)))))))))))))))));
-      tables-hold = (refl, (refl, (refl, (refl, (refl, (refl, (refl, (refl, (refl, (refl, (refl, (refl, (refl, (refl, (refl, (refl, (refl, (refl, (refl, (refl, (refl, (refl, (refl, (refl, (refl, (refl, (refl, (refl, (refl, (refl, (refl, (refl, (refl, (refl, tt))))))))))))))))))))))))))))))))));
-      programs-hold = (refl, (refl, (refl, (refl, (refl, (refl, (refl, (refl, (refl, (refl, (refl, (refl, (refl, (refl, (refl, (refl, (refl, (refl, (refl, (refl, (refl, (refl, (refl, (refl, tt))))))))))))))))))))))));
-      comparisons-hold = (refl, (refl, (refl, (refl, (refl, (refl, (refl, (refl, (refl, (refl, (refl, (refl, (refl, (refl, (refl, (refl, tt))))))))))))))));
-      remainders-hold = (refl, (refl, (refl, (refl, (refl, (refl, (refl, (refl, (refl, (refl, (refl, (refl, (refl, (refl, (refl, (refl, (refl, (refl, (refl, (refl, (refl, (refl, (refl, (refl, (refl, (refl, tt))))))))))))))))))))))))));
-      chains-hold = (refl, (refl, (refl, (refl, (refl, (refl, (refl, (refl, (refl, (refl, (refl, (refl, (refl, (refl, (refl, (refl, (refl, (refl, (refl, (refl, tt))))))))))))))))))));
-      areas-hold = (refl, (refl, (refl, (refl, (refl, (refl, (refl, (refl, tt))))))));
+      endings-hold = endings-hold;
+      triples-hold = triples-hold;
+      tables-hold = tables-hold;
+      programs-hold = programs-hold;
+      comparisons-hold = comparisons-hold;
+      remainders-hold = remainders-hold;
+      chains-hold = chains-hold;
+      areas-hold = areas-hold;
     }

@@ -51,10 +51,17 @@ pub record EnquiryCases : Type 0 where
   pub enquiries-hold : All enquiries
   pub commits-hold : All commits
 
-pub enquiry-cases-hold : EnquiryCases
+enquiries-hold : All enquiries
 unfolding tableImage programImage field finish readTable readProgram enquire commit reversing run next complete
+enquiries-hold = (refl, (refl, (refl, (refl, (refl, (refl, (refl, (refl, tt))))))))
+
+commits-hold : All commits
+unfolding tableImage programImage field finish readTable readProgram enquire commit reversing run next complete
+commits-hold = (refl, (refl, (refl, (refl, (refl, (refl, (refl, (refl, (refl, (refl, (refl, (refl, tt))))))))))))
+
+pub enquiry-cases-hold : EnquiryCases
 enquiry-cases-hold =
     record {
-      enquiries-hold = (refl, (refl, (refl, (refl, (refl, (refl, (refl, (refl, tt))))))));
-      commits-hold = (refl, (refl, (refl, (refl, (refl, (refl, (refl, (refl, (refl, (refl, (refl, (refl, tt))))))))))));
+      enquiries-hold = enquiries-hold;
+      commits-hold = commits-hold;
     }

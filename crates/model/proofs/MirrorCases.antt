@@ -113,12 +113,27 @@ pub record MirrorCases : Type 0 where
   pub left-reverses-hold : All leftReverses
   pub mirror-clears-hold : All mirrorClears
 
-pub mirror-cases-hold : MirrorCases
+mirrors-hold : All mirrors
 unfolding complete mirrorCheck leftComplete leftNext leftRun leftReversing leftFraction leftReverse mirrorCleared mirrorClear clear cleared reversing run next under side against cubeAt readTable readProgram tableImage programImage field finish
+mirrors-hold = (refl, (refl, (refl, (refl, (refl, (refl, (refl, (refl, (refl, (refl, (refl, (refl, (refl, (refl, (refl, (refl, (refl, (refl, tt))))))))))))))))))
+
+left-reversings-hold : All leftReversings
+unfolding complete mirrorCheck leftComplete leftNext leftRun leftReversing leftFraction leftReverse mirrorCleared mirrorClear clear cleared reversing run next under side against cubeAt readTable readProgram tableImage programImage field finish
+left-reversings-hold = (refl, (refl, (refl, (refl, (refl, (refl, (refl, (refl, (refl, tt)))))))))
+
+left-reverses-hold : All leftReverses
+unfolding complete mirrorCheck leftComplete leftNext leftRun leftReversing leftFraction leftReverse mirrorCleared mirrorClear clear cleared reversing run next under side against cubeAt readTable readProgram tableImage programImage field finish
+left-reverses-hold = (refl, (refl, (refl, (refl, (refl, (refl, (refl, (refl, (refl, (refl, (refl, tt)))))))))))
+
+mirror-clears-hold : All mirrorClears
+unfolding complete mirrorCheck leftComplete leftNext leftRun leftReversing leftFraction leftReverse mirrorCleared mirrorClear clear cleared reversing run next under side against cubeAt readTable readProgram tableImage programImage field finish
+mirror-clears-hold = (refl, (refl, (refl, (refl, (refl, (refl, (refl, (refl, (refl, (refl, (refl, (refl, (refl, (refl, tt))))))))))))))
+
+pub mirror-cases-hold : MirrorCases
 mirror-cases-hold =
     record {
-      mirrors-hold = (refl, (refl, (refl, (refl, (refl, (refl, (refl, (refl, (refl, (refl, (refl, (refl, (refl, (refl, (refl, (refl, (refl, (refl, tt))))))))))))))))));
-      left-reversings-hold = (refl, (refl, (refl, (refl, (refl, (refl, (refl, (refl, (refl, tt)))))))));
-      left-reverses-hold = (refl, (refl, (refl, (refl, (refl, (refl, (refl, (refl, (refl, (refl, (refl, tt)))))))))));
-      mirror-clears-hold = (refl, (refl, (refl, (refl, (refl, (refl, (refl, (refl, (refl, (refl, (refl, (refl, (refl, (refl, tt))))))))))))));
+      mirrors-hold = mirrors-hold;
+      left-reversings-hold = left-reversings-hold;
+      left-reverses-hold = left-reverses-hold;
+      mirror-clears-hold = mirror-clears-hold;
     }

@@ -192,13 +192,32 @@ pub record NotationCases : Type 0 where
   pub meanings-hold : All meanings
   pub calls-hold : All calls
 
-pub notation-cases-hold : NotationCases
+writings-hold : All writings
 unfolding field finish readTable readItem readItems readPattern readText imported import
+writings-hold = (refl, (refl, (refl, (refl, (refl, (refl, (refl, tt)))))))
+
+readings-hold : All readings
+unfolding field finish readTable readItem readItems readPattern readText imported import
+readings-hold = (refl, (refl, (refl, (refl, (refl, (refl, (refl, (refl, (refl, tt)))))))))
+
+others-hold : All others
+unfolding field finish readTable readItem readItems readPattern readText imported import
+others-hold = (refl, (refl, (refl, (refl, (refl, (refl, (refl, (refl, (refl, (refl, (refl, (refl, (refl, (refl, (refl, (refl, (refl, (refl, (refl, (refl, (refl, (refl, (refl, (refl, (refl, (refl, (refl, (refl, tt))))))))))))))))))))))))))))
+
+meanings-hold : All meanings
+unfolding field finish readTable readItem readItems readPattern readText imported import
+meanings-hold = (refl, (refl, (refl, (refl, (refl, (refl, (refl, (refl, tt))))))))
+
+calls-hold : All calls
+unfolding field finish readTable readItem readItems readPattern readText imported import
+calls-hold = (refl, (refl, (refl, (refl, (refl, (refl, (refl, (refl, (refl, (refl, (refl, (refl, (refl, (refl, (refl, (refl, (refl, (refl, tt))))))))))))))))))
+
+pub notation-cases-hold : NotationCases
 notation-cases-hold =
     record {
-      writings-hold = (refl, (refl, (refl, (refl, (refl, (refl, (refl, tt)))))));
-      readings-hold = (refl, (refl, (refl, (refl, (refl, (refl, (refl, (refl, (refl, tt)))))))));
-      others-hold = (refl, (refl, (refl, (refl, (refl, (refl, (refl, (refl, (refl, (refl, (refl, (refl, (refl, (refl, (refl, (refl, (refl, (refl, (refl, (refl, (refl, (refl, (refl, (refl, (refl, (refl, (refl, (refl, tt))))))))))))))))))))))))))));
-      meanings-hold = (refl, (refl, (refl, (refl, (refl, (refl, (refl, (refl, tt))))))));
-      calls-hold = (refl, (refl, (refl, (refl, (refl, (refl, (refl, (refl, (refl, (refl, (refl, (refl, (refl, (refl, (refl, (refl, (refl, (refl, tt))))))))))))))))));
+      writings-hold = writings-hold;
+      readings-hold = readings-hold;
+      others-hold = others-hold;
+      meanings-hold = meanings-hold;
+      calls-hold = calls-hold;
     }

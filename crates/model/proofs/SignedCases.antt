@@ -215,14 +215,37 @@ pub record SignedCases : Type 0 where
   pub stops-hold : All stops
   pub refusals-hold : All refusals
 
-pub signed-cases-hold : SignedCases
+growings-hold : All growings
 unfolding complete mirrorCheck cleared reversing run next under side against cubeAt readTable readProgram tableImage programImage field finish grownFrom grownSet signedComparison compareSigned
+growings-hold = (refl, (refl, (refl, (refl, (refl, (refl, (refl, (refl, (refl, (refl, (refl, (refl, (refl, (refl, (refl, (refl, (refl, tt)))))))))))))))))
+
+sets-hold : All sets
+unfolding complete mirrorCheck cleared reversing run next under side against cubeAt readTable readProgram tableImage programImage field finish grownFrom grownSet signedComparison compareSigned
+sets-hold = (refl, (refl, (refl, (refl, (refl, (refl, (refl, (refl, (refl, (refl, (refl, (refl, (refl, (refl, (refl, (refl, (refl, tt)))))))))))))))))
+
+sames-hold : All sames
+unfolding complete mirrorCheck cleared reversing run next under side against cubeAt readTable readProgram tableImage programImage field finish grownFrom grownSet signedComparison compareSigned
+sames-hold = (refl, (refl, (refl, (refl, (refl, (refl, (refl, (refl, (refl, (refl, (refl, (refl, (refl, (refl, (refl, (refl, tt))))))))))))))))
+
+differents-hold : All differents
+unfolding complete mirrorCheck cleared reversing run next under side against cubeAt readTable readProgram tableImage programImage field finish grownFrom grownSet signedComparison compareSigned
+differents-hold = (refl, (refl, (refl, (refl, (refl, (refl, (refl, (refl, (refl, (refl, tt))))))))))
+
+stops-hold : All stops
+unfolding complete mirrorCheck cleared reversing run next under side against cubeAt readTable readProgram tableImage programImage field finish grownFrom grownSet signedComparison compareSigned
+stops-hold = (refl, (refl, (refl, (refl, (refl, (refl, (refl, (refl, (refl, (refl, (refl, (refl, tt))))))))))))
+
+refusals-hold : All refusals
+unfolding complete mirrorCheck cleared reversing run next under side against cubeAt readTable readProgram tableImage programImage field finish grownFrom grownSet signedComparison compareSigned
+refusals-hold = (refl, (refl, (refl, (refl, (refl, (refl, (refl, (refl, (refl, (refl, (refl, (refl, (refl, (refl, (refl, (refl, (refl, (refl, (refl, (refl, (refl, (refl, (refl, (refl, (refl, (refl, tt))))))))))))))))))))))))))
+
+pub signed-cases-hold : SignedCases
 signed-cases-hold =
     record {
-      growings-hold = (refl, (refl, (refl, (refl, (refl, (refl, (refl, (refl, (refl, (refl, (refl, (refl, (refl, (refl, (refl, (refl, (refl, tt)))))))))))))))));
-      sets-hold = (refl, (refl, (refl, (refl, (refl, (refl, (refl, (refl, (refl, (refl, (refl, (refl, (refl, (refl, (refl, (refl, (refl, tt)))))))))))))))));
-      sames-hold = (refl, (refl, (refl, (refl, (refl, (refl, (refl, (refl, (refl, (refl, (refl, (refl, (refl, (refl, (refl, (refl, tt))))))))))))))));
-      differents-hold = (refl, (refl, (refl, (refl, (refl, (refl, (refl, (refl, (refl, (refl, tt))))))))));
-      stops-hold = (refl, (refl, (refl, (refl, (refl, (refl, (refl, (refl, (refl, (refl, (refl, (refl, tt))))))))))));
-      refusals-hold = (refl, (refl, (refl, (refl, (refl, (refl, (refl, (refl, (refl, (refl, (refl, (refl, (refl, (refl, (refl, (refl, (refl, (refl, (refl, (refl, (refl, (refl, (refl, (refl, (refl, (refl, tt))))))))))))))))))))))))));
+      growings-hold = growings-hold;
+      sets-hold = sets-hold;
+      sames-hold = sames-hold;
+      differents-hold = differents-hold;
+      stops-hold = stops-hold;
+      refusals-hold = refusals-hold;
     }

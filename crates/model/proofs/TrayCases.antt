@@ -106,11 +106,22 @@ pub record TrayCases : Type 0 where
   pub answers-hold : All answers
   pub orders-hold : All orders
 
-pub tray-cases-hold : TrayCases
+trays-hold : All trays
 unfolding complete cleared reversing run next under side against cubeAt readTable readProgram readForward tableImage programImage field finish compare comparison readLog readTray tray
+trays-hold = (refl, (refl, (refl, (refl, (refl, (refl, (refl, (refl, (refl, (refl, (refl, (refl, (refl, (refl, (refl, tt)))))))))))))))
+
+answers-hold : All answers
+unfolding complete cleared reversing run next under side against cubeAt readTable readProgram readForward tableImage programImage field finish compare comparison readLog readTray tray
+answers-hold = (refl, (refl, (refl, (refl, (refl, (refl, (refl, (refl, (refl, (refl, tt))))))))))
+
+orders-hold : All orders
+unfolding complete cleared reversing run next under side against cubeAt readTable readProgram readForward tableImage programImage field finish compare comparison readLog readTray tray
+orders-hold = (refl, (refl, (refl, (refl, (refl, (refl, (refl, (refl, (refl, (refl, (refl, (refl, (refl, (refl, (refl, (refl, (refl, (refl, (refl, (refl, tt))))))))))))))))))))
+
+pub tray-cases-hold : TrayCases
 tray-cases-hold =
     record {
-      trays-hold = (refl, (refl, (refl, (refl, (refl, (refl, (refl, (refl, (refl, (refl, (refl, (refl, (refl, (refl, (refl, tt)))))))))))))));
-      answers-hold = (refl, (refl, (refl, (refl, (refl, (refl, (refl, (refl, (refl, (refl, tt))))))))));
-      orders-hold = (refl, (refl, (refl, (refl, (refl, (refl, (refl, (refl, (refl, (refl, (refl, (refl, (refl, (refl, (refl, (refl, (refl, (refl, (refl, (refl, tt))))))))))))))))))));
+      trays-hold = trays-hold;
+      answers-hold = answers-hold;
+      orders-hold = orders-hold;
     }

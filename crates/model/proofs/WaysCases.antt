@@ -79,11 +79,22 @@ pub record WaysCases : Type 0 where
   pub listings-hold : All listings
   pub ways-calls-hold : All waysCalls
 
-pub ways-cases-hold : WaysCases
+orders-hold : All orders
 unfolding complete applied tableImage programImage field finish readTable readProgram readForward closure listing ways
+orders-hold = (refl, (refl, (refl, (refl, (refl, (refl, (refl, (refl, (refl, (refl, tt))))))))))
+
+listings-hold : All listings
+unfolding complete applied tableImage programImage field finish readTable readProgram readForward closure listing ways
+listings-hold = (refl, (refl, (refl, (refl, (refl, (refl, (refl, (refl, (refl, (refl, (refl, tt)))))))))))
+
+ways-calls-hold : All waysCalls
+unfolding complete applied tableImage programImage field finish readTable readProgram readForward closure listing ways
+ways-calls-hold = (refl, (refl, (refl, (refl, (refl, (refl, (refl, (refl, (refl, (refl, (refl, (refl, (refl, (refl, (refl, (refl, tt))))))))))))))))
+
+pub ways-cases-hold : WaysCases
 ways-cases-hold =
     record {
-      orders-hold = (refl, (refl, (refl, (refl, (refl, (refl, (refl, (refl, (refl, (refl, tt))))))))));
-      listings-hold = (refl, (refl, (refl, (refl, (refl, (refl, (refl, (refl, (refl, (refl, (refl, tt)))))))))));
-      ways-calls-hold = (refl, (refl, (refl, (refl, (refl, (refl, (refl, (refl, (refl, (refl, (refl, (refl, (refl, (refl, (refl, (refl, tt))))))))))))))));
+      orders-hold = orders-hold;
+      listings-hold = listings-hold;
+      ways-calls-hold = ways-calls-hold;
     }
