@@ -11,37 +11,25 @@ listed() {
     echo
     echo 'Each is one wrong version of a crate, which the check must refuse because a fact no longer holds. Made from the edits by `sh tests/edits.sh --write`.'
     echo
-    echo 'The last column names an input at which the version is wrong. Tables B, S, O and so on, W, A, k and z are those of section 10 of `SPECIFICATION.md`;'
+    echo 'The fourth column names an input at which the version is wrong. Tables B, S, O and so on, W, A, k and z are those of section 10 of `SPECIFICATION.md`;'
     echo 'what is not named is as in 2.4 there. An edit is of `src/` or `specs/`. What it changes in a proof beside that only fits the proof to the edited shape,'
     echo 'so that the fact alone is refused, and its line `# fits the proof:` says what. An edit of `proofs/` alone changes what a public law there states,'
-    echo 'and its line `# wrong law:` names the law.'
+    echo 'and its line `# wrong law:` names the law. Versions of different functions or definitions may be tried in one edit, which the last column names; then each has a'
+    echo 'line `# refused at:` with the file and the need where it is refused, and `tests/looks.sh` demands every such refusal.'
     echo
-    echo '| crate | edit | wrong version | where it is wrong |'
-    echo '|---|---|---|---|'
-    for edit in "$1"/crates/*/must-fail/*.edit; do
-        path=${edit#"$1"/crates/}
-        crate=${path%%/*}
-        label=$(basename "$edit" .edit)
-        text=$(sed -n -e '/^# wrong at: /d' -e '/^# fits the proof: /d' -e '/^# wrong law: /d' -e 's/^# *//p' "$edit" | tr '\n' ' ' | sed 's/ *$//; s/|/\\|/g')
-        input=$(sed -n 's/^# wrong at: *//p' "$edit" | tr '\n' ' ' | sed 's/ *$//; s/|/\\|/g')
-        echo "| \`$crate\` | \`$label\` | $text | $input |"
-    done
+    echo '| crate | version | wrong version | where it is wrong | tried in |'
+    echo '|---|---|---|---|---|'
+    awk -f tests/versions.awk "$1"/crates/*/must-fail/*.edit | sed 's/|/\\|/g' |
+        awk -F '\t' '{ printf "| `%s` | `%s` | %s | %s | %s |\n", $1, $3, $4, $5, $2 == $3 ? "" : "`" $2 "`" }'
 }
 
-# faults TREE: each edit that does not say in its comments what it must
+# faults TREE: each version that does not say in its comments what it must
 faults() {
     for edit in "$1"/crates/*/must-fail/*.edit; do
         [ -f "$edit" ] || { echo "no edit is there"; continue; }
         awk -v edit="${edit#"$1"/}" -v crate="${edit%/must-fail/*}" '
-            function fault(text) { print edit ": " text }
-            /^# wrong at: / { at++; if ($0 !~ /^# wrong at: .+: .+/) bare = 1; next }
-            /^# fits the proof: ./ { fits++; next }
-            /^# wrong law: / { law++; name = $4; if (!sub(/:$/, "", name) || NF < 5) name = ""; next }
-            /^# ./ { said++ }
-            /^file: / { file = substr($0, 7) }
-            /^old: / && file ~ /^proofs\// { proof++; files[file] = 1 }
-            /^old: / && file !~ /^proofs\// { version++ }
-            END {
+            function fault(text) { print edit (several ? ", " label : "") ": " text }
+            function judged(    f, line, there) {
                 if (!said) fault("no comment says what the wrong version is")
                 if (at != 1 || bare) fault("no line \"# wrong at: INPUT: ..\"")
                 if (version && proof && fits != 1) fault("a proof is changed, and no line \"# fits the proof: ..\"")
@@ -50,11 +38,39 @@ faults() {
                 if (law && version) fault("not only a law is changed")
                 if (law && !version) {
                     there = 0
-                    for (f in files) while ((getline line < (crate "/" f)) > 0) if (name != "" && index(line, "pub " name " : ")) there = 1
+                    for (f in files) { while ((getline line < (crate "/" f)) > 0) if (name != "" && index(line, "pub " name " : ")) there = 1; close(crate "/" f) }
                     if (!there) fault("no public law of this name in the file that is changed")
                 }
-            }' "$edit"
+                if (several && refused != 1) fault("one of several versions, and no line \"# refused at: FILE NEED\"")
+                if (refused && place in taken) fault("another version is refused at the same need")
+                if (refused) {
+                    taken[place] = 1
+                    f = place
+                    sub(/ .*/, "", f)
+                    if ((getline line < (crate "/" f)) < 0) fault("no file " f " is there to be refused"); else close(crate "/" f)
+                }
+            }
+            function begun() { said = at = bare = fits = law = proof = version = refused = 0; name = place = ""; split("", files) }
+            BEGIN { begun() }
+            /^# version: / {
+                if (count || said || at || version || proof) judged()
+                begun()
+                several = 1
+                label = $3
+                count++
+                next
+            }
+            /^# wrong at: / { at++; if ($0 !~ /^# wrong at: .+: .+/) bare = 1; next }
+            /^# fits the proof: ./ { fits++; next }
+            /^# refused at: [^ ]+ ./ { refused++; place = $4 " " $5; sub(/:$/, "", place); next }
+            /^# wrong law: / { law++; name = $4; if (!sub(/:$/, "", name) || NF < 5) name = ""; next }
+            /^# ./ { said++ }
+            /^file: / { file = substr($0, 7) }
+            /^old: / && file ~ /^proofs\// { proof++; files[file] = 1 }
+            /^old: / && file !~ /^proofs\// { version++ }
+            END { judged(); if (count == 1) { several = 0; fault("one version alone needs no name of its own") } }' "$edit"
     done
+    awk -f tests/versions.awk "$1"/crates/*/must-fail/*.edit | cut -f1,3 | sort | uniq -d | sed 's/\t/: two versions are named /'
 }
 
 mkdir -p target
@@ -105,6 +121,19 @@ judged 'only a proof is changed, and no line "# wrong law: NAME: .."' "$said${in
 judged 'not only a law is changed' "$said$input# fits the proof: a need\n# wrong law: named: its hypothesis\n$version$proof"
 judged 'no public law of this name in the file that is changed' "$said$input# wrong law: law: its hypothesis\n$proof"
 judged 'no public law of this name in the file that is changed' "$said$input# wrong law: named\n$proof"
+place='# refused at: proofs/A.antt'
+judged '' "# version: a\n$said$input$place one\n$version# version: b\n$said$input$place two: a fact\n$version"
+# of_version FAULT LINES: the same of a version beside a sound one
+of_version() {
+    printf '%b' "# version: a\n$said$input$place one\n$version# version: b\n$2" > "$work/crates/x/must-fail/y.edit"
+    found=$(faults "$work")
+    if [ "$found" = "crates/x/must-fail/y.edit, b: $1" ]; then passed=$((passed + 1)); else failed=$((failed + 1)); printf 'failed: of a version with %s it is found: %s\n' "$1" "$found"; fi
+}
+of_version 'one of several versions, and no line "# refused at: FILE NEED"' "$said$input$version"
+of_version 'another version is refused at the same need' "$said$input$place one\n$version"
+of_version 'no file proofs/B.antt is there to be refused' "$said$input# refused at: proofs/B.antt one\n$version"
+of_version 'no line "# wrong at: INPUT: .."' "$said$place two\n$version"
+judged 'one version alone needs no name of its own' "# version: a\n$said$input$place one\n$version"
 
 echo "$passed passed, $failed failed"
 [ "$failed" -eq 0 ]

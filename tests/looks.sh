@@ -2,6 +2,7 @@
 # Looks that no proof takes, at the tree and at what `rt ci` left in target/; then a case for each look in which it must find the fault.
 # Usage: tests/looks.sh, after `rt ci`. The last line is 'N passed, M failed'.
 cd "$(dirname "$0")/.." || exit 1
+top=$PWD
 passed=0
 failed=0
 
@@ -44,29 +45,53 @@ axioms() {
     done
 }
 
-# No must-fail edit is refused only because a proof file no longer fits the code, or for what it wrote itself into a proof or a definition: of each log the
-# first error is looked at, by what it says and by the line that it names.
+# error LOG EDIT [FILE NEED]: the first error of a log, or the first at this need that does not only follow from another, with the lines that go on with it
+error() {
+    awk -v place="/must-fail/$2/$3:" -v need="\`$4\`:" -v any="${3:-any}" '
+        !open && /: error/ && (any == "any" || index($0, place) && index($0, ": error: " need) && !/ was not admitted/) { open = 1; print; next }
+        open && /^  / { print; next }
+        open { exit }' "$1"
+}
+
+# why TREE EDIT ERROR [WORDS]: why an error does not show that the version is refused for its fact, by what it says and by the line that it names
+why() {
+    place=$(sed -n "1s|^[^ ]*/must-fail/$2/\\([^ :]*\\):\\([0-9]*\\):.*|\\1 \\2|p" "$3")
+    file=${place% *}
+    line=${place#* }
+    if [ ! -s "$3" ]; then
+        echo 'it is not refused there'
+    elif grep -q -e 'that can be named from here' -e 'expected type `tie\.Need-' -e '` is not in scope$' -e '` is not in scope;' -e 'has no field `' \
+        -e 'explicit arguments* more than' -e 'this pattern needs a function' -e '`omega` does not read the entry' "$3"; then
+        echo 'the proof does not fit'
+    elif [ "${file%%/*}" = specs ]; then
+        echo 'it is no definition'
+    elif [ -n "$4" ]; then
+        grep -q -F -e "$4" "$3" || echo 'the refusal does not have its words'
+    elif [ "${file%%/*}" = proofs ] && [ "$(sed -n "${line}p" "$1/target/must-fail/$2/$file")" != "$(sed -n "${line}p" "$1/crates/${2%/*}/$file")" ]; then
+        echo 'its own proof is refused'
+    fi
+}
+
+# No wrong version is refused only because a proof file no longer fits the code, or for what it wrote itself into a proof or a definition, and none survives beside
+# others of its edit: of each log the first error is looked at, or, where a version names its refusal, the error there. Its words, where it names some, may stand at a line
+# that the edit wrote.
 unfit() {
     for log in "$1"/target/must-fail/*/*/.log; do
         [ -f "$log" ] || { echo "no edit was tried"; continue; }
-        copy=${log%/.log}
-        edit=${copy#"$1"/target/must-fail/}
-        awk '!open && /: error/ { open = 1; print; next } open && /^  / { print; next } open { exit }' "$log" > "$2/first"
-        place=$(sed -n "1s|^[^ ]*/must-fail/$edit/\\([^ :]*\\):\\([0-9]*\\):.*|\\1 \\2|p" "$2/first")
-        file=${place% *}
-        line=${place#* }
-        why=
-        if grep -q -e 'that can be named from here' -e 'expected type `tie\.Need-' -e '` is not in scope$' -e '` is not in scope;' -e 'has no field `' \
-            -e 'explicit arguments* more than' -e 'this pattern needs a function' -e '`omega` does not read the entry' "$2/first"; then
-            why='the proof does not fit'
-        elif [ "${file%%/*}" = specs ]; then
-            why='it is no definition'
-        elif [ "${file%%/*}" = proofs ] && [ "$(sed -n "${line}p" "$copy/$file")" != "$(sed -n "${line}p" "$1/crates/${edit%/*}/$file")" ]; then
-            why='its own proof is refused'
-        fi
-        [ -z "$why" ] || { echo "$edit: $why: $(head -n 1 "$2/first")" | cut -c1-300; }
+        edit=${log#"$1"/target/must-fail/}
+        edit=${edit%/.log}
+        said="$1/crates/${edit%/*}/must-fail/${edit#*/}.edit"
+        if [ -f "$said" ]; then awk -f tests/versions.awk "$said"; else printf '\t\t%s\t\t\t\t\t\n' "${edit#*/}"; fi | cut -f3,6-8 | tr '\t' '|' > "$2/versions"
+        while IFS='|' read -r version named need words; do
+            error "$log" "$edit" $named $need > "$2/error"
+            fault=$(why "$1" "$edit" "$2/error" "$words")
+            [ -z "$fault" ] || echo "${edit%/*}/$version: $fault: ${named:+$named $need: }$(head -n 1 "$2/error")" | cut -c1-300
+        done < "$2/versions"
     done
 }
+
+# Every public definition of specs/ is reached by a contract, through the definitions that it cites: what no promise cites can be deleted unseen.
+uncited() { (cd "$1" && awk -f "$top/tests/uncited.awk" crates/*/specs/*.antt crates/*/src/*.rt); }
 
 # The kit on which the gate was last green; another one is told.
 toolchain() { rt version | cmp -s - "$1/.ci/toolchain" || echo "the gate was last green on $(cat "$1/.ci/toolchain" 2> /dev/null), this is $(rt version)"; }
@@ -94,7 +119,7 @@ passes() {
 
 work=$(mktemp -d) || exit 1
 trap 'rm -rf "$work"' EXIT
-for name in promises asks_nothing axioms unfit; do look $name; done
+for name in promises asks_nothing axioms unfit uncited; do look $name; done
 # A newer kit that proves everything is no fault: it counts nothing.
 toolchain .
 
@@ -135,6 +160,35 @@ refused specs/A.antt:3 'expected type `A`, but this has type `B`'
 sees unfit 'an edit that is no definition'
 refused proofs/A.antt:3 'expected type `A`, but this has type `B`\n  `b` is not in scope here, so what is shown does not paste back'
 passes unfit 'an edit that is refused for a fact'
+# joint NEED [WORDS]: two versions in one edit, of which the second names this refusal
+joint() {
+    refused proofs/A.antt:3 '`a`: expected type `A`, but this has type `B`'
+    printf '%s/proofs/A.antt:1:1: error: `b`: expected `1`\n%s/proofs/A.antt:2:1: error: `c`: expected `2`\n%s/proofs/A.antt:3:1: error: `d`: `a` was not admitted\n' \
+        "$edited" "$edited" "$edited" >> "$edited/.log"
+    mkdir -p "$work/tree/crates/x/must-fail"
+    printf '# version: one\n# refused at: proofs/A.antt a\nfile: src/x.rt\n# version: two\n# refused at: proofs/A.antt %s\n' "$1" > "$work/tree/crates/x/must-fail/y.edit"
+}
+joint b
+passes unfit 'two versions in one edit, each refused at its need'
+joint e
+sees unfit 'one of two versions in one edit that is not refused'
+joint d
+sees unfit 'one of two versions whose refusal only follows from another'
+joint c
+sees unfit 'one of two versions whose own proof is refused'
+joint 'c: expected `2`'
+passes unfit 'a version that is refused with its words at a line that it wrote'
+joint 'c: expected `3`'
+sees unfit 'a version that is refused for something else'
+mkdir -p "$work/tree/crates/x/specs"
+printf 'pub fn one(x: u8) -> u8\n    ensures { λ r. ⌜ Cited x r ⌝ }\n{\n    x\n}\n' > "$work/tree/crates/x/src/x.rt"
+sed -i '1i ghost use Rattle.x.specs.A.{Cited};' "$work/tree/crates/x/src/x.rt"
+printf 'abbrev pub Cited : ℕ → ℕ → Type 0\nCited x r = Below x r\n\nabbrev pub Below : ℕ → ℕ → Type 0\nBelow x r = x ≡ r\n' > "$work/tree/crates/x/specs/A.antt"
+cp -r "$work/tree" "$work/cited"
+passes uncited 'definitions that a contract reaches'
+cp -r "$work/cited/." "$work/tree"
+printf '\n-- a law of two numbers\nabbrev pub Law : ℕ → Type 0\nLaw x = Cited x x\n' >> "$work/tree/crates/x/specs/A.antt"
+sees uncited 'a definition that no contract reaches'
 echo 'another kit' > "$work/tree/.ci/toolchain"
 sees toolchain 'another toolchain'
 
