@@ -45,12 +45,18 @@ axioms() {
     done
 }
 
-# error LOG EDIT [FILE NEED]: the first error of a log, or the first at this need that does not only follow from another, with the lines that go on with it
+# error LOG EDIT [FILE NEED]: the first error of a log, or the first at this need that does not only follow from another, with the lines that go on with it; of a
+# function that has no proof file, what is said of the function that NEED names
 error() {
-    awk -v place="/must-fail/$2/$3:" -v need="\`$4\`:" -v any="${3:-any}" '
-        !open && /: error/ && (any == "any" || index($0, place) && index($0, ": error: " need) && !/ was not admitted/) { open = 1; print; next }
-        open && /^  / { print; next }
-        open { exit }' "$1"
+    case $3 in
+        src/*) grep -m 1 "^fn [a-z_:]*::$4: no proof: .* does not close " "$1" ;;
+        *)
+            awk -v place="/must-fail/$2/$3:" -v need="\`$4\`:" -v any="${3:-any}" '
+                !open && /: error/ && (any == "any" || index($0, place) && index($0, ": error: " need) && !/ was not admitted/) { open = 1; print; next }
+                open && /^  / { print; next }
+                open { exit }' "$1"
+            ;;
+    esac
 }
 
 # why TREE EDIT ERROR [WORDS]: why an error does not show that the version is refused for its fact, by what it says and by the line that it names
@@ -170,6 +176,14 @@ joint() {
 }
 joint b
 passes unfit 'two versions in one edit, each refused at its need'
+joint b
+echo 'fn x::a::f: no proof: expected `f-spec` in proofs/a/f/Proof.antt; `search` does not close `returns`' >> "$edited/.log"
+printf '# version: three\n# refused at: src/a.rt f\n' >> "$work/tree/crates/x/must-fail/y.edit"
+passes unfit 'a version that is refused in a function without a proof file'
+joint b
+echo 'fn x::a::f: proved' >> "$edited/.log"
+printf '# version: three\n# refused at: src/a.rt f\n' >> "$work/tree/crates/x/must-fail/y.edit"
+sees unfit 'a version whose function without a proof file is proved'
 joint e
 sees unfit 'one of two versions in one edit that is not refused'
 joint d

@@ -189,17 +189,23 @@ module _ (table text before after : List ℕ) (r : Packed) (a : Answers (import 
       many : length (meaning p) ≡ moves p
       many = notation-meaning .counted p
 
+      means-more : highest p ≤ T .size → 4095 < moves p → Come (packedAs r)
+      means-more low h =
+          told-by (refused 20 unplaced) (outcome-of (answered p) e ∙ too-many (T .size) p (length before) low h)
+          (Comes.too-many T read p is (omega (arith, many)))
+
+      lacks-room : highest p ≤ T .size → moves p ≤ 4095 → length before < moves p → Come (packedAs r)
+      lacks-room low few h =
+          let o = outcome-of (answered p) e ∙ too-short (T .size) p (length before) low few h in
+          let same : length after ≡ length before = ap length (left-by (refused 13 unplaced) o) in
+          told-by (refused 13 unplaced) o (Comes.too-short T read p is (omega (arith, many)))
+
       -- a pattern, by the three tests in their order
       by-tests : Dec (T .size < highest p) → Dec (4095 < moves p) → Dec (length before < moves p) → Come (packedAs r)
       by-tests (yes h) second third =
           told-by (refused 5 unplaced) (outcome-of (answered p) e ∙ move-above (T .size) p (length before) h) (Comes.above T read p is h)
-      by-tests (no low) (yes h) third =
-          told-by (refused 20 unplaced) (outcome-of (answered p) e ∙ too-many (T .size) p (length before) (omega arith) h)
-          (Comes.too-many T read p is (omega (arith, many)))
-      by-tests (no low) (no few) (yes h) =
-          let o = outcome-of (answered p) e ∙ too-short (T .size) p (length before) (omega arith) (omega arith) h in
-          let same : length after ≡ length before = ap length (left-by (refused 13 unplaced) o) in
-          told-by (refused 13 unplaced) o (Comes.too-short T read p is (omega (arith, many)))
+      by-tests (no low) (yes h) third = means-more (omega arith) h
+      by-tests (no low) (no few) (yes h) = lacks-room (omega arith) (omega arith) h
       by-tests (no low) (no few) (no room) =
           let o = outcome-of (answered p) e ∙ laid-out (T .size) p (length before) (omega arith) (omega arith) (omega arith) in
           told-by (answered (meaning p)) o
