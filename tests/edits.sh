@@ -1,6 +1,6 @@
 #!/bin/sh
 # The list of must-fail edits in docs/MUST_FAIL.md is made from the edits: looks that it is the current one, or with --write makes it.
-# Then that each edit says what it must, and a case for each fault that this look must find. The last line is 'N passed, M failed'.
+# Then that each edit says what it must and fits its text, and a case for each fault that these looks must find. The last line is 'N passed, M failed'.
 cd "$(dirname "$0")/.." || exit 1
 passed=0
 failed=0
@@ -73,6 +73,27 @@ faults() {
     awk -f tests/versions.awk "$1"/crates/*/must-fail/*.edit | cut -f1,3 | sort | uniq -d | sed 's/\t/: two versions are named /'
 }
 
+# fits TREE: each edit of which an 'old:' text does not stand in its file exactly once, as `rt` would find it much later
+fits() {
+    for edit in "$1"/crates/*/must-fail/*.edit; do
+        awk -v edit="${edit#"$1"/}" -v crate="${edit%/must-fail/*}" '
+            /^file: / { file = substr($0, 7) }
+            /^old: / { old = substr($0, 6) }
+            /^new:/ {
+                new = substr($0, 5)
+                sub(/^ /, "", new)
+                if (!(file in text)) {
+                    while ((getline line < (crate "/" file)) > 0) text[file] = text[file] line "\n"
+                    close(crate "/" file)
+                }
+                at = old == "" ? 0 : index(text[file], old)
+                rest = substr(text[file], at + length(old))
+                if (!at || index(rest, old)) { print edit ": the text stands " (at ? "more than once" : "not") " in " file ": " substr(old, 1, 100); exit }
+                text[file] = substr(text[file], 1, at - 1) new rest
+            }' "$edit"
+    done
+}
+
 mkdir -p target
 listed . > target/must-fail.md
 if [ "$1" = --write ]; then
@@ -87,6 +108,8 @@ else
 fi
 found=$(faults .)
 if [ -z "$found" ]; then passed=$((passed + 1)); else failed=$((failed + 1)); printf 'failed: edits that do not say what they must\n%s\n' "$found"; fi
+found=$(fits .)
+if [ -z "$found" ]; then passed=$((passed + 1)); else failed=$((failed + 1)); printf 'failed: edits that do not fit their text\n%s\n' "$found"; fi
 
 work=$(mktemp -d) || exit 1
 trap 'rm -rf "$work"' EXIT
@@ -134,6 +157,20 @@ of_version 'another version is refused at the same need' "$said$input$place one\
 of_version 'no file proofs/B.antt is there to be refused' "$said$input# refused at: proofs/B.antt one\n$version"
 of_version 'no line "# wrong at: INPUT: .."' "$said$place two\n$version"
 judged 'one version alone needs no name of its own' "# version: a\n$said$input$place one\n$version"
+
+# fitting FAULT LINES: an edit of proofs/A.antt fits, or with a FAULT it does not
+fitting() {
+    printf 'file: proofs/A.antt\n%b' "$2" > "$work/crates/x/must-fail/y.edit"
+    found=$(fits "$work")
+    case $found in
+        "${1:+crates/x/must-fail/y.edit: the text stands }$1"*) passed=$((passed + 1)) ;;
+        *) failed=$((failed + 1)); printf 'failed: of an edit whose text stands %s it is found: %s\n' "${1:-once}" "$found" ;;
+    esac
+    [ -n "$1" ] || [ -z "$found" ] || { failed=$((failed + 1)); passed=$((passed - 1)); echo "failed: an edit that fits is refused: $found"; }
+}
+fitting '' 'old: pub named\nnew: pub another\nold: another :\nnew: one\n'
+fitting 'not' 'old: missing\nnew: one\n'
+fitting 'more than once' 'old: pub\nnew: one\n'
 
 echo "$passed passed, $failed failed"
 [ "$failed" -eq 0 ]
