@@ -68,5 +68,5 @@ pub record ImportSays (table text : List ℕ) (told : Outcome ℕ) (area : List 
   pub comes : Comes table text area told
   -- a text is that of one pattern in range at the most
   pub one-pattern : (p q : Pattern) → TextIs text p → TextIs text q → p ≡ q
-  -- as every text is that is read, and every pattern in range is read from its text
+  -- what holds of every text that is read, and of the text of every pattern in range
   pub notation : NotationMeaning

@@ -76,7 +76,7 @@ pub record AnyOrder (T : Presentation) (w : Word) : Type 0 where
 
 -- what the outcome of reversing the word says of every order
 pub record OrderMeaning (T : Presentation) (w : Word) (outcome : Outcome Fraction) : Type 0 where
-  -- the word is one of which all that holds
+  -- what holds of every word holds of this one
   pub orders : AnyOrder T w
   -- an answer is reached: the leftmost order finishes with it, and so does every strategy
   pub reached : (f : Fraction) → outcome ≡ answered f → Finishes T w (f .numerator) (f .denominator) (f .steps)

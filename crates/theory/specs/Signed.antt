@@ -79,7 +79,7 @@ pub record ComparisonSigned (T : Presentation) (w v : Word) (steps width : ℕ) 
   pub closed : (S : List Positive) → grownSet T steps width ≡ answered S → ClosedSet T S
   -- after it the outcome is a verdict or a stop,
   pub verdict-or-stop : (S : List Positive) → Prepared T steps width S → VerdictOrStop outcome
-  -- no reversing meets an open pair, of any two words of the table's letters where a closed set is known,
+  -- where the table and its mirror clear and a closed set is known, no reversing of two words of the table's letters meets an open pair,
   pub settled : (S : List Positive) → SignedMeaning T S
   -- and so none of these words or of N and D
   pub reversings : (S : List Positive) → Prepared T steps width S → SignedReversings T w v
