@@ -6,6 +6,7 @@ use native.Mathlib.Omega.{arith}
 use lib.ListN.{length, take, drop, length-drop}
 use lib.Seq.{take-all}
 use Rattle.model.specs.Word.{inverse}
+use Rattle.model.proofs.Impossible.{same-answer}
 use Rattle.images.proofs.RoundTrip.{program-in-range}
 use Rattle.areas.proofs.Parts.{part-back, part-length}
 use Rattle.engine.specs.Gap.{letters}
@@ -34,8 +35,8 @@ returns c =
     record {
       same-length = b .ensures .0 ∙ part-length right mid part reaches (i .ensures .same-length) ∙ a .ensures .0;
       word = λ w v ew ev.
-          let fw : one .program .word ≡ w = cc (one .program .read, ew) in
-          let fv : two .program .word ≡ v = cc (two .program .read, ev) in
+          let fw : one .program .word ≡ w = same-answer (one .program .word) w (sym (one .program .read) ∙ ew) in
+          let fv : two .program .word ≡ v = same-answer (two .program .word) v (sym (two .program .read) ∙ ev) in
           let made = a .ensures .1 w ew in
           subst (λ l. letters (drop right l) ≡ inverse w ++ v) (sym (b .ensures .1 v ev))
           (both-letters size (one .few) w v (program-in-range size (one .few) (s .args .first .now) w ew) (program-in-range size (two .few) (s .args .second .now) v ev) start _ right (s .args .m) (s .args .n)
