@@ -76,7 +76,7 @@ add-if3 : tie.Need-add-if3
 add-if3 c = search needs
 
 sub-if3 : tie.Need-sub-if3
-sub-if3 c = search needs
+sub-if3 c = omega (arith, c .before .before .before .before .before .before .before .before .before .before .before .pre .0)
 
 add-if3-2 : tie.Need-add-if3-2
 add-if3-2 c =
@@ -119,7 +119,7 @@ push-word-requires c κs =
     omega (arith, to-short (s .args .cells .now) (s .args .bytes .now) l r (s .pre .0) (s .pre .1 .0) (s .pre .1 .1) (to .result) (to .ensures) (from .result) (from .ensures) (c .before .before .before .before .before .before .before .if1 .left), to-inside (s .args .cells .now) (s .args .bytes .now) l r (s .pre .0) (s .pre .1 .0) (s .pre .1 .1), to .ensures, s .pre .0 .some-after, inverted .ensures .0, inverted .ensures .1 .same-length, c .before .before .before .before .before .if3 .left)
 
 same-length : tie.Need-same-length
-same-length c = search needs
+same-length c = c .before .before .push-word .ensures .1 .same-length ∙ c .before .before .before .before .before .before .push-inverse .ensures .1 .same-length
 
 returns-4 : tie.Need-returns-4
 returns-4 c =

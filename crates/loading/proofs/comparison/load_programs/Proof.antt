@@ -22,7 +22,9 @@ unpack-letters-requires-2 : tie.Need-unpack-letters-requires-2
 unpack-letters-requires-2 c κs = let s = c .before .before .before .before .before .before .before .before .before .before .before .before in (record { some = s .pre .0 .some; few = s .pre .0 .few; program = record { word = positive (s .pre .0 .two .word); read = s .pre .0 .two .read-signed; count-is = length-positive (s .pre .0 .two .word) ∙ s .pre .0 .two .count-is } }, omega (arith, s .pre .1, c .before .before .before .invert .ensures .same-length, c .before .before .before .before .before .before .before .unpack-letters .ensures .0))
 
 same-length : tie.Need-same-length
-same-length c = search needs
+same-length c =
+    c .before .before .unpack-letters2 .kept .1 .1 .1 .0 ∙ c .before .before .before .before .before .before .invert .kept .0 ∙
+    c .before .before .before .before .before .before .before .before .before .before .unpack-letters .kept .1 .1 .1 .0
 
 returns : tie.Need-returns
 returns c =

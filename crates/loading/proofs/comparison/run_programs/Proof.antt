@@ -36,7 +36,7 @@ reversing-requires c κs =
     (d .searched, (s .pre .table, d .serves))
 
 same-length : tie.Need-same-length
-same-length c = search needs
+same-length c = c .before .before .reversing .kept .1 .0 ∙ c .before .before .before .before .before .before .load-programs .kept .1 .1 .1 .1 .1 .0
 
 returns-2 : tie.Need-returns-2
 returns-2 c =

@@ -38,7 +38,7 @@ reversing-requires c κs =
     (word-searched (s .args .cells .now) (s .args .size) (s .pre .table) (s .pre .of) w p (s .args .workspace .now) (length (s .args .workspace .now) - s .args .count) fit, (s .pre .table, word-served (s .args .cells .now) (s .args .size) (s .pre .table) (s .pre .of) w p (s .args .workspace .now) (length (s .args .workspace .now) - s .args .count) fit))
 
 same-length : tie.Need-same-length
-same-length c = search needs
+same-length c = c .before .before .reversing .kept .1 .0 ∙ c .before .before .before .before .before .before .unpack-letters .kept .1 .1 .1 .0
 
 returns-2 : tie.Need-returns-2
 returns-2 c =

@@ -16,6 +16,46 @@ use borrow.Author.Needs.{needs}
 use Rattle.signed_comparing.proofs.running.load_signed.Statement.{statement}
 use Rattle.signed_comparing.proofs.running.load_signed.Tie as tie
 
+unpack-letters-requires : tie.Need-unpack-letters-requires
+unpack-letters-requires c κs =
+    let s = c .before .before .before .before in
+    (s .pre .0 .one, omega (arith, s .pre .1))
+
+sub-invert : tie.Need-sub-invert
+sub-invert c = search needs
+
+part-invert-start : tie.Need-part-invert-start
+part-invert-start c = search needs
+
+part-invert-end : tie.Need-part-invert-end
+part-invert-end c = search needs
+
+invert-requires : tie.Need-invert-requires
+invert-requires c κs = search needs
+
+add-unpack-letters : tie.Need-add-unpack-letters
+add-unpack-letters c = search needs
+
+unpack-letters-requires-2 : tie.Need-unpack-letters-requires-2
+unpack-letters-requires-2 c κs =
+    let s = c .before .before .before .before .before .before .before .before .before .before .before .before in
+    let right = s .args .right in
+    let a = c .before .before .before .before .before .before .before .unpack-letters in
+    let i = c .before .before .before .invert in
+    let mid = a .last .1 .1 .1 .0 in
+    let reaches : right ≤ length mid = omega (arith, a .ensures .0, s .pre .1) in
+    (s .pre .0 .two, omega (arith, part-length right mid (i .last .0) reaches (i .ensures .same-length), a .ensures .0, s .pre .1))
+
+same-length : tie.Need-same-length
+same-length c =
+    let s = c .before .before .before .before .before .before .before .before .before .before .before .before .before .before .before in
+    let right = s .args .right in
+    let a = c .before .before .before .before .before .before .before .before .before .before .unpack-letters in
+    let i = c .before .before .before .before .before .before .invert in
+    let mid = a .last .1 .1 .1 .0 in
+    let reaches : right ≤ length mid = omega (arith, a .ensures .0, s .pre .1) in
+    c .before .before .unpack-letters2 .ensures .0 ∙ part-length right mid (i .last .0) reaches (i .ensures .same-length) ∙ a .ensures .0
+
 returns : tie.Need-returns
 returns c =
     let s = c .before .before .before .before .before .before .before .before .before .before .before .before .before .before .before in
@@ -47,13 +87,4 @@ returns c =
 pub load-signed-spec : {M : Type 1} → statement M
 load-signed-spec =
     tie.close
-    (tie.spec
-    (λ c κs. search needs)
-    (λ c. search needs)
-    (λ c. search needs)
-    (λ c. search needs)
-    (λ c κs. search needs)
-    (λ c. search needs)
-    (λ c κs. search needs)
-    (λ c. search needs)
-    returns)
+    (tie.spec unpack-letters-requires sub-invert part-invert-start part-invert-end invert-requires add-unpack-letters unpack-letters-requires-2 same-length returns)
