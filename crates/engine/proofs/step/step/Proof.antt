@@ -119,7 +119,7 @@ push-word-requires c κs =
     omega (arith, to-short (s .args .cells .now) (s .args .bytes .now) l r (s .pre .0) (s .pre .1 .0) (s .pre .1 .1) (to .result) (to .ensures) (from .result) (from .ensures) (c .before .before .before .before .before .before .before .if1 .left), to-inside (s .args .cells .now) (s .args .bytes .now) l r (s .pre .0) (s .pre .1 .0) (s .pre .1 .1), to .ensures, s .pre .0 .some-after, inverted .ensures .0, inverted .ensures .1 .same-length, c .before .before .before .before .before .if3 .left)
 
 same-length : tie.Need-same-length
-same-length c = c .before .before .push-word .ensures .1 .same-length ∙ c .before .before .before .before .before .before .push-inverse .ensures .1 .same-length
+same-length c = search needs
 
 returns-4 : tie.Need-returns-4
 returns-4 c =
