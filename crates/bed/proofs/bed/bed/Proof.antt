@@ -70,7 +70,7 @@ returns-2 c =
     (subst (ProgramDone (s .args .program .now) size) (c .before .accepted .given .1) (c .before .before .before .read-program .ensures))))
 
 same-length : tie.Need-same-length
-same-length c = search needs
+same-length c = c .before .before .show-program .kept .1 .1 .1 .1 .0
 
 returns-3 : tie.Need-returns-3
 returns-3 c =

@@ -27,7 +27,7 @@ write-bed-requires : tie.Need-write-bed-requires
 write-bed-requires c κs = search needs
 
 same-length : tie.Need-same-length
-same-length c = search needs
+same-length c = c .before .before .write-bed .kept .1 .1 .0
 
 returns-2 : tie.Need-returns-2
 returns-2 c =

@@ -35,7 +35,7 @@ write-totals-requires c κs =
     )
 
 same-length : tie.Need-same-length
-same-length c = search needs
+same-length c = c .before .before .write-totals .kept .1 .1 .0 ∙ c .before .before .before .before .before .before .copy-bytes .kept .1 .1 .0
 
 returns : tie.Need-returns
 returns c =

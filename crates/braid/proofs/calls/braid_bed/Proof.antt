@@ -16,7 +16,7 @@ tell-requires : tie.Need-tell-requires
 tell-requires c κs = search needs
 
 same-length : tie.Need-same-length
-same-length c = search needs
+same-length c = c .before .before .before .before .before .bed .kept .1 .1 .1 .0
 
 returns : tie.Need-returns
 returns c =

@@ -1,5 +1,5 @@
 -- `chaining::chain::chain_programs` meets its contract.
-use mathlib.Core.Path.{_≡_, refl, ap, subst, _∙_}
+use mathlib.Core.Path.{_≡_, refl, sym, ap, subst, _∙_}
 use mathlib.Core.List.{[], _∷_}
 use mathlib.Core.Logic.{⊎-elim}
 use Prim.Native.Nat.{_-_}
@@ -13,6 +13,7 @@ use Rattle.comparing.specs.Compare.{Judged}
 use Rattle.model.specs.declared.answers.Compared.{Compared}
 use Rattle.model.specs.declared.answers.Compared.the-variants.{Same, Different, Refused}
 use Rattle.model.proofs.answers.Compared.{the-type}
+use Rattle.model.proofs.Impossible.{same-answer}
 use Rattle.chaining.proofs.ChainService.{NotSame, lists-nothing, area-too-short, lists-chain, programs-fit, listed-from, listed-of}
 use borrow.Author.Needs.{needs}
 use Rattle.chaining.proofs.chain.chain_programs.Statement.{statement}
@@ -111,8 +112,8 @@ returns-3 c =
     record {
       wiped = w .ensures ∙ ap (λ i. replicate i 0) (h .ensures .0 ∙ (l .ensures .same-length ∙ (ap length (z .ensures .workspace ∙ ap (λ j. workspaceAfter (compared j) (s .args .workspace .now)) (c .before .before .before .before .before .before .before .before .before .before .before .before .before .before .before .before .before .before .verdict .given .1)) ∙ length-replicate (length (s .args .workspace .now)) 0)));
       lists = λ T o u v eu ev.
-          let fu : p .one .word ≡ u = cc (p .one .read, eu) in
-          let fv : p .two .word ≡ v = cc (p .two .read, ev) in
+          let fu : p .one .word ≡ u = same-answer (p .one .word) u (sym (p .one .read) ∙ eu) in
+          let fv : p .two .word ≡ v = same-answer (p .two .word) v (sym (p .two .read) ∙ ev) in
           lists-chain T u v (s .args .budget) (length (s .args .workspace .now)) (s .args .answer .now) (s .args .size) k r (o .sized) (subst (Judged T u v (s .args .budget) (length (s .args .workspace .now))) (c .before .before .before .before .before .before .before .before .before .before .before .before .before .before .before .before .before .before .verdict .given .1) (z .ensures .judged T o u v eu ev))
           (omega (arith, c .before .before .before .before .before .before .before .before .before .before .before .before .before .before .before .if1 .left, c .before .before .before .before .before .before .before .before .before .before .before .before .before .before .before .before .chain-bytes .ensures)) (h .last .1 .1 .1 .1 .1 .0)
           (listed-of T u v r (s .args .answer .now) (h .last .1 .1 .1 .1 .1 .0) (o .stands .few) (h .ensures .1 .1 T u v k (listed-from (s .args .cells .now) (s .args .size) T o u v (s .args .first .now) (s .args .second .now) (s .args .m) (s .args .n) (p .one) (p .two) fu fv (s .args .budget) (length (s .args .workspace .now)) k r ((subst (Judged T u v (s .args .budget) (length (s .args .workspace .now))) (c .before .before .before .before .before .before .before .before .before .before .before .before .before .before .before .before .before .before .verdict .given .1) (z .ensures .judged T o u v eu ev)) .ended) (l .last .1 .1 .1 .1 .1 .0) (length (z .last .1 .1 .1 .1 .1 .1 .1 .0) - s .args .n) (l .ensures .same-length ∙ (ap length (z .ensures .workspace ∙ ap (λ j. workspaceAfter (compared j) (s .args .workspace .now)) (c .before .before .before .before .before .before .before .before .before .before .before .before .before .before .before .before .before .before .verdict .given .1)) ∙ length-replicate (length (s .args .workspace .now)) 0)) (l .ensures .loads (s .args .cells .now) T o u v eu ev) (length (s .args .answer .now)) (omega (arith, c .before .before .before .before .before .before .before .before .before .before .before .before .before .before .before .if1 .left, c .before .before .before .before .before .before .before .before .before .before .before .before .before .before .before .before .chain-bytes .ensures)))));

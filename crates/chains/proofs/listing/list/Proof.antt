@@ -17,10 +17,12 @@ walk-requires c κs =
     (task (s .pre .4) small (s .args .answer .now) refl, begun (s .pre .4) small (s .args .answer .now) refl (c .before .before .before .before .prepare .ensures))
 
 same-length : tie.Need-same-length
-same-length c = search needs
+same-length c = c .before .before .before .before .walk .kept .1 .1 .1 .0
 
 same-length-2 : tie.Need-same-length-2
-same-length-2 c = search needs
+same-length-2 c =
+    c .before .before .before .before .walk .kept .1 .1 .1 .1 .1 .0 ∙
+    c .before .before .before .before .before .before .before .before .before .prepare .kept .0
 
 returns : tie.Need-returns
 returns c =

@@ -1,4 +1,5 @@
 -- `chains::listing::prepare` meets its contract.
+use mathlib.Core.Path.{_∙_}
 use native.Mathlib.Omega.{arith}
 use Rattle.chains.proofs.Framing.{fill-inside, prepared}
 use borrow.Author.Needs.{needs}
@@ -21,7 +22,7 @@ write-field-requires-2 c κs =
     (c .before .before .before .write-field .ensures .same-length) (omega (arith, s .fits .total))
 
 same-length : tie.Need-same-length
-same-length c = search needs
+same-length c = c .before .before .write-field2 .kept .0 ∙ c .before .before .before .before .before .before .write-field .kept .0
 
 returns : tie.Need-returns
 returns c =

@@ -93,10 +93,10 @@ push-inverse-requires c κs =
     )
 
 same-length : tie.Need-same-length
-same-length c = search needs
+same-length c = c .before .before .push-inverse .kept .0
 
 same-length-2 : tie.Need-same-length-2
-same-length-2 c = search needs
+same-length-2 c = c .before .before .before .before .before .before .write-entry .kept .0
 
 returns : tie.Need-returns
 returns c =

@@ -1,7 +1,6 @@
 -- `chains::moves::meet` meets its contract: equal letters vanish, and different ones push a face.
 use native.Mathlib.Omega.{arith}
 use Rattle.chains.proofs.Meeting.{wide, cell-inside, byte-back, left-some, left-inside, passed-small, a-here, b-here, stacked-small, met-equal-here, slots-left, slot-here, met-different-here}
-use borrow.Author.Needs.{needs}
 use Rattle.chains.proofs.moves.meet.Statement.{statement}
 use Rattle.chains.proofs.moves.meet.Tie as tie
 
@@ -65,7 +64,7 @@ write-entry-requires c κs =
     )
 
 same-length : tie.Need-same-length
-same-length c = search needs
+same-length c = c .before .before .write-entry .kept .0
 
 returns-2 : tie.Need-returns-2
 returns-2 c =

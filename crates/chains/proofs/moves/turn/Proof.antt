@@ -1,5 +1,5 @@
 -- `chains::moves::turn` meets its contract: the top face is done, or its next letter meets the rest.
-use mathlib.Core.Path.{refl}
+use mathlib.Core.Path.{refl, _∙_}
 use native.Mathlib.Omega.{arith}
 use Rattle.chains.proofs.Turning.{stacked-within, slot-top, top-done, top-a, top-b, pair-top, top-inside, count-within, count-short, taken-here}
 use Rattle.chains.proofs.Emitting.{slots-over}
@@ -23,10 +23,10 @@ emit-requires c κs =
     (s .args .total, s .pre .0 .0, s .pre .0 .1, top-done (s .pre .0 .1) (s .pre .1) (c .before .before .before .read-entry .result) (c .before .before .before .read-entry .ensures) (c .before .before .if1 .taken))
 
 same-length : tie.Need-same-length
-same-length c = search needs
+same-length c = c .before .before .before .before .emit .kept .1 .1 .0
 
 same-length-2 : tie.Need-same-length-2
-same-length-2 c = search needs
+same-length-2 c = c .before .before .before .before .emit .kept .1 .1 .1 .1 .1 .1 .0
 
 returns : tie.Need-returns
 returns c =
@@ -90,7 +90,7 @@ same-length-3 : tie.Need-same-length-3
 same-length-3 c = search needs
 
 same-length-4 : tie.Need-same-length-4
-same-length-4 c = search needs
+same-length-4 c = c .before .before .meet .kept .1 .1 .1 .1 .1 .1 .0 ∙ c .before .before .before .before .before .before .before .write-entry .kept .0
 
 returns-2 : tie.Need-returns-2
 returns-2 c =

@@ -25,7 +25,9 @@ verdict-of-requires : tie.Need-verdict-of-requires
 verdict-of-requires c κs = search needs
 
 same-length : tie.Need-same-length
-same-length c = search needs
+same-length c =
+    c .before .before .before .reversing .kept .1 .0 ∙ c .before .before .before .before .before .before .before .move-to-end .kept .0 ∙
+    c .before .before .before .before .before .before .before .before .before .before .before .invert .kept .0
 
 returns : tie.Need-returns
 returns c =

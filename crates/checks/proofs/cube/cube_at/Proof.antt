@@ -79,7 +79,7 @@ enum-known-right-2 : tie.Need-enum-known-right-2
 enum-known-right-2 c = search needs
 
 same-length : tie.Need-same-length
-same-length c = search needs
+same-length c = c .before .before .before .before .before .side .kept .1 .0
 
 returns-2 : tie.Need-returns-2
 returns-2 c =
@@ -93,7 +93,7 @@ returns-2 c =
     )
 
 same-length-2 : tie.Need-same-length-2
-same-length-2 c = search needs
+same-length-2 c = c .before .before .before .side2 .kept .1 .0 ∙ c .before .before .before .before .before .before .before .before .before .side .kept .1 .0
 
 returns-3 : tie.Need-returns-3
 returns-3 c =
@@ -109,7 +109,9 @@ returns-3 c =
     )
 
 same-length-3 : tie.Need-same-length-3
-same-length-3 c = search needs
+same-length-3 c =
+    c .before .before .agree .kept .1 .0 ∙ c .before .before .before .before .before .before .before .before .before .right-side .kept .1 .0 ∙
+    c .before .before .before .before .before .before .before .before .before .before .before .before .before .before .before .before .side .kept .1 .0
 
 returns-4 : tie.Need-returns-4
 returns-4 c =
@@ -128,7 +130,9 @@ returns-4 c =
     )
 
 same-length-4 : tie.Need-same-length-4
-same-length-4 c = search needs
+same-length-4 c =
+    c .before .before .before .before .right-side .kept .1 .0 ∙
+    c .before .before .before .before .before .before .before .before .before .before .before .side .kept .1 .0
 
 returns-5 : tie.Need-returns-5
 returns-5 c =
@@ -144,7 +148,9 @@ returns-5 c =
     )
 
 same-length-5 : tie.Need-same-length-5
-same-length-5 c = search needs
+same-length-5 c =
+    c .before .before .before .before .before .right-side .kept .1 .0 ∙
+    c .before .before .before .before .before .before .before .before .before .before .before .before .side .kept .1 .0
 
 returns-6 : tie.Need-returns-6
 returns-6 c =

@@ -50,7 +50,7 @@ word-residue-requires c κs =
     )
 
 same-length : tie.Need-same-length
-same-length c = search needs
+same-length c = c .before .before .before .before .letter-residue .kept .1 .0
 
 returns : tie.Need-returns
 returns c =
@@ -59,7 +59,7 @@ returns c =
     (v .ensures .0, λ T t. first-missing T (s .args .budget) (s .args .a) (s .args .b) (s .args .c) (v .last .1 .0) (subst (Works (T .size) (under T (s .args .budget) (length (v .last .1 .0)) (s .args .a ∷ []) (s .args .b ∷ [])) (v .last .1 .0)) (c .enum-told .given .1) (v .ensures .1 T (record { stands = t .stands; lettered = (t .lettered .0, (t .lettered .1 .0, tt)) }))))
 
 same-length-2 : tie.Need-same-length-2
-same-length-2 c = search needs
+same-length-2 c = c .before .before .before .before .before .letter-residue .kept .1 .0
 
 returns-2 : tie.Need-returns-2
 returns-2 c =
@@ -68,7 +68,9 @@ returns-2 c =
     (v .ensures .0, λ T t. first-halted T (s .args .budget) (s .args .a) (s .args .b) (s .args .c) (v .last .1 .0) (c .before .to-b .given .0 .0) (subst (Works (T .size) (under T (s .args .budget) (length (v .last .1 .0)) (s .args .a ∷ []) (s .args .b ∷ [])) (v .last .1 .0)) (c .before .to-b .given .1) (v .ensures .1 T (record { stands = t .stands; lettered = (t .lettered .0, (t .lettered .1 .0, tt)) }))))
 
 same-length-3 : tie.Need-same-length-3
-same-length-3 c = search needs
+same-length-3 c =
+    c .before .before .before .before .letter-residue2 .kept .1 .0 ∙
+    c .before .before .before .before .before .before .before .before .before .before .letter-residue .kept .1 .0
 
 returns-3 : tie.Need-returns-3
 returns-3 c =
@@ -80,7 +82,9 @@ returns-3 c =
     )
 
 same-length-4 : tie.Need-same-length-4
-same-length-4 c = search needs
+same-length-4 c =
+    c .before .before .before .before .before .letter-residue2 .kept .1 .0 ∙
+    c .before .before .before .before .before .before .before .before .before .before .before .letter-residue .kept .1 .0
 
 returns-4 : tie.Need-returns-4
 returns-4 c =
@@ -92,7 +96,9 @@ returns-4 c =
     )
 
 same-length-5 : tie.Need-same-length-5
-same-length-5 c = search needs
+same-length-5 c =
+    c .before .before .word-residue .kept .1 .0 ∙ c .before .before .before .before .before .before .before .before .letter-residue2 .kept .1 .0 ∙
+    c .before .before .before .before .before .before .before .before .before .before .before .before .before .before .letter-residue .kept .1 .0
 
 returns-5 : tie.Need-returns-5
 returns-5 c =

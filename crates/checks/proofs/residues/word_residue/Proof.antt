@@ -104,7 +104,9 @@ residue-of-requires : tie.Need-residue-of-requires
 residue-of-requires c κs = search needs
 
 same-length : tie.Need-same-length
-same-length c = search needs
+same-length c =
+    c .before .before .before .reversing .kept .1 .0 ∙ c .before .before .before .before .before .before .before .push-word .kept .0 ∙
+    c .before .before .before .before .before .before .before .before .before .before .before .push-inverse .kept .0
 
 returns-2 : tie.Need-returns-2
 returns-2 c =

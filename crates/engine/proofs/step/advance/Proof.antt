@@ -24,7 +24,7 @@ step-requires c κs =
     (here (s .pre .0 .none-before) found, (s .pre .1 .0, record { stands = s .pre .1 .1 .stands; lettered = rw (found .word-kept) (s .pre .1 .1 .lettered) }))
 
 same-length : tie.Need-same-length
-same-length c = search needs
+same-length c = c .before .before .before .before .before .seek .kept .0
 
 returns : tie.Need-returns
 returns c =
@@ -34,7 +34,7 @@ returns c =
     (k .ensures .0, λ T t. (end-next T end, end))
 
 same-length-2 : tie.Need-same-length-2
-same-length-2 c = search needs
+same-length-2 c = c .before .before .step .kept .1 .0 ∙ c .before .before .before .before .before .before .before .before .before .seek .kept .0
 
 returns-2 : tie.Need-returns-2
 returns-2 c =

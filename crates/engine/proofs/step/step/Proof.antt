@@ -76,7 +76,7 @@ add-if3 : tie.Need-add-if3
 add-if3 c = search needs
 
 sub-if3 : tie.Need-sub-if3
-sub-if3 c = search needs
+sub-if3 c = omega (arith, c .before .before .before .before .before .before .before .before .before .before .before .pre .0)
 
 add-if3-2 : tie.Need-add-if3-2
 add-if3-2 c =

@@ -21,13 +21,20 @@ write-field-requires : tie.Need-write-field-requires
 write-field-requires c κs = search needs
 
 pack-weights-requires : tie.Need-pack-weights-requires
-pack-weights-requires c κs = search needs
+pack-weights-requires c κs =
+    let s = c .before .before .before .before .before .before .before in
+    (s .pre .0, s .pre .1, omega (arith, s .pre .2, c .before .before .before .write-field .ensures .same-length))
 
 pack-rows-requires : tie.Need-pack-rows-requires
-pack-rows-requires c κs = search needs
+pack-rows-requires c κs =
+    let s = c .before .before .before .before .before .before .before .before .before .before .before in
+    let w = c .before .before .before .pack-weights in
+    (s .pre .0, s .pre .1, w .ensures .1 .0 ∙ (c .before .before .before .before .before .before .before .write-field .ensures .same-length ∙ s .pre .2), w .ensures .1 .1)
 
 same-length : tie.Need-same-length
-same-length c = search needs
+same-length c =
+    c .before .before .pack-rows .kept .1 .1 .0 ∙ c .before .before .before .before .before .before .pack-weights .kept .1 .1 .0 ∙
+    c .before .before .before .before .before .before .before .before .before .before .write-field .kept .0
 
 returns : tie.Need-returns
 returns c =

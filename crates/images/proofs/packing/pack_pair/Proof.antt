@@ -46,7 +46,7 @@ add-result : tie.Need-add-result
 add-result c = search needs
 
 same-length : tie.Need-same-length
-same-length c = search needs
+same-length c = c .before .before .write-field .kept .0
 
 returns : tie.Need-returns
 returns c =
@@ -93,7 +93,9 @@ pack-word-requires-2 c κs =
     )
 
 same-length-2 : tie.Need-same-length-2
-same-length-2 c = search needs
+same-length-2 c =
+    c .before .before .pack-word2 .kept .1 .1 .1 .1 .0 ∙ c .before .before .before .before .before .before .pack-word .kept .1 .1 .1 .1 .0 ∙
+    c .before .before .before .before .before .before .before .before .before .before .write-field2 .kept .0
 
 returns-2 : tie.Need-returns-2
 returns-2 c =

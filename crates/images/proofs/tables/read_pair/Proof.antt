@@ -108,7 +108,7 @@ read-word-requires-2 c κs =
     )
 
 same-length-2 : tie.Need-same-length-2
-same-length-2 c = search needs
+same-length-2 c = c .before .before .before .before .read-word .kept .1 .1 .1 .1 .0
 
 returns-3 : tie.Need-returns-3
 returns-3 c =
@@ -121,7 +121,7 @@ returns-3 c =
     )
 
 same-length-3 : tie.Need-same-length-3
-same-length-3 c = search needs
+same-length-3 c = c .before .before .before .before .read-word .kept .1 .1 .1 .1 .0
 
 returns-4 : tie.Need-returns-4
 returns-4 c =
@@ -134,7 +134,9 @@ returns-4 c =
     )
 
 same-length-4 : tie.Need-same-length-4
-same-length-4 c = search needs
+same-length-4 c =
+    c .before .before .read-word2 .kept .1 .1 .1 .1 .0 ∙
+    c .before .before .before .before .before .before .before .before .before .read-word .kept .1 .1 .1 .1 .0
 
 returns-5 : tie.Need-returns-5
 returns-5 c =

@@ -68,7 +68,7 @@ read-rows-requires c κs =
     }
 
 same-length : tie.Need-same-length
-same-length c = search needs
+same-length c = c .before .before .before .before .read-weights .kept .1 .1 .1 .0
 
 returns-2 : tie.Need-returns-2
 returns-2 c =
@@ -78,7 +78,7 @@ returns-2 c =
     (c .before .before .before .before .read-weights .ensures .0, weights-refused (s .args .image .now) m (m + 1) head refl 1 (subst (WeightsDone (s .args .image .now) 4 (m + 1) (s .args .cells .now) (c .before .before .before .before .read-weights .last .1 .1 .1 .0)) (c .enum-told2 .given .1) (c .before .before .before .before .read-weights .ensures .1)))
 
 same-length-2 : tie.Need-same-length-2
-same-length-2 c = search needs
+same-length-2 c = c .before .before .before .before .read-weights .kept .1 .1 .1 .0
 
 returns-3 : tie.Need-returns-3
 returns-3 c =
@@ -88,7 +88,8 @@ returns-3 c =
     (c .before .before .before .before .read-weights .ensures .0, weights-refused (s .args .image .now) m (m + 1) head refl 2 (subst (WeightsDone (s .args .image .now) 4 (m + 1) (s .args .cells .now) (c .before .before .before .before .read-weights .last .1 .1 .1 .0)) (c .enum-told3 .given .1) (c .before .before .before .before .read-weights .ensures .1)))
 
 same-length-3 : tie.Need-same-length-3
-same-length-3 c = search needs
+same-length-3 c =
+    c .before .before .read-rows .kept .1 .1 .1 .0 ∙ c .before .before .before .before .before .before .before .before .before .read-weights .kept .1 .1 .1 .0
 
 returns-4 : tie.Need-returns-4
 returns-4 c =

@@ -36,7 +36,7 @@ write-field-requires : tie.Need-write-field-requires
 write-field-requires c κs = search needs
 
 same-length : tie.Need-same-length
-same-length c = search needs
+same-length c = c .before .before .write-field .kept .0
 
 returns : tie.Need-returns
 returns c =

@@ -57,7 +57,7 @@ returns-4 c =
     refused-text (s .args .text .now) (s .args .size) (s .args .answer .now) NotPattern (subst (TextDone (s .args .text .now)) (c .enum-told .given .1) (c .before .before .read-text .ensures))
 
 same-length : tie.Need-same-length
-same-length c = search needs
+same-length c = c .before .before .write-pattern .kept .1 .1 .1 .0
 
 returns-5 : tie.Need-returns-5
 returns-5 c =

@@ -5,6 +5,7 @@ use Prim.Native.Nat.{_+_, _-_}
 use native.Mathlib.Omega.{arith}
 use lib.ListN.{length, length-reverse}
 use Rattle.model.specs.Presentation.{Presentation}
+use Rattle.model.proofs.Impossible.{same-answer}
 use Rattle.images.proofs.RoundTrip.{program-in-range}
 use Rattle.areas.proofs.Parts.{part-length}
 use Rattle.engine.specs.Gap.{wordAt, Searched}
@@ -21,7 +22,7 @@ returns c =
     let s = c .before .before .before .before in (
       refl,
       λ T o w e. too-long T (reverse w) (s .args .budget) (s .args .workspace .now)
-          (let f : s .pre .accepted .program .word ≡ w = cc (s .pre .accepted .program .read, e) in omega (arith, c .if1 .taken, s .pre .accepted .program .count-is, ap length f, length-reverse w)),
+          (let f : s .pre .accepted .program .word ≡ w = same-answer (s .pre .accepted .program .word) w (sym (s .pre .accepted .program .read) ∙ e) in omega (arith, c .if1 .taken, s .pre .accepted .program .count-is, ap length f, length-reverse w)),
     )
 
 unpack-letters-requires : tie.Need-unpack-letters-requires
@@ -68,7 +69,7 @@ returns-2 c =
     let fit : right + s .args .count ≡ length (s .args .workspace .now) = omega (arith, c .before .before .before .before .before .before .before .before .before .before .before .before .if1 .left) in (
       v .ensures .0 ∙ (part-length right (u .last .1 .1 .1 .0) (t .last .0) (omega (arith, fit, u .ensures .0)) (t .ensures .0) ∙ u .ensures .0),
       λ T o w e.
-          let f : q .program .word ≡ w = cc (q .program .read, e) in
+          let f : q .program .word ≡ w = same-answer (q .program .word) w (sym (q .program .read) ∙ e) in
           let n : length w ≡ s .args .count = sym (ap length f) ∙ q .program .count-is in
           let p = backward-in-range (s .args .size) w (program-in-range (s .args .size) (q .few) (s .args .program .now) w e) in
           let fits : right + length (reverse w) ≡ length (s .args .workspace .now) = omega (arith, fit, n, length-reverse w) in

@@ -1,7 +1,8 @@
 -- `loading::comparison::load_programs` meets its contract.
-use mathlib.Core.Path.{_≡_, _∙_}
+use mathlib.Core.Path.{_≡_, sym, _∙_}
 use native.Mathlib.Omega.{arith}
 use Rattle.model.specs.Word.{positive}
+use Rattle.model.proofs.Impossible.{same-answer}
 use Rattle.engine.proofs.Lettering.{length-positive}
 use Rattle.loading.proofs.LoadedPrograms.{loads-pair}
 use borrow.Author.Needs.{needs}
@@ -21,7 +22,9 @@ unpack-letters-requires-2 : tie.Need-unpack-letters-requires-2
 unpack-letters-requires-2 c κs = let s = c .before .before .before .before .before .before .before .before .before .before .before .before in (record { some = s .pre .0 .some; few = s .pre .0 .few; program = record { word = positive (s .pre .0 .two .word); read = s .pre .0 .two .read-signed; count-is = length-positive (s .pre .0 .two .word) ∙ s .pre .0 .two .count-is } }, omega (arith, s .pre .1, c .before .before .before .invert .ensures .same-length, c .before .before .before .before .before .before .before .unpack-letters .ensures .0))
 
 same-length : tie.Need-same-length
-same-length c = search needs
+same-length c =
+    c .before .before .unpack-letters2 .kept .1 .1 .1 .0 ∙ c .before .before .before .before .before .before .invert .kept .0 ∙
+    c .before .before .before .before .before .before .before .before .before .before .unpack-letters .kept .1 .1 .1 .0
 
 returns : tie.Need-returns
 returns c =
@@ -32,8 +35,8 @@ returns c =
     record {
       same-length = b .ensures .0 ∙ (i .ensures .same-length ∙ a .ensures .0);
       loads = λ cells T o u v eu ev.
-          let fu : s .pre .0 .one .word ≡ u = cc (s .pre .0 .one .read, eu) in
-          let fv : s .pre .0 .two .word ≡ v = cc (s .pre .0 .two .read, ev) in
+          let fu : s .pre .0 .one .word ≡ u = same-answer (s .pre .0 .one .word) u (sym (s .pre .0 .one .read) ∙ eu) in
+          let fv : s .pre .0 .two .word ≡ v = same-answer (s .pre .0 .two .word) v (sym (s .pre .0 .two .read) ∙ ev) in
           loads-pair cells (s .args .size) T o u v (s .args .first .now) (s .args .second .now) (s .args .m) (s .args .n) (s .pre .0 .few) (s .pre .0 .one) (s .pre .0 .two) fu fv
           (s .args .workspace .now) (a .last .1 .1 .1 .0) (i .last .0) (b .last .1 .1 .1 .0) (s .pre .1) (a .ensures .1) (i .ensures) (b .ensures .1);
     }

@@ -1,7 +1,8 @@
 -- `loading::comparison::run_programs` meets its contract.
-use mathlib.Core.Path.{_≡_, refl, ap, subst, _∙_}
+use mathlib.Core.Path.{_≡_, refl, sym, ap, subst, _∙_}
 use native.Mathlib.Omega.{arith}
 use lib.ListN.{length}
+use Rattle.model.proofs.Impossible.{same-answer}
 use Rattle.engine.specs.Run.{Reverses}
 use Rattle.loading.proofs.LoadedPrograms.{pair-too-long}
 use borrow.Author.Needs.{needs}
@@ -17,7 +18,7 @@ returns c =
     let p = s .pre .pair in (
       refl,
       λ T o u v eu ev. pair-too-long T u v (s .args .budget) (s .args .workspace .now)
-          (let fu : p .one .word ≡ u = cc (p .one .read, eu) in let fv : p .two .word ≡ v = cc (p .two .read, ev) in omega (arith, c .if1 .taken, p .one .count-is, p .two .count-is, ap length fu, ap length fv)),
+          (let fu : p .one .word ≡ u = same-answer (p .one .word) u (sym (p .one .read) ∙ eu) in let fv : p .two .word ≡ v = same-answer (p .two .word) v (sym (p .two .read) ∙ ev) in omega (arith, c .if1 .taken, p .one .count-is, p .two .count-is, ap length fu, ap length fv)),
     )
 
 sub-right : tie.Need-sub-right
@@ -35,7 +36,7 @@ reversing-requires c κs =
     (d .searched, (s .pre .table, d .serves))
 
 same-length : tie.Need-same-length
-same-length c = search needs
+same-length c = c .before .before .reversing .kept .1 .0 ∙ c .before .before .before .before .before .before .load-programs .kept .1 .1 .1 .1 .1 .0
 
 returns-2 : tie.Need-returns-2
 returns-2 c =

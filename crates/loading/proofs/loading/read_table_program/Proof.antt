@@ -31,7 +31,7 @@ enum-known-accepted-2 : tie.Need-enum-known-accepted-2
 enum-known-accepted-2 c = search needs
 
 same-length : tie.Need-same-length
-same-length c = search needs
+same-length c = c .before .before .before .before .before .read-table .kept .1 .0
 
 returns : tie.Need-returns
 returns c =
@@ -41,7 +41,7 @@ returns c =
     no-table readProgram (a .table .now) (a .program .now) (c .before .read .given .0 .0) e
 
 same-length-2 : tie.Need-same-length-2
-same-length-2 c = search needs
+same-length-2 c = c .before .before .before .before .before .before .before .before .before .read-table .kept .1 .0
 
 returns-2 : tie.Need-returns-2
 returns-2 c =
@@ -53,7 +53,7 @@ returns-2 c =
     no-program readProgram (a .table .now) (a .program .now) t (c .before .accepted .given .0 .0) e
 
 same-length-3 : tie.Need-same-length-3
-same-length-3 c = search needs
+same-length-3 c = c .before .before .before .before .before .before .before .before .before .read-table .kept .1 .0
 
 returns-3 : tie.Need-returns-3
 returns-3 c =

@@ -4,6 +4,7 @@ use Prim.Native.Nat.{_+_, _-_}
 use native.Mathlib.Omega.{arith}
 use lib.ListN.{length}
 use Rattle.model.specs.Presentation.{Presentation}
+use Rattle.model.proofs.Impossible.{same-answer}
 use Rattle.images.proofs.RoundTrip.{program-in-range}
 use Rattle.engine.specs.Gap.{wordAt, Searched}
 use Rattle.cells.specs.Stands.{Serves}
@@ -18,7 +19,7 @@ returns c =
     let s = c .before .before .before .before in (
       refl,
       λ T o w e. too-long T w (s .args .budget) (s .args .workspace .now)
-          (let f : s .pre .accepted .program .word ≡ w = cc (s .pre .accepted .program .read, e) in omega (arith, c .if1 .taken, s .pre .accepted .program .count-is, ap length f)),
+          (let f : s .pre .accepted .program .word ≡ w = same-answer (s .pre .accepted .program .word) w (sym (s .pre .accepted .program .read) ∙ e) in omega (arith, c .if1 .taken, s .pre .accepted .program .count-is, ap length f)),
     )
 
 unpack-letters-requires : tie.Need-unpack-letters-requires
@@ -37,7 +38,7 @@ reversing-requires c κs =
     (word-searched (s .args .cells .now) (s .args .size) (s .pre .table) (s .pre .of) w p (s .args .workspace .now) (length (s .args .workspace .now) - s .args .count) fit, (s .pre .table, word-served (s .args .cells .now) (s .args .size) (s .pre .table) (s .pre .of) w p (s .args .workspace .now) (length (s .args .workspace .now) - s .args .count) fit))
 
 same-length : tie.Need-same-length
-same-length c = search needs
+same-length c = c .before .before .reversing .kept .1 .0 ∙ c .before .before .before .before .before .before .unpack-letters .kept .1 .1 .1 .0
 
 returns-2 : tie.Need-returns-2
 returns-2 c =
@@ -47,7 +48,7 @@ returns-2 c =
     let q = s .pre .accepted in (
       v .ensures .0 ∙ u .ensures .0,
       λ T o w e.
-          let f : q .program .word ≡ w = cc (q .program .read, e) in
+          let f : q .program .word ≡ w = same-answer (q .program .word) w (sym (q .program .read) ∙ e) in
           let p = program-in-range (s .args .size) (q .few) (s .args .program .now) w e in
           let fit : length (s .args .workspace .now) - s .args .count + length w ≡ length (s .args .workspace .now) = omega (arith, q .program .count-is, c .before .before .before .before .before .before .before .before .if1 .left, ap length f) in
           let z = u .ensures .1 w e in

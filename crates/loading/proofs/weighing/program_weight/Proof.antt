@@ -1,5 +1,5 @@
 -- `loading::weighing::program_weight` meets its contract. The loop's invariant: the letters passed are weighed.
-use mathlib.Core.Path.{_≡_, ap, subst, _∙_}
+use mathlib.Core.Path.{_≡_, sym, ap, subst, _∙_}
 use Prim.Native.Nat.{suc, _+_, _-_, _*_, _≤_}
 use native.Mathlib.Omega.{arith}
 use borrow.Author.Needs.{needs}
@@ -8,6 +8,7 @@ use Rattle.model.specs.Word.{Positive, positive}
 use Rattle.model.specs.Presentation.{Presentation, weigh}
 use Rattle.model.specs.Outcome.{answered}
 use Rattle.model.specs.Services.{readForward}
+use Rattle.model.proofs.Impossible.{same-answer}
 use Rattle.cells.specs.Layout.{weightAt}
 use Rattle.cells.specs.Stands.{Of}
 use Rattle.images.proofs.Letters.{has-letter, count-small}
@@ -92,7 +93,7 @@ loop-again c =
       omega (arith, c .before .before .loop-test .taken),
       omega (arith, l .inv .1, held, letter-light (s .args .cells .now) (s .args .size) (s .args .program .now) (s .args .count) T o f (l .i) (c .before .before .loop-test .taken)),
       λ T′ o′ u e.
-          let same : f .word ≡ u = cc (f .read, e) in
+          let same : f .word ≡ u = same-answer (f .word) u (sym (f .read) ∙ e) in
           let more = weight-more (s .args .cells .now) (s .args .size) (s .args .program .now) (s .args .count) T′ o′ f (l .i) (c .before .before .loop-test .taken) in
           subst (λ x. l .weight + c .letter-weight .result ≡ weigh T′ (take (l .i + 1) x)) same (omega (arith, l .inv .2 T′ o′ (f .word) (f .read), held, more)),
     )
@@ -105,7 +106,7 @@ returns c =
     let f = s .pre .1 in
     let l = c .before .loop in
     λ T′ o′ u e.
-    let same : f .word ≡ u = cc (f .read, e) in
+    let same : f .word ≡ u = same-answer (f .word) u (sym (f .read) ∙ e) in
     subst (λ x. l .weight ≡ weigh T′ x) same (l .inv .2 T′ o′ (f .word) (f .read) ∙ weight-whole (s .args .cells .now) (s .args .size) (s .args .program .now) (s .args .count) T′ o′ f (l .i) (c .loop-test .left))
 
 pub program-weight-spec : {M : Type 1} → statement M

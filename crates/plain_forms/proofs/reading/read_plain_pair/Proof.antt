@@ -90,7 +90,7 @@ enum-known-next : tie.Need-enum-known-next
 enum-known-next c = search needs
 
 same-length-2 : tie.Need-same-length-2
-same-length-2 c = search needs
+same-length-2 c = c .before .before .before .before .before .before .read-plain-word .kept .1 .1 .1 .1 .0
 
 returns-3 : tie.Need-returns-3
 returns-3 c =
@@ -112,7 +112,7 @@ read-plain-word-requires-2 : tie.Need-read-plain-word-requires-2
 read-plain-word-requires-2 c κs = search needs
 
 same-length-3 : tie.Need-same-length-3
-same-length-3 c = search needs
+same-length-3 c = c .before .before .before .before .read-plain-word .kept .1 .1 .1 .1 .0
 
 returns-4 : tie.Need-returns-4
 returns-4 c =
@@ -125,7 +125,7 @@ returns-4 c =
     )
 
 same-length-4 : tie.Need-same-length-4
-same-length-4 c = search needs
+same-length-4 c = c .before .before .before .before .read-plain-word .kept .1 .1 .1 .1 .0
 
 returns-5 : tie.Need-returns-5
 returns-5 c =
@@ -138,7 +138,9 @@ returns-5 c =
     )
 
 same-length-5 : tie.Need-same-length-5
-same-length-5 c = search needs
+same-length-5 c =
+    c .before .before .read-plain-word2 .kept .1 .1 .1 .1 .0 ∙
+    c .before .before .before .before .before .before .before .before .before .before .before .read-plain-word .kept .1 .1 .1 .1 .0
 
 returns-6 : tie.Need-returns-6
 returns-6 c =

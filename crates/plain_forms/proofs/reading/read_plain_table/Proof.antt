@@ -53,7 +53,7 @@ read-plain-rows-requires c κs =
     )
 
 same-length : tie.Need-same-length
-same-length c = search needs
+same-length c = c .before .before .before .before .read-plain-weights .kept .1 .1 .1 .0
 
 returns-4 : tie.Need-returns-4
 returns-4 c =
@@ -63,7 +63,7 @@ returns-4 c =
     (c .before .before .before .before .read-plain-weights .ensures .0, plain-weights-refused (s .args .plain .now) inside (c .before .before .before .before .before .before .before .if2 .left) (c .before .before .before .before .before .before .if3 .left) 1 (subst (PlainWeightsDone (s .args .plain .now) 1 n (s .args .cells .now) (c .before .before .before .before .read-plain-weights .last .1 .1 .1 .0)) (c .enum-told .given .1) (c .before .before .before .before .read-plain-weights .ensures .1)))
 
 same-length-2 : tie.Need-same-length-2
-same-length-2 c = search needs
+same-length-2 c = c .before .before .before .before .read-plain-weights .kept .1 .1 .1 .0
 
 returns-5 : tie.Need-returns-5
 returns-5 c =
@@ -73,7 +73,9 @@ returns-5 c =
     (c .before .before .before .before .read-plain-weights .ensures .0, plain-weights-refused (s .args .plain .now) inside (c .before .before .before .before .before .before .before .if2 .left) (c .before .before .before .before .before .before .if3 .left) 2 (subst (PlainWeightsDone (s .args .plain .now) 1 n (s .args .cells .now) (c .before .before .before .before .read-plain-weights .last .1 .1 .1 .0)) (c .enum-told2 .given .1) (c .before .before .before .before .read-plain-weights .ensures .1)))
 
 same-length-3 : tie.Need-same-length-3
-same-length-3 c = search needs
+same-length-3 c =
+    c .before .before .read-plain-rows .kept .1 .1 .1 .0 ∙
+    c .before .before .before .before .before .before .before .before .before .read-plain-weights .kept .1 .1 .1 .0
 
 returns-6 : tie.Need-returns-6
 returns-6 c =

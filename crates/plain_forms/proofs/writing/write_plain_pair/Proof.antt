@@ -81,7 +81,7 @@ write-plain-word-requires-2 c κs =
     )
 
 same-length-2 : tie.Need-same-length-2
-same-length-2 c = search needs
+same-length-2 c = c .before .before .write-plain-word2 .kept .1 .1 .0 ∙ c .before .before .before .before .before .before .write-plain-word .kept .1 .1 .0
 
 returns-2 : tie.Need-returns-2
 returns-2 c =

@@ -57,7 +57,9 @@ enum-known-ending-3 : tie.Need-enum-known-ending-3
 enum-known-ending-3 c = search needs
 
 same-length : tie.Need-same-length
-same-length c = search needs
+same-length c =
+    c .before .before .add-word .kept .0 ∙ c .before .before .before .before .before .before .before .before .before .reverse-behind .kept .1 .0 ∙
+    c .before .before .before .before .before .before .before .before .before .before .before .before .before .load-pair .kept .0
 
 returns-3 : tie.Need-returns-3
 returns-3 c =
@@ -76,7 +78,9 @@ returns-3 c =
     )
 
 same-length-2 : tie.Need-same-length-2
-same-length-2 c = search needs
+same-length-2 c =
+    c .before .before .before .before .before .reverse-behind .kept .1 .0 ∙
+    c .before .before .before .before .before .before .before .before .before .load-pair .kept .0
 
 returns-4 : tie.Need-returns-4
 returns-4 c =
@@ -89,7 +93,9 @@ returns-4 c =
     )
 
 same-length-3 : tie.Need-same-length-3
-same-length-3 c = search needs
+same-length-3 c =
+    c .before .before .before .before .before .reverse-behind .kept .1 .0 ∙
+    c .before .before .before .before .before .before .before .before .before .load-pair .kept .0
 
 returns-5 : tie.Need-returns-5
 returns-5 c =

@@ -25,7 +25,7 @@ take-first-requires c κs =
     (s .pre .0, g .words, s .pre .2, still-later w g)
 
 same-length : tie.Need-same-length
-same-length c = search needs
+same-length c = c .before .before .before .before .before .take-second .kept .1 .0
 
 returns : tie.Need-returns
 returns c =
@@ -37,7 +37,7 @@ returns c =
     )
 
 same-length-2 : tie.Need-same-length-2
-same-length-2 c = search needs
+same-length-2 c = c .before .before .take-first .kept .1 .0 ∙ c .before .before .before .before .before .before .before .before .before .take-second .kept .1 .0
 
 returns-2 : tie.Need-returns-2
 returns-2 c =

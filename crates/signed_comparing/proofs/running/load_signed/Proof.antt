@@ -6,6 +6,7 @@ use native.Mathlib.Omega.{arith}
 use lib.ListN.{length, take, drop, length-drop}
 use lib.Seq.{take-all}
 use Rattle.model.specs.Word.{inverse}
+use Rattle.model.proofs.Impossible.{same-answer}
 use Rattle.images.proofs.RoundTrip.{program-in-range}
 use Rattle.areas.proofs.Parts.{part-back, part-length}
 use Rattle.engine.specs.Gap.{letters}
@@ -14,6 +15,46 @@ use Rattle.signed_comparing.proofs.Loading.{both-letters}
 use borrow.Author.Needs.{needs}
 use Rattle.signed_comparing.proofs.running.load_signed.Statement.{statement}
 use Rattle.signed_comparing.proofs.running.load_signed.Tie as tie
+
+unpack-letters-requires : tie.Need-unpack-letters-requires
+unpack-letters-requires c κs =
+    let s = c .before .before .before .before in
+    (s .pre .0 .one, omega (arith, s .pre .1))
+
+sub-invert : tie.Need-sub-invert
+sub-invert c = search needs
+
+part-invert-start : tie.Need-part-invert-start
+part-invert-start c = search needs
+
+part-invert-end : tie.Need-part-invert-end
+part-invert-end c = search needs
+
+invert-requires : tie.Need-invert-requires
+invert-requires c κs = search needs
+
+add-unpack-letters : tie.Need-add-unpack-letters
+add-unpack-letters c = search needs
+
+unpack-letters-requires-2 : tie.Need-unpack-letters-requires-2
+unpack-letters-requires-2 c κs =
+    let s = c .before .before .before .before .before .before .before .before .before .before .before .before in
+    let right = s .args .right in
+    let a = c .before .before .before .before .before .before .before .unpack-letters in
+    let i = c .before .before .before .invert in
+    let mid = a .last .1 .1 .1 .0 in
+    let reaches : right ≤ length mid = omega (arith, a .ensures .0, s .pre .1) in
+    (s .pre .0 .two, omega (arith, part-length right mid (i .last .0) reaches (i .ensures .same-length), a .ensures .0, s .pre .1))
+
+same-length : tie.Need-same-length
+same-length c =
+    let s = c .before .before .before .before .before .before .before .before .before .before .before .before .before .before .before in
+    let right = s .args .right in
+    let a = c .before .before .before .before .before .before .before .before .before .before .unpack-letters in
+    let i = c .before .before .before .before .before .before .invert in
+    let mid = a .last .1 .1 .1 .0 in
+    let reaches : right ≤ length mid = omega (arith, a .ensures .0, s .pre .1) in
+    c .before .before .unpack-letters2 .ensures .0 ∙ part-length right mid (i .last .0) reaches (i .ensures .same-length) ∙ a .ensures .0
 
 returns : tie.Need-returns
 returns c =
@@ -34,8 +75,8 @@ returns c =
     record {
       same-length = b .ensures .0 ∙ part-length right mid part reaches (i .ensures .same-length) ∙ a .ensures .0;
       word = λ w v ew ev.
-          let fw : one .program .word ≡ w = cc (one .program .read, ew) in
-          let fv : two .program .word ≡ v = cc (two .program .read, ev) in
+          let fw : one .program .word ≡ w = same-answer (one .program .word) w (sym (one .program .read) ∙ ew) in
+          let fv : two .program .word ≡ v = same-answer (two .program .word) v (sym (two .program .read) ∙ ev) in
           let made = a .ensures .1 w ew in
           subst (λ l. letters (drop right l) ≡ inverse w ++ v) (sym (b .ensures .1 v ev))
           (both-letters size (one .few) w v (program-in-range size (one .few) (s .args .first .now) w ew) (program-in-range size (two .few) (s .args .second .now) v ev) start _ right (s .args .m) (s .args .n)
@@ -46,13 +87,4 @@ returns c =
 pub load-signed-spec : {M : Type 1} → statement M
 load-signed-spec =
     tie.close
-    (tie.spec
-    (λ c κs. search needs)
-    (λ c. search needs)
-    (λ c. search needs)
-    (λ c. search needs)
-    (λ c κs. search needs)
-    (λ c. search needs)
-    (λ c κs. search needs)
-    (λ c. search needs)
-    returns)
+    (tie.spec unpack-letters-requires sub-invert part-invert-start part-invert-end invert-requires add-unpack-letters unpack-letters-requires-2 same-length returns)

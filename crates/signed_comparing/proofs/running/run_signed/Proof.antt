@@ -1,10 +1,11 @@
 -- `signed_comparing::running::run_signed` meets its contract.
-use mathlib.Core.Path.{_≡_, refl, ap, subst, _∙_}
+use mathlib.Core.Path.{_≡_, refl, sym, ap, subst, _∙_}
 use mathlib.Core.List.{_++_}
 use Prim.Native.Nat.{_+_, _-_, _≤_}
 use native.Mathlib.Omega.{arith}
 use lib.ListN.{length, length-append}
 use Rattle.model.specs.Word.{inverse}
+use Rattle.model.proofs.Impossible.{same-answer}
 use Rattle.images.proofs.RoundTrip.{program-in-range}
 use Rattle.engine.specs.Run.{Reverses}
 use Rattle.engine.proofs.Inverting.{length-inverse}
@@ -21,8 +22,8 @@ returns c =
     let two = s .pre .programs .two in (
       refl,
       λ T o w v ew ev.
-          let fw : one .program .word ≡ w = cc (one .program .read, ew) in
-          let fv : two .program .word ≡ v = cc (two .program .read, ev) in
+          let fw : one .program .word ≡ w = same-answer (one .program .word) w (sym (one .program .read) ∙ ew) in
+          let fv : two .program .word ≡ v = same-answer (two .program .word) v (sym (two .program .read) ∙ ev) in
           too-long T (inverse w ++ v) (s .args .budget) (s .args .workspace .now)
           (omega (arith, c .if1 .taken, length-append (inverse w) v, length-inverse w, ap length fw, ap length fv, one .program .count-is, two .program .count-is)),
     )

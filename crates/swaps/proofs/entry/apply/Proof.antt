@@ -76,7 +76,7 @@ stands-at-requires c κs =
     (v .ensures .placed .inside, q .0, q .1)
 
 same-length : tie.Need-same-length
-same-length c = search needs
+same-length c = c .before .before .before .before .before .carry .kept .0
 
 returns-4 : tie.Need-returns-4
 returns-4 c =
@@ -106,7 +106,7 @@ replace-requires c κs =
     (v .ensures .placed, f, q .0, q .1)
 
 same-length-2 : tie.Need-same-length-2
-same-length-2 c = search needs
+same-length-2 c = c .before .before .replace .kept .0 ∙ c .before .before .before .before .before .before .before .before .before .carry .kept .0
 
 returns-5 : tie.Need-returns-5
 returns-5 c =

@@ -33,7 +33,7 @@ put-side-requires : tie.Need-put-side-requires
 put-side-requires c κs = search needs
 
 same-length : tie.Need-same-length
-same-length c = search needs
+same-length c = c .before .before .put-side .kept .0
 
 returns-2 : tie.Need-returns-2
 returns-2 c =

@@ -8,6 +8,7 @@ use Rattle.model.specs.Word.{Positive, positive}
 use Rattle.model.specs.Equivalence.{equal}
 use Rattle.model.specs.Outcome.{answered}
 use Rattle.model.specs.Services.{readForward}
+use Rattle.model.proofs.Impossible.{same-answer}
 use Rattle.images.proofs.Letters.{has-letter}
 use Rattle.engine.proofs.Lettering.{length-positive}
 use Rattle.swaps.proofs.Comparing.{lengths-differ, number-at, spelled-start, spelled-more, spelled-fails, Rest, rest-done}
@@ -25,7 +26,7 @@ returns : tie.Need-returns Inv-loop μ-loop
 returns c =
     let s = c .before .before .before in
     λ v e.
-    let f : s .pre .forward .word ≡ v = cc (s .pre .forward .read, e) in
+    let f : s .pre .forward .word ≡ v = same-answer (s .pre .forward .word) v (sym (s .pre .forward .read) ∙ e) in
     let n : length v ≡ s .args .count = ap length (sym f) ∙ s .pre .forward .count-is in
     sym (lengths-differ (take (s .args .letters) (s .args .bytes .now)) v (simp length-take (λ g. c .if1 .taken (omega (arith, n, g, s .pre .inside)))))
 
@@ -42,7 +43,7 @@ loop-holds c =
     let s = c .before .before .before .before in (
       omega arith,
       λ v e.
-          let f : s .pre .forward .word ≡ v = cc (s .pre .forward .read, e) in
+          let f : s .pre .forward .word ≡ v = same-answer (s .pre .forward .word) v (sym (s .pre .forward .read) ∙ e) in
           let n : length v ≡ s .args .count = ap length (sym f) ∙ s .pre .forward .count-is in
           spelled-start (s .args .bytes .now) v (s .args .letters) (omega (arith, n)),
     )
@@ -60,7 +61,7 @@ returns-2 c =
     let s = c .before .before .before .before .before .before .before .before .before in
     let l = c .before .before .before .before .loop in
     λ v e.
-    let f : s .pre .forward .word ≡ v = cc (s .pre .forward .read, e) in
+    let f : s .pre .forward .word ≡ v = same-answer (s .pre .forward .word) v (sym (s .pre .forward .read) ∙ e) in
     let n : length v ≡ s .args .count = ap length (sym f) ∙ s .pre .forward .count-is in
     let g : c .before .letter-at .result ≡ getD v (l .i) 0 = c .before .letter-at .ensures (positive (s .pre .forward .word)) (s .pre .forward .read-signed) ∙ (number-at (s .pre .forward .word) (l .i) ∙ ap (λ w. getD w (l .i) 0) f) in
     sym (l .inv .1 v e ∙ spelled-fails (s .args .bytes .now) v (s .args .letters) (s .pre .inside) (omega (arith, n)) (l .i) (omega arith) (λ h. c .if2 .taken (h ∙ sym g)))
@@ -77,7 +78,7 @@ loop-again c =
     let l = c .before .before .before .before .loop in (
       omega arith,
       λ v e.
-          let f : s .pre .forward .word ≡ v = cc (s .pre .forward .read, e) in
+          let f : s .pre .forward .word ≡ v = same-answer (s .pre .forward .word) v (sym (s .pre .forward .read) ∙ e) in
           let n : length v ≡ s .args .count = ap length (sym f) ∙ s .pre .forward .count-is in
           let g : c .before .letter-at .result ≡ getD v (l .i) 0 = c .before .letter-at .ensures (positive (s .pre .forward .word)) (s .pre .forward .read-signed) ∙ (number-at (s .pre .forward .word) (l .i) ∙ ap (λ w. getD w (l .i) 0) f) in
           l .inv .1 v e ∙ spelled-more (s .args .bytes .now) v (s .args .letters) (s .pre .inside) (omega (arith, n)) (l .i) (omega arith) (c .if2 .left ∙ g),

@@ -31,19 +31,19 @@ write-three-requires-3 : tie.Need-write-three-requires-3
 write-three-requires-3 c κs = search needs
 
 same-length : tie.Need-same-length
-same-length c = search needs
+same-length c = c .before .before .write-three .kept .0
 
 returns : tie.Need-returns
 returns c = let s = c .before .before .before .before .before .before .before .before in c .before .before .write-three .ensures ∙ ap (λ o. written (s .args .answer .now) (s .args .at) (logBytes (compared o))) (sym (c .before .before .before .before .before .outcome .given .1))
 
 same-length-2 : tie.Need-same-length-2
-same-length-2 c = search needs
+same-length-2 c = c .before .before .write-three2 .kept .0
 
 returns-2 : tie.Need-returns-2
 returns-2 c = let s = c .before .before .before .before .before .before .before .before in c .before .before .write-three2 .ensures ∙ ap (λ o. written (s .args .answer .now) (s .args .at) (logBytes (compared o))) (sym (c .before .before .before .before .before .outcome2 .given .1))
 
 same-length-3 : tie.Need-same-length-3
-same-length-3 c = search needs
+same-length-3 c = c .before .before .write-three3 .kept .0
 
 returns-3 : tie.Need-returns-3
 returns-3 c =

@@ -41,7 +41,7 @@ returns c =
     }
 
 same-length : tie.Need-same-length
-same-length c = search needs
+same-length c = c .before .before .compare-cleared .kept .1 .1 .1 .1 .1 .1 .1 .0
 
 returns-2 : tie.Need-returns-2
 returns-2 c =

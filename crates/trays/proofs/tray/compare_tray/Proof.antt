@@ -33,7 +33,7 @@ mul-if1 : tie.Need-mul-if1
 mul-if1 c = search needs
 
 same-length : tie.Need-same-length
-same-length c = search needs
+same-length c = c .before .before .before .before .before .clear-cells .kept .1 .1 .1 .0
 
 returns : tie.Need-returns
 returns c =
@@ -61,7 +61,7 @@ answer-logs-requires c κs =
     )
 
 same-length-2 : tie.Need-same-length-2
-same-length-2 c = search needs
+same-length-2 c = c .before .before .before .before .before .clear-cells .kept .1 .1 .1 .0
 
 returns-2 : tie.Need-returns-2
 returns-2 c =
@@ -74,10 +74,12 @@ returns-2 c =
     _ (z .ensures .1 ∙ ap (λ r. workspaceAfter (clearedAs r) (s .args .workspace .now)) told)
 
 same-length-3 : tie.Need-same-length-3
-same-length-3 c = search needs
+same-length-3 c =
+    c .before .before .before .before .answer-logs .kept .1 .1 .1 .1 .1 .1 .1 .0 ∙
+    c .before .before .before .before .before .before .before .before .before .before .before .before .clear-cells .kept .1 .1 .1 .0
 
 same-length-4 : tie.Need-same-length-4
-same-length-4 c = search needs
+same-length-4 c = c .before .before .before .before .answer-logs .kept .1 .1 .1 .1 .1 .1 .1 .1 .0
 
 returns-3 : tie.Need-returns-3
 returns-3 c =

@@ -39,10 +39,10 @@ returns-2 c =
     (no-tray (s .args .table .now) (s .args .tray .now) (s .args .pattern .now) (s .args .allowance) (length (s .args .workspace .now)) (length (s .args .answer .now)) NotTray (subst (TrayDone (s .args .tray .now)) (c .enum-told2 .given .1) (c .before .before .read-tray .ensures))))
 
 same-length : tie.Need-same-length
-same-length c = search needs
+same-length c = c .before .before .before .before .tray-under .kept .1 .1 .1 .1 .1 .0
 
 same-length-2 : tie.Need-same-length-2
-same-length-2 c = search needs
+same-length-2 c = c .before .before .before .before .tray-under .kept .1 .1 .1 .1 .1 .1 .0
 
 returns-3 : tie.Need-returns-3
 returns-3 c =

@@ -1,5 +1,5 @@
 -- `ways::insert::insert` meets its contract.
-use mathlib.Core.Path.{sym, subst}
+use mathlib.Core.Path.{sym, subst, _∙_}
 use mathlib.Core.List.{[], _∷_, _++_}
 use native.Mathlib.Omega.{arith}
 use borrow.Author.Needs.{needs}
@@ -39,7 +39,7 @@ write-word-requires c κs =
     )
 
 same-length : tie.Need-same-length
-same-length c = search needs
+same-length c = c .before .before .write-word .kept .0 ∙ c .before .before .before .before .before .before .before .shift .kept .0
 
 returns : tie.Need-returns
 returns c =

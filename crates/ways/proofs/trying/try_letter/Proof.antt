@@ -211,7 +211,7 @@ add-requires c κs =
     ((s .pre .size, g, t), swap-fits g area h t o (s .pre .inside) (g .of .stands) (getD area (h .word + o) 0) b (c .before .before .before .before .before .before .before .before .before .before .before .before .if1 .left) (letter-named g area h t o (s .pre .inside)) (in-table g b (s .pre .named)) (c .before .before .before .before .before .before .before .before .before .before .before .cell-at .result) (c .before .before .before .before .before .before .before .before .before .before .before .cell-at .ensures) (c .before .before .before .before .before .before .before .before .before .before .cell-at2 .result) (c .before .before .before .before .before .before .before .before .before .before .cell-at2 .ensures) (c .before .before .before .before .before .before .before .if2 .left) (c .before .before .before .before .before .if3 .left))
 
 same-length-2 : tie.Need-same-length-2
-same-length-2 c = search needs
+same-length-2 c = c .before .before .add .kept .0
 
 returns-5 : tie.Need-returns-5
 returns-5 c =

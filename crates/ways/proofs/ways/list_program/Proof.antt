@@ -19,7 +19,7 @@ wipe-requires : tie.Need-wipe-requires
 wipe-requires c κs = search needs
 
 same-length : tie.Need-same-length
-same-length c = search needs
+same-length c = c .before .before .wipe .kept .0
 
 returns : tie.Need-returns
 returns c =
