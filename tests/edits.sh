@@ -14,8 +14,8 @@ listed() {
     echo 'The fourth column names an input at which the version is wrong. Tables B, S, O and so on, W, A, k and z are those of section 10 of `SPECIFICATION.md`;'
     echo 'what is not named is as in 2.4 there. An edit is of `src/` or `specs/`. What it changes in a proof beside that only fits the proof to the edited shape,'
     echo 'so that the fact alone is refused, and its line `# fits the proof:` says what. An edit of `proofs/` alone changes what a public law there states,'
-    echo 'and its line `# wrong law:` names the law. Versions of different functions or definitions may be tried in one edit, which the last column names; then each has a'
-    echo 'line `# refused at:` with the file and the need where it is refused, and `tests/looks.sh` demands every such refusal.'
+    echo 'and its line `# wrong law:` names the law. Versions of different functions or definitions may be tried in one edit, which the last column names;'
+    echo 'then each has a line `# refused at:` with the file and the need where it is refused, and `tests/looks.sh` demands every such refusal.'
     echo
     echo '| crate | version | wrong version | where it is wrong | tried in |'
     echo '|---|---|---|---|---|'
@@ -38,7 +38,10 @@ faults() {
                 if (law && version) fault("not only a law is changed")
                 if (law && !version) {
                     there = 0
-                    for (f in files) { while ((getline line < (crate "/" f)) > 0) if (name != "" && index(line, "pub " name " : ")) there = 1; close(crate "/" f) }
+                    for (f in files) {
+                        while ((getline line < (crate "/" f)) > 0) if (name != "" && index(line, "pub " name " : ")) there = 1
+                        close(crate "/" f)
+                    }
                     if (!there) fault("no public law of this name in the file that is changed")
                 }
                 if (several && refused != 1) fault("one of several versions, and no line \"# refused at: FILE NEED\"")
@@ -150,7 +153,12 @@ judged '' "# version: a\n$said$input$place one\n$version# version: b\n$said$inpu
 of_version() {
     printf '%b' "# version: a\n$said$input$place one\n$version# version: b\n$2" > "$work/crates/x/must-fail/y.edit"
     found=$(faults "$work")
-    if [ "$found" = "crates/x/must-fail/y.edit, b: $1" ]; then passed=$((passed + 1)); else failed=$((failed + 1)); printf 'failed: of a version with %s it is found: %s\n' "$1" "$found"; fi
+    if [ "$found" = "crates/x/must-fail/y.edit, b: $1" ]; then
+        passed=$((passed + 1))
+    else
+        failed=$((failed + 1))
+        printf 'failed: of a version with %s it is found: %s\n' "$1" "$found"
+    fi
 }
 of_version 'one of several versions, and no line "# refused at: FILE NEED"' "$said$input$version"
 of_version 'another version is refused at the same need' "$said$input$place one\n$version"

@@ -45,8 +45,8 @@ axioms() {
     done
 }
 
-# error LOG EDIT [FILE NEED]: the first error of a log, or the first at this need that does not only follow from another, with the lines that go on with it; of a
-# function that has no proof file, what is said of the function that NEED names
+# error LOG EDIT [FILE NEED]: the first error of a log, or the first at this need that does not only follow from another, with the lines that go on with it.
+# Of a function that has no proof file it is what is said of the function that NEED names.
 error() {
     case $3 in
         src/*) grep -m 1 "^fn [a-z_:]*::$4: no proof: .* does not close " "$1" ;;
@@ -78,9 +78,9 @@ why() {
     fi
 }
 
-# No wrong version is refused only because a proof file no longer fits the code, or for what it wrote itself into a proof or a definition, and none survives beside
-# others of its edit: of each log the first error is looked at, or, where a version names its refusal, the error there. Its words, where it names some, may stand at a line
-# that the edit wrote.
+# No wrong version is refused only because a proof file no longer fits the code, or for what it wrote itself into a proof or a definition, and none survives
+# beside others of its edit: of each log the first error is looked at, or, where a version names its refusal, the error there. The words of a refusal, where a
+# version names some, may stand at a line that the edit wrote.
 unfit() {
     for log in "$1"/target/must-fail/*/*/.log; do
         [ -f "$log" ] || { echo "no edit was tried"; continue; }
@@ -169,10 +169,12 @@ passes unfit 'an edit that is refused for a fact'
 # joint NEED [WORDS]: two versions in one edit, of which the second names this refusal
 joint() {
     refused proofs/A.antt:3 '`a`: expected type `A`, but this has type `B`'
-    printf '%s/proofs/A.antt:1:1: error: `b`: expected `1`\n%s/proofs/A.antt:2:1: error: `c`: expected `2`\n%s/proofs/A.antt:3:1: error: `d`: `a` was not admitted\n' \
-        "$edited" "$edited" "$edited" >> "$edited/.log"
+    for said in '1:1: error: `b`: expected `1`' '2:1: error: `c`: expected `2`' '3:1: error: `d`: `a` was not admitted'; do
+        echo "$edited/proofs/A.antt:$said" >> "$edited/.log"
+    done
     mkdir -p "$work/tree/crates/x/must-fail"
-    printf '# version: one\n# refused at: proofs/A.antt a\nfile: src/x.rt\n# version: two\n# refused at: proofs/A.antt %s\n' "$1" > "$work/tree/crates/x/must-fail/y.edit"
+    printf '# version: one\n# refused at: proofs/A.antt a\nfile: src/x.rt\n# version: two\n# refused at: proofs/A.antt %s\n' "$1" \
+        > "$work/tree/crates/x/must-fail/y.edit"
 }
 joint b
 passes unfit 'two versions in one edit, each refused at its need'
@@ -195,9 +197,10 @@ passes unfit 'a version that is refused with its words at a line that it wrote'
 joint 'c: expected `3`'
 sees unfit 'a version that is refused for something else'
 mkdir -p "$work/tree/crates/x/specs"
-printf 'pub fn one(x: u8) -> u8\n    ensures { λ r. ⌜ Cited x r ⌝ }\n{\n    x\n}\n' > "$work/tree/crates/x/src/x.rt"
-sed -i '1i ghost use Rattle.x.specs.A.{Cited};' "$work/tree/crates/x/src/x.rt"
-printf 'abbrev pub Cited : ℕ → ℕ → Type 0\nCited x r = Below x r\n\nabbrev pub Below : ℕ → ℕ → Type 0\nBelow x r = x ≡ r\n' > "$work/tree/crates/x/specs/A.antt"
+printf 'ghost use Rattle.x.specs.A.{Cited};\npub fn one(x: u8) -> u8\n    ensures { λ r. ⌜ Cited x r ⌝ }\n{\n    x\n}\n' \
+    > "$work/tree/crates/x/src/x.rt"
+printf 'abbrev pub Cited : ℕ → ℕ → Type 0\nCited x r = Below x r\n\nabbrev pub Below : ℕ → ℕ → Type 0\nBelow x r = x ≡ r\n' \
+    > "$work/tree/crates/x/specs/A.antt"
 cp -r "$work/tree" "$work/cited"
 passes uncited 'definitions that a contract reaches'
 cp -r "$work/cited/." "$work/tree"

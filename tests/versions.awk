@@ -1,5 +1,5 @@
-# The wrong versions of must-fail edits, one to a line, in fields between tabs: crate, edit, version, what it is, where it is wrong, and the file, the need and the
-# words of the refusal that it names. An edit is one version of its own name, or has several, each under a line `# version: NAME`.
+# The wrong versions of must-fail edits, one to a line, in fields between tabs: crate, edit, version, what it is, where it is wrong, and the file, the need and
+# the words of the refusal that it names. An edit is one version of its own name, or has several, each under a line `# version: NAME`.
 # Usage: awk -f tests/versions.awk crates/*/must-fail/*.edit
 
 function told() {
