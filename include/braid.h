@@ -18,7 +18,6 @@
 #ifndef BRAID_H
 #define BRAID_H
 
-#include <stddef.h>
 #include <stdint.h>
 
 #ifdef __cplusplus
@@ -26,8 +25,8 @@ extern "C" {
 #endif
 
 /* The minor number rises where calls, values or refusals are added, the major one where an image, a call or a value that was there has changed: since 1.0 tables have weights, and with them the
- * images of tables and chains and their plain forms are others. */
-#define BRAID_VERSION_MAJOR 2
+ * images of tables and chains and their plain forms are others; since 2.0 lengths have 64 bits on every processor, as they had on 64-bit x86. */
+#define BRAID_VERSION_MAJOR 3
 #define BRAID_VERSION_MINOR 0
 
 /* A result must be looked at, and no pointer may be null; told to the compiler where it can be. */
@@ -77,15 +76,15 @@ static inline unsigned braid_table_moves(const uint8_t *table)
 }
 
 /* Bytes of a chain image of so many entries under a table of n moves (5.6). */
-static inline size_t braid_chain_bytes(unsigned n, size_t entries)
+static inline uint64_t braid_chain_bytes(unsigned n, uint64_t entries)
 {
-    return (16 + entries * (15 + 2 * (size_t)braid_move_bits(n)) + 7) / 8;
+    return (16 + entries * (15 + 2 * (uint64_t)braid_move_bits(n)) + 7) / 8;
 }
 
 /* Bytes of a bed under a table of n moves (6.11). */
-static inline size_t braid_bed_bytes(unsigned n)
+static inline uint64_t braid_bed_bytes(unsigned n)
 {
-    return (n + (size_t)1) * (n + (size_t)1);
+    return (n + (uint64_t)1) * (n + (uint64_t)1);
 }
 
 /* RESULTS (section 7) */
@@ -149,7 +148,7 @@ static inline const char *braid_text(uint8_t result)
         "the allowance is used",
         "the workspace is too short",
         "the answer area is too short",
-        NULL, /* 14 is unused */
+        (const char *)0, /* 14 is unused */
         "the table isn't the braid table of its number of moves",
         "the table has no mirror",
         "a triple of the mirror breaks the cube rule",
@@ -187,15 +186,15 @@ static inline const char *braid_text(uint8_t result)
  * Values: length of the numerator, length of the denominator, steps, 0. Refusals: 1 to 6, 10 (back move's number first), 11, 12, 13.
  * Steps in another order (3.7) would come to the same two words in as many steps, and after 10 to no end.
  */
-BRAID_CALL uint8_t braid_reverse(const uint8_t *table, size_t table_length, const uint8_t *program, size_t program_length, uint16_t allowance,
-                                 uint8_t *workspace, size_t workspace_length, uint8_t *answer, size_t answer_length, uint64_t *values);
+BRAID_CALL uint8_t braid_reverse(const uint8_t *table, uint64_t table_length, const uint8_t *program, uint64_t program_length, uint16_t allowance,
+                                 uint8_t *workspace, uint64_t workspace_length, uint8_t *answer, uint64_t answer_length, uint64_t *values);
 
 /*
  * The sizes of what braid_reverse would answer, with no answer area (6.15): a caller can reserve memory, then call braid_commit.
  * Values: as reverse. Refusals: 1 to 6, 10, 11, 12.
  */
-BRAID_CALL uint8_t braid_enquire(const uint8_t *table, size_t table_length, const uint8_t *program, size_t program_length, uint16_t allowance,
-                                 uint8_t *workspace, size_t workspace_length, uint64_t *values);
+BRAID_CALL uint8_t braid_enquire(const uint8_t *table, uint64_t table_length, const uint8_t *program, uint64_t program_length, uint16_t allowance,
+                                 uint8_t *workspace, uint64_t workspace_length, uint64_t *values);
 
 /*
  * As braid_reverse, for a caller who has the three numbers (6.16); any may be handed in. 18 where one of them is not that of this reversing, also where the
@@ -203,9 +202,9 @@ BRAID_CALL uint8_t braid_enquire(const uint8_t *table, size_t table_length, cons
  * denominator bytes, it answers, and leaves in the area what braid_reverse would.
  * Answer area and values: as reverse. Refusals: 1 to 6, then 10, 11 or 12, then 18, then 13.
  */
-BRAID_CALL uint8_t braid_commit(const uint8_t *table, size_t table_length, const uint8_t *program, size_t program_length, uint16_t allowance,
-                                uint64_t numerator, uint64_t denominator, uint64_t steps, uint8_t *workspace, size_t workspace_length,
-                                uint8_t *answer, size_t answer_length, uint64_t *values);
+BRAID_CALL uint8_t braid_commit(const uint8_t *table, uint64_t table_length, const uint8_t *program, uint64_t program_length, uint16_t allowance,
+                                uint64_t numerator, uint64_t denominator, uint64_t steps, uint8_t *workspace, uint64_t workspace_length,
+                                uint8_t *answer, uint64_t answer_length, uint64_t *values);
 
 /*
  * Reverses a program from its finished end (3.8). A step takes the rightmost forward move that stands directly before a back one; with the relation whose sides
@@ -213,14 +212,14 @@ BRAID_CALL uint8_t braid_commit(const uint8_t *table, size_t table_length, const
  * pair: its sides end in the same move, or in the last moves of a relation before it. The table need not clear.
  * Answer area and values: as reverse. Refusals: 1 to 6, then 16, then 10 (back move's number first), 11 or 12, then 13.
  */
-BRAID_CALL uint8_t braid_left_reverse(const uint8_t *table, size_t table_length, const uint8_t *program, size_t program_length, uint16_t allowance,
-                                      uint8_t *workspace, size_t workspace_length, uint8_t *answer, size_t answer_length, uint64_t *values);
+BRAID_CALL uint8_t braid_left_reverse(const uint8_t *table, uint64_t table_length, const uint8_t *program, uint64_t program_length, uint16_t allowance,
+                                      uint8_t *workspace, uint64_t workspace_length, uint8_t *answer, uint64_t answer_length, uint64_t *values);
 
 /*
  * The weight check of a table, that both sides of each relation weigh the same (4.2), then its cube check.
  * Values: 0, 0, 0, 0. Refusals: 1 to 3, 8, 9, 11, 12.
  */
-BRAID_CALL uint8_t braid_clear(const uint8_t *table, size_t table_length, uint16_t allowance, uint8_t *workspace, size_t workspace_length,
+BRAID_CALL uint8_t braid_clear(const uint8_t *table, uint64_t table_length, uint16_t allowance, uint8_t *workspace, uint64_t workspace_length,
                                uint64_t *values);
 
 /*
@@ -229,7 +228,7 @@ BRAID_CALL uint8_t braid_clear(const uint8_t *table, size_t table_length, uint16
  * table itself obeys the cube rule plays no part.
  * Values: 0, 0, 0, 0. Refusals: 1 to 3, 16, 8, 17, 11, 12.
  */
-BRAID_CALL uint8_t braid_mirror_clear(const uint8_t *table, size_t table_length, uint16_t allowance, uint8_t *workspace, size_t workspace_length,
+BRAID_CALL uint8_t braid_mirror_clear(const uint8_t *table, uint64_t table_length, uint16_t allowance, uint8_t *workspace, uint64_t workspace_length,
                                       uint64_t *values);
 
 /*
@@ -237,8 +236,8 @@ BRAID_CALL uint8_t braid_mirror_clear(const uint8_t *table, size_t table_length,
  * different weights are different without a step; those of equal weight may be the same though they are not equally long.
  * Values: BRAID_SAME or BRAID_DIFFERENT, steps, 0, 0. Refusals: 1 to 9, 11, 12.
  */
-BRAID_CALL uint8_t braid_compare(const uint8_t *table, size_t table_length, const uint8_t *first, size_t first_length, const uint8_t *second,
-                                 size_t second_length, uint16_t allowance, uint8_t *workspace, size_t workspace_length, uint64_t *values);
+BRAID_CALL uint8_t braid_compare(const uint8_t *table, uint64_t table_length, const uint8_t *first, uint64_t first_length, const uint8_t *second,
+                                 uint64_t second_length, uint16_t allowance, uint8_t *workspace, uint64_t workspace_length, uint64_t *values);
 
 /*
  * Compares two programs of any signs (6.18). They are the same exactly if a chain of swaps on forward moves that stand together, and of a move beside its undoing put in or taken
@@ -247,8 +246,8 @@ BRAID_CALL uint8_t braid_compare(const uint8_t *table, size_t table_length, cons
  * BRAID_SET as their place. Once it is closed, two reversings decide, and meet no open pair.
  * Values: BRAID_SAME or BRAID_DIFFERENT, steps of the first reversing, steps of the second, 0. Refusals: 1 to 6, 16, 8, 9, 17, 21, 22, 11, 12.
  */
-BRAID_CALL uint8_t braid_compare_signed(const uint8_t *table, size_t table_length, const uint8_t *first, size_t first_length, const uint8_t *second,
-                                        size_t second_length, uint16_t allowance, uint8_t *workspace, size_t workspace_length, uint64_t *values);
+BRAID_CALL uint8_t braid_compare_signed(const uint8_t *table, uint64_t table_length, const uint8_t *first, uint64_t first_length, const uint8_t *second,
+                                        uint64_t second_length, uint16_t allowance, uint8_t *workspace, uint64_t workspace_length, uint64_t *values);
 
 /*
  * As compare. After 'same' the answer area begins with the image of a chain that turns the first program into the second. It has an entry for each step of
@@ -257,9 +256,9 @@ BRAID_CALL uint8_t braid_compare_signed(const uint8_t *table, size_t table_lengt
  * Values: BRAID_SAME, steps, entries, bytes of the image; or BRAID_DIFFERENT, steps, 0, 0. Refusals: as compare, and 13 after 'same' if the area is shorter
  * than the image. braid_chain_bytes(n, allowance) always suffices, and so do as many entries as braid_compare's steps; n is braid_table_moves(table).
  */
-BRAID_CALL uint8_t braid_chain(const uint8_t *table, size_t table_length, const uint8_t *first, size_t first_length, const uint8_t *second,
-                               size_t second_length, uint16_t allowance, uint8_t *workspace, size_t workspace_length, uint8_t *answer,
-                               size_t answer_length, uint64_t *values);
+BRAID_CALL uint8_t braid_chain(const uint8_t *table, uint64_t table_length, const uint8_t *first, uint64_t first_length, const uint8_t *second,
+                               uint64_t second_length, uint16_t allowance, uint8_t *workspace, uint64_t workspace_length, uint8_t *answer,
+                               uint64_t answer_length, uint64_t *values);
 
 /*
  * Clears the table and says which moves are left to run of a pattern after those done, both programs of forward moves (6.10). After 'moves' the
@@ -268,9 +267,9 @@ BRAID_CALL uint8_t braid_chain(const uint8_t *table, size_t table_length, const 
  * area as found. One as long as the workspace always suffices.
  * Values: BRAID_MOVES or BRAID_NONE; how many moves, 0 after 'none'; steps; 0. Refusals: 1 to 9, 11, 12, 13 (never in place of 'none').
  */
-BRAID_CALL uint8_t braid_remainder(const uint8_t *table, size_t table_length, const uint8_t *done, size_t done_length, const uint8_t *pattern,
-                                   size_t pattern_length, uint16_t allowance, uint8_t *workspace, size_t workspace_length, uint8_t *answer,
-                                   size_t answer_length, uint64_t *values);
+BRAID_CALL uint8_t braid_remainder(const uint8_t *table, uint64_t table_length, const uint8_t *done, uint64_t done_length, const uint8_t *pattern,
+                                   uint64_t pattern_length, uint16_t allowance, uint8_t *workspace, uint64_t workspace_length, uint8_t *answer,
+                                   uint64_t answer_length, uint64_t *values);
 
 /*
  * Compares up to BRAID_MOST_LOGS logs with one pattern, all programs of forward moves, and clears the table once for all of them (6.19). The tray is a byte with the number of logs, then for each
@@ -279,36 +278,36 @@ BRAID_CALL uint8_t braid_remainder(const uint8_t *table, size_t table_length, co
  * same table, allowance and workspace length: a log that is refused changes the answer for no other, and the call is answered. 13 is judged after the clearing, before the first log.
  * Values: logs, 0, 0, 0. Refusals: 23 (by the first byte alone), 24 (the tray ends early, or bytes follow it), 1 to 3, 4 to 7 (of the pattern), 8, then 9, 11 or 12 (with a triple), then 13.
  */
-BRAID_CALL uint8_t braid_tray(const uint8_t *table, size_t table_length, const uint8_t *tray, size_t tray_length, const uint8_t *pattern,
-                              size_t pattern_length, uint16_t allowance, uint8_t *workspace, size_t workspace_length, uint8_t *answer,
-                              size_t answer_length, uint64_t *values);
+BRAID_CALL uint8_t braid_tray(const uint8_t *table, uint64_t table_length, const uint8_t *tray, uint64_t tray_length, const uint8_t *pattern,
+                              uint64_t pattern_length, uint16_t allowance, uint8_t *workspace, uint64_t workspace_length, uint8_t *answer,
+                              uint64_t answer_length, uint64_t *values);
 
 /*
  * Follows a given chain from the first program of forward moves; the table need not clear. The workspace holds the word on its way; one
  * of as many bytes as the first program weighs, at most 8 a move, suffices for a chain that braid_chain listed.
  * Values: BRAID_JOINS, BRAID_BREAKS or BRAID_ENDS_ELSEWHERE; the entry that breaks, from 0, else 0; 0; 0. Refusals: 1 to 7, 12.
  */
-BRAID_CALL uint8_t braid_check(const uint8_t *table, size_t table_length, const uint8_t *first, size_t first_length, const uint8_t *second,
-                               size_t second_length, const uint8_t *chain, size_t chain_length, uint8_t *workspace, size_t workspace_length,
+BRAID_CALL uint8_t braid_check(const uint8_t *table, uint64_t table_length, const uint8_t *first, uint64_t first_length, const uint8_t *second,
+                               uint64_t second_length, const uint8_t *chain, uint64_t chain_length, uint8_t *workspace, uint64_t workspace_length,
                                uint64_t *values);
 
 /*
  * The image of a plain table, or the plain form of a table image, with the weights of its moves (5.4, 5.7). Values: bytes written, 0, 0, 0. Refusals: 1, 2, 3, 13.
  */
-BRAID_CALL uint8_t braid_pack_table(const uint8_t *plain, size_t plain_length, uint8_t *answer, size_t answer_length, uint64_t *values);
-BRAID_CALL uint8_t braid_unpack_table(const uint8_t *table, size_t table_length, uint8_t *answer, size_t answer_length, uint64_t *values);
+BRAID_CALL uint8_t braid_pack_table(const uint8_t *plain, uint64_t plain_length, uint8_t *answer, uint64_t answer_length, uint64_t *values);
+BRAID_CALL uint8_t braid_unpack_table(const uint8_t *table, uint64_t table_length, uint8_t *answer, uint64_t answer_length, uint64_t *values);
 
 /*
  * The image of a plain program under its table. Values: bytes written, 0, 0, 0. Refusals: 1 to 5, 13.
  */
-BRAID_CALL uint8_t braid_pack_program(const uint8_t *table, size_t table_length, const uint8_t *plain, size_t plain_length, uint8_t *answer,
-                                      size_t answer_length, uint64_t *values);
+BRAID_CALL uint8_t braid_pack_program(const uint8_t *table, uint64_t table_length, const uint8_t *plain, uint64_t plain_length, uint8_t *answer,
+                                      uint64_t answer_length, uint64_t *values);
 
 /*
  * The plain form of a program image under its table. Values: bytes written, 0, 0, 0. Refusals: 1 to 6, 13.
  */
-BRAID_CALL uint8_t braid_unpack_program(const uint8_t *table, size_t table_length, const uint8_t *program, size_t program_length,
-                                        uint8_t *answer, size_t answer_length, uint64_t *values);
+BRAID_CALL uint8_t braid_unpack_program(const uint8_t *table, uint64_t table_length, const uint8_t *program, uint64_t program_length,
+                                        uint8_t *answer, uint64_t answer_length, uint64_t *values);
 
 /*
  * The bed after the first `moves` moves of a program, or after all of them where it has no more, under the braid table of n moves (2.4). The n + 1
@@ -317,8 +316,8 @@ BRAID_CALL uint8_t braid_unpack_program(const uint8_t *table, size_t table_lengt
  * complement: braid_bed_bytes(n) bytes. Joined programs, run to the end, leave equal beds (6.11).
  * Values: bytes written, 0, 0, 0. Refusals: 1 to 3, 15, 4 to 6, 13, in this order.
  */
-BRAID_CALL uint8_t braid_bed(const uint8_t *table, size_t table_length, const uint8_t *program, size_t program_length, uint64_t moves,
-                             uint8_t *answer, size_t answer_length, uint64_t *values);
+BRAID_CALL uint8_t braid_bed(const uint8_t *table, uint64_t table_length, const uint8_t *program, uint64_t program_length, uint64_t moves,
+                             uint8_t *answer, uint64_t answer_length, uint64_t *values);
 
 /*
  * All words of forward moves that chains join to a program of forward moves, each once, in order of the first move that differs, lower number first
@@ -326,8 +325,8 @@ BRAID_CALL uint8_t braid_bed(const uint8_t *table, size_t table_length, const ui
  * longer than the area, the area holds zeros in every byte, the one refusal that changes it. There is neither allowance nor workspace.
  * Values: words, bytes written, 0, 0. Refusals: 1 to 8, 13, in this order.
  */
-BRAID_CALL uint8_t braid_ways(const uint8_t *table, size_t table_length, const uint8_t *program, size_t program_length, uint8_t *answer,
-                              size_t answer_length, uint64_t *values);
+BRAID_CALL uint8_t braid_ways(const uint8_t *table, uint64_t table_length, const uint8_t *program, uint64_t program_length, uint8_t *answer,
+                              uint64_t answer_length, uint64_t *values);
 
 /*
  * The moves that a pattern means, from its text (6.17): items with one space between; an item is a move number of 1 to 99 or a bracket that holds a pattern, with at
@@ -336,8 +335,8 @@ BRAID_CALL uint8_t braid_ways(const uint8_t *table, size_t table_length, const u
  * always suffice. 5 is a move number above n, also under a count of 0. There is neither allowance nor workspace.
  * Values: moves written, 0, 0, 0. Refusals: 1 to 3, 19, 5, 20, 13, in this order.
  */
-BRAID_CALL uint8_t braid_import(const uint8_t *table, size_t table_length, const uint8_t *text, size_t text_length, uint8_t *answer,
-                                size_t answer_length, uint64_t *values);
+BRAID_CALL uint8_t braid_import(const uint8_t *table, uint64_t table_length, const uint8_t *text, uint64_t text_length, uint8_t *answer,
+                                uint64_t answer_length, uint64_t *values);
 
 #ifdef __cplusplus
 }
