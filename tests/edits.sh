@@ -109,26 +109,28 @@ else
     failed=$((failed + 1))
     echo "failed: docs/MUST_FAIL.md is not what the edits say: sh tests/edits.sh --write"
 fi
-found=$(faults .)
-if [ -z "$found" ]; then passed=$((passed + 1)); else failed=$((failed + 1)); printf 'failed: edits that do not say what they must\n%s\n' "$found"; fi
-found=$(fits .)
-if [ -z "$found" ]; then passed=$((passed + 1)); else failed=$((failed + 1)); printf 'failed: edits that do not fit their text\n%s\n' "$found"; fi
+# held WHAT WANT FOUND: what a look found is what it must find
+held() {
+    if [ "$3" = "$2" ]; then
+        passed=$((passed + 1))
+    else
+        failed=$((failed + 1))
+        printf 'failed: of %s it must find: %s; it finds:\n%s\n' "$1" "${2:-nothing}" "$3"
+    fi
+}
+held 'what the edits say' '' "$(faults .)"
+held 'the texts of the edits' '' "$(fits .)"
 
 work=$(mktemp -d) || exit 1
 trap 'rm -rf "$work"' EXIT
 mkdir -p "$work/crates/x/must-fail" "$work/crates/x/proofs"
 printf 'law : Type\npub other : Type\npub named : Type\n' > "$work/crates/x/proofs/A.antt"
+edit=crates/x/must-fail/y.edit
 
-# judged FAULT LINES: an edit of these lines has one fault, which is told so; with no FAULT it has none
+# judged FAULT LINES [VERSION]: an edit of these lines has one fault, of this version where it has several, which is told so; with no FAULT it has none
 judged() {
-    printf '%b' "$2" > "$work/crates/x/must-fail/y.edit"
-    found=$(faults "$work")
-    if [ "$found" = "${1:+crates/x/must-fail/y.edit: $1}" ]; then
-        passed=$((passed + 1))
-    else
-        failed=$((failed + 1))
-        printf 'failed: of an edit with %s it is found: %s\n' "${1:-no fault}" "$found"
-    fi
+    printf '%b' "$2" > "$work/$edit"
+    held "an edit with ${1:-no fault}" "${1:+$edit${3:+, $3}: $1}" "$(faults "$work")"
 }
 said='# a version\n'
 input='# wrong at: clear S: 2, right is 1\n'
@@ -150,16 +152,7 @@ judged 'no public law of this name in the file that is changed' "$said$input# wr
 place='# refused at: proofs/A.antt'
 judged '' "# version: a\n$said$input$place one\n$version# version: b\n$said$input$place two: a fact\n$version"
 # of_version FAULT LINES: the same of a version beside a sound one
-of_version() {
-    printf '%b' "# version: a\n$said$input$place one\n$version# version: b\n$2" > "$work/crates/x/must-fail/y.edit"
-    found=$(faults "$work")
-    if [ "$found" = "crates/x/must-fail/y.edit, b: $1" ]; then
-        passed=$((passed + 1))
-    else
-        failed=$((failed + 1))
-        printf 'failed: of a version with %s it is found: %s\n' "$1" "$found"
-    fi
-}
+of_version() { judged "$1" "# version: a\n$said$input$place one\n$version# version: b\n$2" b; }
 of_version 'one of several versions, and no line "# refused at: FILE NEED"' "$said$input$version"
 of_version 'another version is refused at the same need' "$said$input$place one\n$version"
 of_version 'no file proofs/B.antt is there to be refused' "$said$input# refused at: proofs/B.antt one\n$version"
@@ -168,13 +161,8 @@ judged 'one version alone needs no name of its own' "# version: a\n$said$input$p
 
 # fitting FAULT LINES: an edit of proofs/A.antt fits, or with a FAULT it does not
 fitting() {
-    printf 'file: proofs/A.antt\n%b' "$2" > "$work/crates/x/must-fail/y.edit"
-    found=$(fits "$work")
-    case $found in
-        "${1:+crates/x/must-fail/y.edit: the text stands }$1"*) passed=$((passed + 1)) ;;
-        *) failed=$((failed + 1)); printf 'failed: of an edit whose text stands %s it is found: %s\n' "${1:-once}" "$found" ;;
-    esac
-    [ -n "$1" ] || [ -z "$found" ] || { failed=$((failed + 1)); passed=$((passed - 1)); echo "failed: an edit that fits is refused: $found"; }
+    printf 'file: proofs/A.antt\n%b' "$2" > "$work/$edit"
+    held "an edit whose text stands ${1:-once}" "${1:+$edit: the text stands $1}" "$(fits "$work" | sed 's/ in proofs.*//')"
 }
 fitting '' 'old: pub named\nnew: pub another\nold: another :\nnew: one\n'
 fitting 'not' 'old: missing\nnew: one\n'
