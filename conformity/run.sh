@@ -1,0 +1,16 @@
+#!/bin/sh
+# Builds the runner over a library and runs vectors on it. It needs sh and a C compiler (cc, or what CC names).
+# Usage: sh conformity/run.sh LIBRARY.a [VECTORS], the examples where no file is named. The last line is 'N passed, M failed'.
+# Exit status: 0 every case that was run held, and some were run; 1 a case failed, or the file is not one of vectors; 2 bad usage, or the runner was not built.
+here=$(cd "$(dirname "$0")" && pwd) || exit 2
+usage() { echo "usage: sh conformity/run.sh LIBRARY.a [VECTORS]" >&2; exit 2; }
+[ $# -eq 1 ] || [ $# -eq 2 ] || usage
+[ -f "$1" ] || { echo "there is no library $1: name the static library that is to be judged" >&2; usage; }
+vectors=${2:-$here/examples.txt}
+[ -f "$vectors" ] || { echo "there is no file $vectors: name a file of vectors" >&2; usage; }
+work=$(mktemp -d) || exit 2
+trap 'rm -rf "$work"' EXIT
+# shellcheck disable=SC2086
+${CC:-cc} -std=c99 $CFLAGS -I"$here/../include" "$here/runner.c" "$here/host.c" "$1" -o "$work/runner" ||
+    { echo "the runner was not built over $1: the compiler says above what is missing" >&2; exit 2; }
+"$work/runner" "$vectors"
