@@ -2,7 +2,8 @@
 # Keeps the LLVM module from which `rt staticlib braid` makes the static library: target/boards/braid.bc, and beside it the archive that was made of it.
 # Boards, WebAssembly and coverage are made from this module. The kit is neither copied nor changed: `rt` runs over a folder of links to it, in which only
 # clang is a stand-in that keeps its input and then calls the kit's own.
-# Usage: sh boards/module.sh. Exit status: 0 the module is there and current; 1 the library is not proved or not built; 2 bad usage, or the kit is not as expected.
+# Usage: sh boards/module.sh. Exit status: 0 the module is there and current; 1 the library is not proved or not built; 2 bad usage, or the kit is not as
+# expected.
 cd "$(dirname "$0")/.." || exit 2
 known=22
 fail() { echo "boards/module.sh: $1" >&2; exit "${2:-2}"; }

@@ -3,9 +3,9 @@
  * bit; section numbers below are its.
  *
  * What a caller must keep (8.2). Each pointer is not null, also where its length is 0 (as an empty vector's may be), and points to memory of that
- * length which may be read, that of areas and values also written; values points to four aligned numbers. No two images, texts, trays, areas or values of one call
- * overlap: first and second are two places, also for equal programs. During the call no other thread writes to images, texts or trays, or touches areas and values.
- * Nothing is promised where this is broken, and no call checks it. A call writes the workspace, the answer area and the four values, each only as
+ * length which may be read, that of areas and values also written; values points to four aligned numbers. No two images, texts, trays, areas or values of one
+ * call overlap: first and second are two places, also for equal programs. During the call no other thread writes to images, texts or trays, or touches areas
+ * and values. Nothing is promised where this is broken, and no call checks it. A call writes the workspace, the answer area and the four values, each only as
  * said below, and no other memory; it keeps nothing, so calls with different areas and values may run at the same time, also on the same images.
  *
  * The language is C99 or later, or C++. An allowance is 16 bits: a larger number is cut by the compiler before the call sees it.
@@ -24,8 +24,9 @@
 extern "C" {
 #endif
 
-/* The minor number rises where calls, values or refusals are added, the major one where an image, a call or a value that was there has changed: since 1.0 tables have weights, and with them the
- * images of tables and chains and their plain forms are others; since 2.0 lengths have 64 bits on every processor, as they had on 64-bit x86. */
+/* The minor number rises where calls, values or refusals are added, the major one where an image, a call or a value that was there has changed: since 1.0
+ * tables have weights, and with them the images of tables and chains and their plain forms are others; since 2.0 lengths have 64 bits on every processor, as
+ * they had on 64-bit x86. */
 #define BRAID_VERSION_MAJOR 3
 #define BRAID_VERSION_MINOR 0
 
@@ -117,7 +118,8 @@ enum braid_result {
     BRAID_NOT_TRAY = 24
 };
 
-/* What values[0] means follows from call and result. An answer of compare, compare_signed or chain, and the first byte of the answer for a log of a tray that isn't refused: */
+/* What values[0] means follows from call and result. An answer of compare, compare_signed or chain, and the first byte of the answer for a log of a tray that
+ * isn't refused: */
 enum braid_verdict { BRAID_SAME = 0, BRAID_DIFFERENT = 1 };
 
 /* An answer of remainder: */
@@ -178,7 +180,8 @@ static inline const char *braid_text(uint8_t result)
  *                                          refusal, but for 13 of braid_ways
  *   values                                 all four are set by every call
  *
- * A larger allowance, workspace or answer area changes no outcome but 11, 12 and 13, and of the answer for a log no other than 11 and 12. A workspace of 32,768 bytes is usual.
+ * A larger allowance, workspace or answer area changes no outcome but 11, 12 and 13, and of the answer for a log no other than 11 and 12. A workspace of 32,768
+ * bytes is usual.
  */
 
 /*
@@ -240,10 +243,11 @@ BRAID_CALL uint8_t braid_compare(const uint8_t *table, uint64_t table_length, co
                                  uint64_t second_length, uint16_t allowance, uint8_t *workspace, uint64_t workspace_length, uint64_t *values);
 
 /*
- * Compares two programs of any signs (6.18). They are the same exactly if a chain of swaps on forward moves that stand together, and of a move beside its undoing put in or taken
- * out, leads from one to the other; a verdict is right. The table must have a mirror (16), and it and its mirror must clear (8, 9, 17). Then a set of words is grown in the workspace, from the
- * empty word and the single moves, by adding each u\v of two of its words: 21 where an open pair is met, 22 where it passes BRAID_MOST_SET words; 11 and 12 meanwhile name the set, with
- * BRAID_SET as their place. Once it is closed, two reversings decide, and meet no open pair.
+ * Compares two programs of any signs (6.18). They are the same exactly if a chain of swaps on forward moves that stand together, and of a move beside its
+ * undoing put in or taken out, leads from one to the other; a verdict is right. The table must have a mirror (16), and it and its mirror must clear (8, 9, 17).
+ * Then a set of words is grown in the workspace, from the empty word and the single moves, by adding each u\v of two of its words: 21 where an open pair is
+ * met, 22 where it passes BRAID_MOST_SET words; 11 and 12 meanwhile name the set, with BRAID_SET as their place. Once it is closed, two reversings decide, and
+ * meet no open pair.
  * Values: BRAID_SAME or BRAID_DIFFERENT, steps of the first reversing, steps of the second, 0. Refusals: 1 to 6, 16, 8, 9, 17, 21, 22, 11, 12.
  */
 BRAID_CALL uint8_t braid_compare_signed(const uint8_t *table, uint64_t table_length, const uint8_t *first, uint64_t first_length, const uint8_t *second,
@@ -272,11 +276,13 @@ BRAID_CALL uint8_t braid_remainder(const uint8_t *table, uint64_t table_length, 
                                    uint64_t answer_length, uint64_t *values);
 
 /*
- * Compares up to BRAID_MOST_LOGS logs with one pattern, all programs of forward moves, and clears the table once for all of them (6.19). The tray is a byte with the number of logs, then for each
- * log its image's length in two bytes, high byte first, and the image (5.11). Answer area: BRAID_LOG_BYTES bytes for each log, in the order of the tray: BRAID_SAME, BRAID_DIFFERENT or the number of
- * a refusal of this log (4 to 7, 11, 12), then the steps in two bytes, high byte first, 0 after a refusal. They are what braid_compare says of this log as first and the pattern as second, with the
- * same table, allowance and workspace length: a log that is refused changes the answer for no other, and the call is answered. 13 is judged after the clearing, before the first log.
- * Values: logs, 0, 0, 0. Refusals: 23 (by the first byte alone), 24 (the tray ends early, or bytes follow it), 1 to 3, 4 to 7 (of the pattern), 8, then 9, 11 or 12 (with a triple), then 13.
+ * Compares up to BRAID_MOST_LOGS logs with one pattern, all programs of forward moves, and clears the table once for all of them (6.19). The tray is a byte
+ * with the number of logs, then for each log its image's length in two bytes, high byte first, and the image (5.11). Answer area: BRAID_LOG_BYTES bytes for
+ * each log, in the order of the tray: BRAID_SAME, BRAID_DIFFERENT or the number of a refusal of this log (4 to 7, 11, 12), then the steps in two bytes, high
+ * byte first, 0 after a refusal. They are what braid_compare says of this log as first and the pattern as second, with the same table, allowance and workspace
+ * length: a log that is refused changes the answer for no other, and the call is answered. 13 is judged after the clearing, before the first log.
+ * Values: logs, 0, 0, 0. Refusals: 23 (by the first byte alone), 24 (the tray ends early, or bytes follow it), 1 to 3, 4 to 7 (of the pattern), 8, then 9, 11
+ * or 12 (with a triple), then 13.
  */
 BRAID_CALL uint8_t braid_tray(const uint8_t *table, uint64_t table_length, const uint8_t *tray, uint64_t tray_length, const uint8_t *pattern,
                               uint64_t pattern_length, uint16_t allowance, uint8_t *workspace, uint64_t workspace_length, uint8_t *answer,
@@ -292,7 +298,8 @@ BRAID_CALL uint8_t braid_check(const uint8_t *table, uint64_t table_length, cons
                                uint64_t *values);
 
 /*
- * The image of a plain table, or the plain form of a table image, with the weights of its moves (5.4, 5.7). Values: bytes written, 0, 0, 0. Refusals: 1, 2, 3, 13.
+ * The image of a plain table, or the plain form of a table image, with the weights of its moves (5.4, 5.7). Values: bytes written, 0, 0, 0. Refusals: 1, 2, 3,
+ * 13.
  */
 BRAID_CALL uint8_t braid_pack_table(const uint8_t *plain, uint64_t plain_length, uint8_t *answer, uint64_t answer_length, uint64_t *values);
 BRAID_CALL uint8_t braid_unpack_table(const uint8_t *table, uint64_t table_length, uint8_t *answer, uint64_t answer_length, uint64_t *values);
@@ -329,10 +336,10 @@ BRAID_CALL uint8_t braid_ways(const uint8_t *table, uint64_t table_length, const
                               uint64_t answer_length, uint64_t *values);
 
 /*
- * The moves that a pattern means, from its text (6.17): items with one space between; an item is a move number of 1 to 99 or a bracket that holds a pattern, with at
- * most one minus before it and at most one ^ and a count of 0 to 99 after it; the count acts first, then the minus undoes the whole. Brackets nest at most 8 deep. Exactly
- * these texts are read, each in one way; the empty text is one. Answer area: the moves as a plain program, a byte each, 128 more for a back move; BRAID_MOST_MOVES bytes
- * always suffice. 5 is a move number above n, also under a count of 0. There is neither allowance nor workspace.
+ * The moves that a pattern means, from its text (6.17): items with one space between; an item is a move number of 1 to 99 or a bracket that holds a pattern,
+ * with at most one minus before it and at most one ^ and a count of 0 to 99 after it; the count acts first, then the minus undoes the whole. Brackets nest at
+ * most 8 deep. Exactly these texts are read, each in one way; the empty text is one. Answer area: the moves as a plain program, a byte each, 128 more for a
+ * back move; BRAID_MOST_MOVES bytes always suffice. 5 is a move number above n, also under a count of 0. There is neither allowance nor workspace.
  * Values: moves written, 0, 0, 0. Refusals: 1 to 3, 19, 5, 20, 13, in this order.
  */
 BRAID_CALL uint8_t braid_import(const uint8_t *table, uint64_t table_length, const uint8_t *text, uint64_t text_length, uint8_t *answer,

@@ -1,7 +1,7 @@
 /*
  * What the header says of sizes and of stack, held against the library: each call runs on a stack of its own that is painted before, and the
- * longest forms are packed, and the largest tray of logs that can be read is compared. Then texts of some megabytes are imported, whose time must be in proportion to their bytes. The last line is
- * 'N passed, M failed'.
+ * longest forms are packed, and the largest tray of logs that can be read is compared. Then texts of some megabytes are imported, whose time must be in
+ * proportion to their bytes. The last line is 'N passed, M failed'.
  */
 #define _XOPEN_SOURCE 700
 #include "braid.h"
@@ -206,7 +206,8 @@ static void engine(void)
     hold("the moves of a table", braid_table_moves(table) == 3);
     hold("a move field's bits", braid_move_bits(1) == 0 && braid_move_bits(2) == 1 && braid_move_bits(9) == 4 && braid_move_bits(16) == 4);
     hold("the largest allowance", (uint16_t)BRAID_MOST_ALLOWANCE == BRAID_MOST_ALLOWANCE && (uint16_t)(BRAID_MOST_ALLOWANCE + 1) == 0);
-    hold("the last text", strcmp(braid_text(BRAID_NOT_TRAY), "the tray ends too early, or bytes follow it") == 0 && strcmp(braid_text(BRAID_NOT_TRAY + 1), braid_text(200)) == 0);
+    hold("the last text", strcmp(braid_text(BRAID_NOT_TRAY), "the tray ends too early, or bytes follow it") == 0 &&
+                              strcmp(braid_text(BRAID_NOT_TRAY + 1), braid_text(200)) == 0);
     hold("texts", strcmp(braid_text(BRAID_OPEN_PAIR), "the reversing met an open pair") == 0 && strcmp(braid_text(14), braid_text(200)) == 0);
 }
 

@@ -115,6 +115,15 @@ sees() {
     mkdir -p "$work/tree/crates/x/src" "$work/tree/target/log" "$work/tree/.ci"
 }
 
+# puts README and the files of the services that it names into the tree
+services() {
+    cp README.md "$work/tree/"
+    for file in $(sed -n 's/^| [^|]* | `\([a-z_]*\)::\([a-z_]*\)::[a-z_]*` |.*/crates\/\1\/src\/\2.rt/p' README.md); do
+        mkdir -p "$work/tree/$(dirname "$file")"
+        cp "$file" "$work/tree/$file"
+    done
+}
+
 # passes NAME: it finds nothing in that tree
 passes() {
     found=$("$1" "$work/tree" "$work")
@@ -132,13 +141,11 @@ toolchain .
 mkdir -p "$work/tree/crates/x/src" "$work/tree/target/log" "$work/tree/.ci"
 printf 'pub fn one(x: u8) -> u8 {\n    x\n}\n' > "$work/tree/crates/x/src/x.rt"
 sees promises 'a public function without a promise'
-cp README.md "$work/tree/"
-for file in $(sed -n 's/^| [^|]* | `\([a-z_]*\)::\([a-z_]*\)::[a-z_]*` |.*/crates\/\1\/src\/\2.rt/p' README.md); do mkdir -p "$work/tree/$(dirname "$file")"; cp "$file" "$work/tree/$file"; done
+services
 sed 's/^    ensures stated /    requires { ⌜ Unit ⌝ }\n    ensures stated /' crates/clearing/src/clear.rt > "$work/tree/crates/clearing/src/clear.rt"
 sees asks_nothing 'a service that asks something'
 printf '#[no_mangle]\npub extern "C" fn one(x: u8) -> u8\n    requires { x }\n    ensures { x }\n{\n    x\n}\n' > "$work/tree/crates/x/src/x.rt"
-cp README.md "$work/tree/"
-for file in $(sed -n 's/^| [^|]* | `\([a-z_]*\)::\([a-z_]*\)::[a-z_]*` |.*/crates\/\1\/src\/\2.rt/p' README.md); do mkdir -p "$work/tree/$(dirname "$file")"; cp "$file" "$work/tree/$file"; done
+services
 sees asks_nothing 'a function for C that asks something'
 echo 'x:' > "$work/tree/crates.txt"
 echo 'logic=proved functions=1 axioms=1 sum=0' > "$work/tree/target/log/x.out"

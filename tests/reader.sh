@@ -62,8 +62,8 @@ expect "refusal 6: a program file longer than 4,096 bytes" 'refused 6\n' $sample
 expect "refusal 10 with its pair" 'refused 10 1 2\n' $samples/open2.table $samples/open2.program
 expect "refusal 12: a program that never ends" 'refused 12\n' $samples/endless3.table $samples/endless.program
 
-# reads that give a few bytes each, or fail: READS has a character for each read, at most so many bytes, or x for one that fails. The first file is read to its end
-# before the second, which takes a read more than its bytes need.
+# reads that give a few bytes each, or fail: READS has a character for each read, at most so many bytes, or x for one that fails. The first file is read to its
+# end before the second, which takes a read more than its bytes need.
 gcc -std=c11 -Wall -Wextra -Werror -pedantic -shared -fPIC tests/reads.c -o "$work/reads.so" || exit 1
 # through LABEL READS TEXT: the reader on the first two samples, with such reads, writes exactly TEXT
 through() {

@@ -1,6 +1,6 @@
 /*
- * `read` as a file gives it that is read in pieces or cannot be read to its end; loaded before the C library (LD_PRELOAD). Each call takes the next character of the
- * environment's READS: a digit is the most bytes that this call gives, x makes it fail. Past the last character calls are as they are.
+ * `read` as a file gives it that is read in pieces or cannot be read to its end; loaded before the C library (LD_PRELOAD). Each call takes the next character
+ * of the environment's READS: a digit is the most bytes that this call gives, x makes it fail. Past the last character calls are as they are.
  */
 #define _GNU_SOURCE
 #include <errno.h>
