@@ -1,6 +1,7 @@
 #!/bin/sh
-# The C interface: what the archive wants of a linker, the version that the specification names, the example of README and a program that joins two programs, the header's sizes and stack, long texts,
-# then the sheet of cases as C and as C++, all compiled with the strictest warnings as errors. The last line is 'N passed, M failed' over all of it.
+# The C interface: what the archive wants of a linker, the version that the specification names, the example of README and a program that joins two programs,
+# the header's sizes and stack, long texts, then each call from C and from C++, all compiled with the strictest warnings as errors. The last line is
+# 'N passed, M failed' over all of it.
 cd "$(dirname "$0")/.." || exit 1
 sh tests/library.sh || exit 1
 strict="-Wall -Wextra -Werror -pedantic -Iinclude"
@@ -54,10 +55,10 @@ one "the calls that the header declares" $?
 one "the version that the specification names" $?
 gcc -std=c11 $strict -Wl,-z,now tests/archive.c $library -o target/archive || exit 1
 sheet "sizes, stack and long texts" target/archive
-gcc -std=c11 $strict tests/sheet.c $library -o target/sheet_c || exit 1
-g++ -std=c++17 $strict -x c++ tests/sheet.c -x none $library -o target/sheet_cpp || exit 1
-sheet "the sheet as C" target/sheet_c
-sheet "the sheet as C++" target/sheet_cpp
+gcc -std=c11 $strict tests/calls.c $library -o target/calls_c || exit 1
+g++ -std=c++17 $strict -x c++ tests/calls.c -x none $library -o target/calls_cpp || exit 1
+sheet "each call from C" target/calls_c
+sheet "each call from C++" target/calls_cpp
 
 echo "$passed passed, $failed failed"
 [ "$failed" -eq 0 ]

@@ -4,4 +4,4 @@
 cd "$(dirname "$0")/.." || exit 1
 sh tests/library.sh || exit 1
 export CARGO_TARGET_DIR=target/second
-cargo run --release --offline --quiet --manifest-path tests/second/Cargo.toml --bin speed -- "$@"
+cargo run --release --offline --quiet --manifest-path tests/second/Cargo.toml -p harness --bin speed -- "$@"

@@ -1,16 +1,15 @@
 //! A second implementation, written from docs/SPECIFICATION.md and not from the definitions that the firmware is proved against:
-//! words are plain vectors, a step splices them, and every search starts at the first move. Beside it stand the calls of the firmware
-//! through its C interface, the making of random cases, and the gap algorithm in Rust for the measures of speed.
+//! words are plain vectors, a step splices them, and every search starts at the first move. It links nothing. Beside it stand random tables, words and
+//! texts, and the conformity kit's vectors, which are made of it. Above it stand two packages: `harness`, which holds the firmware against it, and `shell`,
+//! which offers it under the C interface.
 pub mod bed;
-pub mod cases;
+pub mod call;
 pub mod chain;
 pub mod classes;
-pub mod firmware;
+pub mod expected;
 pub mod free;
-pub mod gap;
-pub mod guarded;
 pub mod image;
-pub mod judge;
+pub mod listing;
 pub mod mirror;
 pub mod notation;
 pub mod orders;

@@ -22,6 +22,11 @@ pub fn braid(moves: u8) -> Table {
     })
 }
 
+/// A table in which every pair is open.
+pub fn unrelated(moves: u8) -> Table {
+    Table::from_pairs(moves, |_, _| None)
+}
+
 pub fn forward_word(random: &mut Random, moves: u8, length: usize) -> Word {
     (0..length).map(|_| random.between(1, moves as usize) as i8).collect()
 }
@@ -88,8 +93,8 @@ fn artin(random: &mut Random, moves: u8) -> Table {
 /// Powers of all moves are the same, all p-th ones or those of the same weight.
 fn powers(random: &mut Random, moves: u8) -> Table {
     let p = random.between(1, 6);
-    let whole = random.pick(&[1, 1, 1, 4, 6, 8]);
-    let divisors: Vec<u8> = (1..=whole).filter(|weight| whole % weight == 0).collect();
+    let whole: u8 = random.pick(&[1, 1, 1, 4, 6, 8]);
+    let divisors: Vec<u8> = (1..=whole).filter(|weight| whole.is_multiple_of(*weight)).collect();
     let weights: Vec<u8> = (0..moves).map(|_| random.pick(&divisors)).collect();
     let rest = |m: u8| {
         let power = if whole == 1 { p } else { usize::from(whole / weights[m as usize - 1]) };

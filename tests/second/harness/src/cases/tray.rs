@@ -1,15 +1,16 @@
-//! Cases of tray: logs joined to the pattern or not, faulty ones of every kind among them, limits between what the clearing needs and what the logs do, areas around
-//! the answer, trays cut or with bytes behind them, and faults of tray, table, pattern and area together. The answer for a log is also held against the
+//! Cases of tray: logs joined to the pattern or not, faulty ones of every kind among them, limits between what the clearing needs and what the logs do, areas
+//! around the answer, trays cut or with bytes behind them, and faults of tray, table, pattern and area together. The answer for a log is also held against the
 //! firmware's own compare of that log.
 use super::{Case, Held};
-use crate::guarded::{Call, Left};
-use crate::image::{program_image, read_forward, read_table, table_image, width};
-use crate::reversing::{reverse, Ending, Limits, Most};
-use crate::services::{cleared, weights_agree};
-use crate::table::Table;
-use crate::tables::{any, clearing, doubled, forward_word, growing};
-use crate::tray::{laid, LOG_BYTES, MOST_LOGS};
-use crate::word::{undoing, Word};
+use crate::guarded::Left;
+use second::call::Call;
+use second::image::{program_image, read_forward, read_table, table_image, width};
+use second::reversing::{reverse, Ending, Limits, Most};
+use second::services::{cleared, weights_agree};
+use second::table::Table;
+use second::tables::{any, clearing, doubled, forward_word, growing};
+use second::tray::{laid, LOG_BYTES, MOST_LOGS};
+use second::word::{undoing, Word};
 
 /// What the cases must lead to, beside each result.
 #[derive(Clone, Copy, Debug, PartialEq, Eq, PartialOrd, Ord)]

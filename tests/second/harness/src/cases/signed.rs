@@ -2,19 +2,20 @@
 //! an open pair or is stopped; limits around what each part of the work needs. A verdict is also held against those steps, against compare, and against
 //! the action of braids on a free group.
 use super::{Case, Held};
-use crate::free::{act_alike, as_braids};
-use crate::guarded::{Call, Left};
-use crate::image::{program_image, read_program, read_table, table_image};
-use crate::mirror::{mirror, offending};
-use crate::outcome::Place;
-use crate::reversing::{reverse, Ending, Limits, Most};
-use crate::services::{cleared, cubes_hold, weights_agree};
-use crate::signed::{decide, grow, signed_walk};
-use crate::table::Table;
-use crate::tables::mirror::mirrorless;
-use crate::tables::signed::{comparable, costly_mirror, dihedral, largest, multiple};
-use crate::tables::{braid, forward_word, signed_word};
-use crate::word::{undoing, Word};
+use crate::guarded::Left;
+use second::call::Call;
+use second::free::{act_alike, as_braids};
+use second::image::{program_image, read_program, read_table, table_image};
+use second::mirror::{mirror, offending};
+use second::outcome::Place;
+use second::reversing::{reverse, Ending, Limits, Most};
+use second::services::{cleared, cubes_hold, weights_agree};
+use second::signed::{decide, grow, signed_walk};
+use second::table::Table;
+use second::tables::mirror::mirrorless;
+use second::tables::signed::{comparable, costly_mirror, dihedral, largest, multiple};
+use second::tables::{braid, forward_word, signed_word};
+use second::word::{undoing, Word};
 
 /// What the cases must lead to, beside each result.
 #[derive(Clone, Copy, Debug, PartialEq, Eq, PartialOrd, Ord)]

@@ -1,7 +1,9 @@
 //! That the comparison of the two implementations can fail: each change of what a sound call left is noticed.
-use second::guarded::{call, Call, Left};
+use harness::guarded::{call, Left};
+use harness::judge::judge;
+use second::call::Call;
+use second::expected::expected;
 use second::image::{chain_image, program_image, table_image, Entry};
-use second::judge::{expected, judge};
 use second::outcome::Passage;
 use second::plain::plain_table;
 use second::reversing::Most;
@@ -138,8 +140,11 @@ fn every_change_is_noticed() {
     }
 }
 
+/// A table, two programs, the values that chain tells of them, and the entries of another chain.
+type OtherChain = (Table, [Vec<i8>; 2], [u64; 4], Vec<Entry>);
+
 /// Programs with the values that chain tells of them, and another chain between them, which is longer or shorter than the listed one.
-fn other_chains() -> Vec<(Table, [Vec<i8>; 2], [u64; 4], Vec<Entry>)> {
+fn other_chains() -> Vec<OtherChain> {
     let chain = |entries: &[(usize, u8, u8)]| entries.iter().map(|(offset, a, b)| Entry { offset: *offset, a: *a, b: *b }).collect();
     let one_move = Table::from_pairs(3, |_, _| Some((vec![], vec![])));
     vec![

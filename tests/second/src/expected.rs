@@ -1,7 +1,5 @@
-//! Whether what the firmware left behind is what the second implementation says: result, values and every byte of both areas.
-use crate::chain::follow;
-use crate::guarded::{Call, Left};
-use crate::image::{chain_image, read_chain, read_forward, read_table};
+//! What a call must leave (specification 6.1, 8.3): the result, the four values, and what its areas hold.
+use crate::call::Call;
 use crate::outcome::{Listing, Passage, Place, Refusal, Remainder, Verdict};
 use crate::reversing::{Limits, Most};
 use crate::services;
@@ -9,18 +7,19 @@ use crate::signed::Decision;
 use crate::tray::{self, LOG_BYTES};
 use crate::word::bytes;
 
-/// What a call must leave. The answer area begins with `written`; after 'same' a chain call's area begins instead with a chain of exactly as many
-/// entries, in exactly as many bytes, as `listed` says.
+/// The answer area begins with `written`; after 'same' a chain call's area begins instead with a chain of exactly as many entries, in exactly as many bytes, as
+/// `listed` says. A workspace that is not kept as found is all zero.
 pub struct Expected {
     pub result: u8,
     pub values: [u64; 4],
-    written: Vec<u8>,
-    listed: Option<(usize, usize)>,
+    pub written: Vec<u8>,
+    pub listed: Option<(usize, usize)>,
+    pub workspace_kept: bool,
 }
 
 impl Expected {
     fn answer(values: [u64; 4], written: Vec<u8>) -> Expected {
-        Expected { result: 0, values, written, listed: None }
+        Expected { result: 0, values, written, listed: None, workspace_kept: false }
     }
 
     fn fraction(fraction: services::Fraction) -> Expected {
@@ -45,7 +44,7 @@ impl Expected {
             Place::MirrorTriple(a, b, c) => [3, a.into(), b.into(), c.into()],
             Place::Set => [4, 0, 0, 0],
         };
-        Expected { result: refusal.number, values, written: Vec::new(), listed: None }
+        Expected { result: refusal.number, ..Expected::answer(values, Vec::new()) }
     }
 }
 
@@ -84,12 +83,11 @@ pub fn expected(call: &Call, workspace: usize, answer: usize, most: &mut Most) -
         Call::Chain { table, first, second, allowance } => {
             services::chain(table, first, second, limits(allowance), answer, most).map(Expected::listing)
         }
-        Call::Remainder { table, done, pattern, allowance } => {
-            services::remainder(table, done, pattern, limits(allowance), answer, most).map(|(left, steps)| match left {
+        Call::Remainder { table, done, pattern, allowance } => services::remainder(table, done, pattern, limits(allowance), answer, most)
+            .map(|(left, steps)| match left {
                 Remainder::Moves(moves) => Expected::answer([0, moves.len() as u64, steps as u64, 0], bytes(&moves)),
                 Remainder::None => Expected::answer([1, 0, steps as u64, 0], Vec::new()),
-            })
-        }
+            }),
         Call::Tray { table, tray, pattern, allowance } => tray::tray(table, tray, pattern, limits(allowance), answer, most)
             .map(|answers| Expected::answer([(answers.len() / LOG_BYTES) as u64, 0, 0, 0], answers)),
         Call::Check { table, first, second, entries } => {
@@ -107,65 +105,16 @@ pub fn expected(call: &Call, workspace: usize, answer: usize, most: &mut Most) -
         Call::PackProgram { table, plain } => services::pack_program(table, plain, answer).map(packed),
         Call::UnpackProgram { table, program } => services::unpack_program(table, program, answer).map(packed),
         Call::Bed { table, program, moves } => services::bed(table, program, *moves, answer).map(packed),
-        Call::Ways { table, program } => {
-            services::ways(table, program, answer).map(|(words, listing)| Expected::answer([words as u64, listing.len() as u64, 0, 0], listing))
-        }
+        Call::Ways { table, program } => services::ways(table, program, answer)
+            .map(|(words, listing)| Expected::answer([words as u64, listing.len() as u64, 0, 0], listing)),
         Call::Import { table, text } => services::import(table, text, answer).map(|moves| packed(bytes(&moves))),
     };
     let must = outcome.unwrap_or_else(Expected::refused);
+    // The refusals that come before the work leave the workspace as found.
+    let workspace_kept = matches!(must.result, 23 | 24) || (1..=8).contains(&must.result) || must.result == 16;
+    let must = Expected { workspace_kept, ..must };
     match call {
         Call::Ways { .. } if must.result == 13 => Expected { written: vec![0; answer], ..must },
         _ => must,
     }
-}
-
-fn has_workspace(call: &Call) -> bool {
-    use Call::*;
-    let packing = matches!(call, PackTable { .. } | UnpackTable { .. } | PackProgram { .. } | UnpackProgram { .. });
-    !packing && !matches!(call, Bed { .. } | Ways { .. } | Import { .. })
-}
-
-/// The first `bytes` bytes of an answer area, where they are the image of a chain of exactly `entries` entries that joins the programs.
-pub fn listed_chain(call: &Call, entries: usize, bytes: usize, answer: &[u8]) -> Result<Vec<u8>, String> {
-    let Call::Chain { table, first, second, .. } = call else {
-        return Err("no chain was asked for".into());
-    };
-    let table = read_table(table).map_err(|r| format!("{r:?}"))?;
-    let first = read_forward(first, table.moves).map_err(|r| format!("{r:?}"))?;
-    let second = read_forward(second, table.moves).map_err(|r| format!("{r:?}"))?;
-    let image = answer.get(..bytes).ok_or(format!("the area has no {bytes} bytes"))?;
-    let listed = read_chain(image, table.moves).map_err(|r| format!("the first {bytes} bytes are refused as a chain with {r:?}"))?;
-    if listed.len() != entries {
-        return Err(format!("the chain has {} entries, not {entries}", listed.len()));
-    }
-    if chain_image(table.moves, &listed) != image {
-        return Err("the chain's image is not that of its entries".into());
-    }
-    match follow(&table, &first, &second, &listed, usize::MAX, &mut 0) {
-        Ok(Passage::Joins) => Ok(image.to_vec()),
-        other => Err(format!("the listed chain doesn't join the programs: {other:?}")),
-    }
-}
-
-/// Compares what a call left with what it must leave; the error says what differs.
-pub fn judge(call: &Call, expected: &Expected, workspace: &[u8], answer: &[u8], left: &Left) -> Result<(), String> {
-    if (left.result, left.values) != (expected.result, expected.values) {
-        return Err(format!("result {} {:?}, not {} {:?}", left.result, left.values, expected.result, expected.values));
-    }
-    let kept = !has_workspace(call) || matches!(left.result, 23 | 24) || (1..=8).contains(&left.result) || left.result == 16;
-    let after = if kept { workspace.to_vec() } else { vec![0; workspace.len()] };
-    if left.workspace != after {
-        return Err(format!("the workspace is not {}", if kept { "as found" } else { "all zero" }));
-    }
-    let written = match expected.listed {
-        Some((entries, bytes)) => listed_chain(call, entries, bytes, &left.answer)?,
-        None => expected.written.clone(),
-    };
-    if left.answer.len() != answer.len() || !left.answer.starts_with(&written) {
-        return Err(format!("the answer area doesn't begin with {written:02x?}"));
-    }
-    if left.answer[written.len()..] != answer[written.len()..] {
-        return Err(format!("the answer area changed after its first {} bytes", written.len()));
-    }
-    Ok(())
 }

@@ -1,7 +1,9 @@
 //! Import of the firmware held against the second implementation: every short text, and the texts of random patterns.
-use second::guarded::{call, Call};
+use harness::guarded::call;
+use harness::judge::judge;
+use second::call::Call;
+use second::expected::expected;
 use second::image::table_image;
-use second::judge::{expected, judge};
 use second::notation::{text, DEEPEST};
 use second::patterns::{deep, sized, tower, tree};
 use second::random::Random;

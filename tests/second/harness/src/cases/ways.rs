@@ -1,10 +1,11 @@
 //! Cases of ways: listings from each of two of their words, areas that just hold them or just do not, and damaged images.
 use super::{Case, Held};
-use crate::guarded::{Call, Left};
-use crate::image::{program_image, table_image};
-use crate::services;
-use crate::table::Table;
-use crate::tables::{any, braid, clearing, doubled, forward_word, growing, signed_word, walk};
+use crate::guarded::Left;
+use second::call::Call;
+use second::image::{program_image, table_image};
+use second::services;
+use second::table::Table;
+use second::tables::{any, braid, clearing, doubled, forward_word, growing, signed_word, walk};
 
 /// Listings longer than this are only seen to be refused.
 const LONGEST: usize = 4_096;
@@ -34,7 +35,8 @@ impl Case<'_> {
         let swaps = self.random.pick(&[1, 4, 12]);
         let (_, second) = walk(&mut self.random, table, &first, swaps);
         let made = |word: &[i8]| Call::Ways { table: table_image(table), program: program_image(table.moves, word) };
-        let exact = services::ways(&table_image(table), &program_image(table.moves, &first), LONGEST).map_or(LONGEST, |(_, listing)| listing.len());
+        let exact =
+            services::ways(&table_image(table), &program_image(table.moves, &first), LONGEST).map_or(LONGEST, |(_, listing)| listing.len());
         let Left { result, values, answer, .. } = self.held(&made(&first), 0, exact)?;
         let other = self.held(&made(&second), 0, exact)?;
         if (result, values) != (other.result, other.values) || (result == 0 && answer != other.answer) {
@@ -54,8 +56,11 @@ impl Case<'_> {
 
     fn damaged_ways(&mut self, table: &Table) -> Held<()> {
         let length = self.random.pick(&[0, 1, 3, 5]);
-        let word =
-            if self.random.once_in(3) { signed_word(&mut self.random, table.moves, length) } else { forward_word(&mut self.random, table.moves, length) };
+        let word = if self.random.once_in(3) {
+            signed_word(&mut self.random, table.moves, length)
+        } else {
+            forward_word(&mut self.random, table.moves, length)
+        };
         let (image, program) = (table_image(table), program_image(table.moves, &word));
         for _ in 0..6 {
             let made = Call::Ways { table: self.perhaps(&image, 3), program: self.perhaps(&program, 3) };

@@ -1,29 +1,6 @@
 //! Calls of the firmware with guard bytes around every area and image.
 use crate::firmware;
-
-/// A call, with all that it takes. The numbers handed to commit are the lengths of numerator and denominator, then the steps.
-#[derive(Clone, Debug)]
-pub enum Call {
-    Reverse { table: Vec<u8>, program: Vec<u8>, allowance: u16 },
-    LeftReverse { table: Vec<u8>, program: Vec<u8>, allowance: u16 },
-    Enquire { table: Vec<u8>, program: Vec<u8>, allowance: u16 },
-    Commit { table: Vec<u8>, program: Vec<u8>, allowance: u16, numbers: [u64; 3] },
-    Clear { table: Vec<u8>, allowance: u16 },
-    MirrorClear { table: Vec<u8>, allowance: u16 },
-    Compare { table: Vec<u8>, first: Vec<u8>, second: Vec<u8>, allowance: u16 },
-    CompareSigned { table: Vec<u8>, first: Vec<u8>, second: Vec<u8>, allowance: u16 },
-    Chain { table: Vec<u8>, first: Vec<u8>, second: Vec<u8>, allowance: u16 },
-    Remainder { table: Vec<u8>, done: Vec<u8>, pattern: Vec<u8>, allowance: u16 },
-    Tray { table: Vec<u8>, tray: Vec<u8>, pattern: Vec<u8>, allowance: u16 },
-    Check { table: Vec<u8>, first: Vec<u8>, second: Vec<u8>, entries: Vec<u8> },
-    PackTable { plain: Vec<u8> },
-    UnpackTable { table: Vec<u8> },
-    PackProgram { table: Vec<u8>, plain: Vec<u8> },
-    UnpackProgram { table: Vec<u8>, program: Vec<u8> },
-    Bed { table: Vec<u8>, program: Vec<u8>, moves: u64 },
-    Ways { table: Vec<u8>, program: Vec<u8> },
-    Import { table: Vec<u8>, text: Vec<u8> },
-}
+use second::call::Call;
 
 /// What a call left behind.
 #[derive(Debug, PartialEq)]
@@ -72,28 +49,9 @@ impl Guarded {
     }
 }
 
-impl Call {
-    fn images(&self) -> Vec<&[u8]> {
-        match self {
-            Call::Reverse { table, program, .. } | Call::LeftReverse { table, program, .. } => vec![table, program],
-            Call::Enquire { table, program, .. } | Call::Commit { table, program, .. } => vec![table, program],
-            Call::UnpackProgram { table, program } | Call::Bed { table, program, .. } | Call::Ways { table, program } => vec![table, program],
-            Call::Clear { table, .. } | Call::MirrorClear { table, .. } | Call::UnpackTable { table } => vec![table],
-            Call::Compare { table, first, second, .. } | Call::Chain { table, first, second, .. } => vec![table, first, second],
-            Call::CompareSigned { table, first, second, .. } => vec![table, first, second],
-            Call::Remainder { table, done, pattern, .. } => vec![table, done, pattern],
-            Call::Tray { table, tray, pattern, .. } => vec![table, tray, pattern],
-            Call::Check { table, first, second, entries } => vec![table, first, second, entries],
-            Call::PackTable { plain } => vec![plain],
-            Call::PackProgram { table, plain } => vec![table, plain],
-            Call::Import { table, text } => vec![table, text],
-        }
-    }
-}
-
 /// Calls the firmware. An error names what was written that may not be.
 pub fn call(call: &Call, workspace: &[u8], answer: &[u8]) -> Result<Left, String> {
-    let images: Vec<Guarded> = call.images().into_iter().map(Guarded::new).collect();
+    let images: Vec<Guarded> = call.images().into_iter().map(|(_, image)| Guarded::new(image)).collect();
     let image = |k: usize| images[k].content();
     let (mut work, mut out) = (Guarded::new(workspace), Guarded::new(answer));
     let (w, o) = (work.lent(), out.lent());

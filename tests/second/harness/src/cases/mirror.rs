@@ -1,13 +1,14 @@
 //! Cases of left_reverse and mirror_clear: tables with and without a mirror, and what the services say of the mirror as a table of its own.
 use super::{Case, Held};
-use crate::guarded::{Call, Left};
-use crate::image::{program_image, read_program, read_table, table_image};
-use crate::mirror::{backward, mirror, offending, relations};
-use crate::services::weights_agree;
-use crate::table::Table;
-use crate::tables::mirror::{mirrored, mirrorless, one_way};
-use crate::tables::{any, clearing, forward_word, signed_word};
-use crate::word::{undoing, Word};
+use crate::guarded::Left;
+use second::call::Call;
+use second::image::{program_image, read_program, read_table, table_image};
+use second::mirror::{backward, mirror, offending, relations};
+use second::services::weights_agree;
+use second::table::Table;
+use second::tables::mirror::{mirrored, mirrorless, one_way};
+use second::tables::{any, clearing, forward_word, signed_word};
+use second::word::{undoing, Word};
 
 /// What the cases must lead to, beside each result.
 #[derive(Clone, Copy, Debug, PartialEq, Eq, PartialOrd, Ord)]

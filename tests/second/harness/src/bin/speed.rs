@@ -6,7 +6,8 @@
 //! disturbs least. The words of one length that are run in turn have S steps together, 100,000 without the flag: the last word's allowance
 //! is what is left of them. W is the most words of one length. Every measure first looks that both sides give the same result. The closing
 //! lines hold the times against the targets.
-use second::gap;
+use harness::gap;
+use harness::{firmware, firmware::Told};
 use second::image::{program_image, table_image};
 use second::plain::plain_table;
 use second::random::Random;
@@ -15,7 +16,6 @@ use second::table::Table;
 use second::tables::{braid, forward_word, walk};
 use second::tray::{laid, MOST_LOGS};
 use second::word::{bytes, undoing, Word};
-use second::{firmware, firmware::Told};
 use std::cell::Cell;
 use std::hint::black_box;
 use std::process::ExitCode;
@@ -318,7 +318,8 @@ fn listing(areas: &mut Areas, program: &[i8], told: Told) -> f64 {
 fn ways(measures: &mut Measures) -> bool {
     let whole = listing(&mut measures.areas, &[1, 1, 2, 2, 3, 3, 4, 4], (0, [2_520, 22_680, 0, 0]));
     let refused = listing(&mut measures.areas, &[1, 1, 2, 2, 3, 3, 4, 4, 4], (13, [0; 4]));
-    target("ways, 2,520 words in 22,680 bytes, milliseconds", whole, LISTING) & target("ways, refused with 13 in 32,768 bytes, milliseconds", refused, LISTING)
+    target("ways, 2,520 words in 22,680 bytes, milliseconds", whole, LISTING)
+        & target("ways, refused with 13 in 32,768 bytes, milliseconds", refused, LISTING)
 }
 
 /// The times of a tray of 64 times this log, and of 64 single compares of it with the pattern, both by the firmware, in milliseconds. The two take turns, three
@@ -336,7 +337,7 @@ fn tray_beside_compares(areas: &mut Areas, table: &Table, log: &[i8], pattern: &
     assert!(areas.answer.starts_with(&[verdict as u8, high, low].repeat(MOST_LOGS)));
     let mut times = [[0.0; 3]; 2];
     for turn in 0..3 {
-        let sides: [(&dyn Fn(&mut Areas) -> Told, usize); 2] = [(&whole, 1), (&single, MOST_LOGS)];
+        let sides: [(Side, usize); 2] = [(&whole, 1), (&single, MOST_LOGS)];
         for (times, (call, calls)) in times.iter_mut().zip(sides) {
             let begun = Instant::now();
             for _ in 0..20 * calls {
@@ -353,8 +354,8 @@ fn tray_beside_compares(areas: &mut Areas, table: &Table, log: &[i8], pattern: &
     middle
 }
 
-/// 64 equal logs of 100 moves under the braid table of 15, beside as many single compares. Two logs, both the same as the pattern: one after 100 random swaps, as of a
-/// machine that lays the pattern in another order, with few steps more than moves; and one with as many steps between as joined words of that length
+/// 64 equal logs of 100 moves under the braid table of 15, beside as many single compares. Two logs, both the same as the pattern: one after 100 random swaps,
+/// as of a machine that lays the pattern in another order, with few steps more than moves; and one with as many steps between as joined words of that length
 /// have, the dearest for the tray, since it saves the clearing alone.
 fn tray(measures: &mut Measures) -> bool {
     let (mut random, table) = (Random::new(15), braid(15));

@@ -3,7 +3,8 @@
 //!     soak [--calls N | --minutes M] [--seed S] [--case SEED]
 //!
 //! Cases are numbered from the seed on. A case that fails is printed with its number and bytes; `--case` runs that one again.
-use second::cases::{run, Enquired, Imported, Listed, Mirrored, Signed, Tally, Trayed, Weighed};
+use harness::cases::{run, Enquired, Imported, Listed, Mirrored, Signed, Tally, Trayed, Weighed};
+use second::outcome::outcomes;
 use std::process::ExitCode;
 use std::sync::atomic::{AtomicBool, AtomicU64, AtomicUsize, Ordering};
 use std::sync::Mutex;
@@ -36,39 +37,11 @@ fn plan() -> Result<Plan, String> {
 /// The results that a run must have met, so that a change of the cases can't leave a service or a refusal untried.
 fn met(tally: &Tally) -> Vec<String> {
     let mut missing = Vec::new();
-    let mut want = |service: &'static str, results: &[(u8, u64)]| {
-        for (result, value) in results {
-            if !tally.results.contains_key(&(service, *result, *value)) {
-                missing.push(format!("{service} never gave {result} with first value {value}"));
-            }
+    for (call, result, value) in outcomes() {
+        if !tally.results.contains_key(&(call, result, value)) {
+            missing.push(format!("{call} never gave {result} with first value {value}"));
         }
-    };
-    want("reverse", &[(0, 0), (1, 0), (2, 0), (3, 0), (4, 0), (5, 0), (6, 0), (10, 1), (11, 0), (12, 0), (13, 0)]);
-    want("left reverse", &[(0, 0), (1, 0), (2, 0), (3, 0), (4, 0), (5, 0), (6, 0), (10, 1), (11, 0), (12, 0), (13, 0), (16, 1)]);
-    want("enquire", &[(0, 0), (1, 0), (2, 0), (3, 0), (4, 0), (5, 0), (6, 0), (10, 1), (11, 0), (12, 0)]);
-    want("commit", &[(0, 0), (1, 0), (2, 0), (3, 0), (4, 0), (5, 0), (6, 0), (10, 1), (11, 0), (12, 0), (13, 0), (18, 0)]);
-    want("clear", &[(0, 0), (1, 0), (2, 0), (3, 0), (8, 1), (9, 2), (11, 2), (12, 2)]);
-    want("mirror clear", &[(0, 0), (1, 0), (2, 0), (3, 0), (8, 1), (11, 3), (12, 3), (16, 1), (17, 3)]);
-    let stops = [(1, 0), (2, 0), (3, 0), (4, 0), (5, 0), (6, 0), (7, 0), (8, 1), (9, 2), (11, 0), (11, 2), (12, 0), (12, 2)];
-    for service in ["compare", "chain", "remainder"] {
-        want(service, &[(0, 0), (0, 1)]);
-        want(service, &stops);
     }
-    want("compare signed", &[(0, 0), (0, 1), (1, 0), (2, 0), (3, 0), (4, 0), (5, 0), (6, 0), (8, 1), (9, 2), (16, 1), (17, 3)]);
-    want("compare signed", &[(11, 0), (11, 2), (11, 3), (11, 4), (12, 0), (12, 2), (12, 3), (12, 4), (21, 1), (22, 0)]);
-    want("tray", &[(0, 0), (1, 0), (2, 0), (3, 0), (4, 0), (5, 0), (6, 0), (7, 0), (8, 1), (9, 2), (11, 2), (12, 2)]);
-    want("tray", &[(13, 0), (23, 0), (24, 0)]);
-    want("chain", &[(13, 0)]);
-    want("remainder", &[(13, 0)]);
-    want("check", &[(0, 0), (0, 1), (0, 2), (1, 0), (2, 0), (3, 0), (4, 0), (5, 0), (6, 0), (7, 0), (12, 0)]);
-    for service in ["pack table", "unpack table"] {
-        want(service, &[(0, 0), (1, 0), (2, 0), (3, 0), (13, 0)]);
-    }
-    want("pack program", &[(0, 0), (1, 0), (2, 0), (3, 0), (4, 0), (5, 0), (13, 0)]);
-    want("unpack program", &[(0, 0), (1, 0), (2, 0), (3, 0), (4, 0), (5, 0), (6, 0), (13, 0)]);
-    want("bed", &[(0, 0), (1, 0), (2, 0), (3, 0), (4, 0), (5, 0), (6, 0), (13, 0), (15, 0)]);
-    want("ways", &[(0, 0), (1, 0), (2, 0), (3, 0), (4, 0), (5, 0), (6, 0), (7, 0), (8, 1), (13, 0)]);
-    want("import", &[(0, 0), (1, 0), (2, 0), (3, 0), (5, 0), (13, 0), (19, 0), (20, 0)]);
     if tally.listings.contains(&0) {
         missing.push("no listing was held against that of a joined word, or none had words of different lengths".into());
     }

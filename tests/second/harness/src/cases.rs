@@ -8,21 +8,23 @@ mod signed;
 mod tray;
 mod ways;
 
-use crate::chain::follow;
-use crate::classes::class;
-use crate::guarded::{call, Call, Left};
-use crate::image::{chain_bytes, chain_image, program_image, read_chain, read_forward, read_table, table_image, Entry};
-use crate::judge::{expected, judge, listed_chain};
-use crate::orders::{self, Order};
-use crate::plain::plain_table;
-use crate::random::Random;
-use crate::reversing::{Ending, Most};
-use crate::table::Table;
-use crate::tables::{any, clearing, forward_word, growing, signed_word, twins, walk, word_of_weight};
-use crate::word::{bytes, undoing, Word};
+use crate::guarded::{call, Left};
+use crate::judge::{judge, listed_chain};
 pub use enquiry::Enquired;
 pub use import::Imported;
 pub use mirror::Mirrored;
+use second::call::Call;
+use second::chain::follow;
+use second::classes::class;
+use second::expected::expected;
+use second::image::{chain_bytes, chain_image, program_image, read_chain, read_forward, read_table, table_image, Entry};
+use second::orders::{self, Order};
+use second::plain::plain_table;
+use second::random::Random;
+use second::reversing::{Ending, Most};
+use second::table::Table;
+use second::tables::{any, clearing, forward_word, growing, signed_word, twins, walk, word_of_weight};
+use second::word::{bytes, undoing, Word};
 pub use signed::Signed;
 use std::collections::BTreeMap;
 pub use tray::Trayed;
@@ -190,43 +192,6 @@ impl Tally {
     }
 }
 
-fn name(call: &Call) -> &'static str {
-    match call {
-        Call::Reverse { .. } => "reverse",
-        Call::LeftReverse { .. } => "left reverse",
-        Call::Enquire { .. } => "enquire",
-        Call::Commit { .. } => "commit",
-        Call::Clear { .. } => "clear",
-        Call::MirrorClear { .. } => "mirror clear",
-        Call::Compare { .. } => "compare",
-        Call::CompareSigned { .. } => "compare signed",
-        Call::Chain { .. } => "chain",
-        Call::Remainder { .. } => "remainder",
-        Call::Tray { .. } => "tray",
-        Call::Check { .. } => "check",
-        Call::PackTable { .. } => "pack table",
-        Call::UnpackTable { .. } => "unpack table",
-        Call::PackProgram { .. } => "pack program",
-        Call::UnpackProgram { .. } => "unpack program",
-        Call::Bed { .. } => "bed",
-        Call::Ways { .. } => "ways",
-        Call::Import { .. } => "import",
-    }
-}
-
-/// The first value tells verdicts apart, and whether a stop was at a triple, of which table, or in a set; elsewhere it is a length.
-fn told_apart(call: &Call, left: &Left) -> u64 {
-    let verdict = matches!(
-        call,
-        Call::Compare { .. } | Call::CompareSigned { .. } | Call::Chain { .. } | Call::Remainder { .. } | Call::Check { .. }
-    );
-    if verdict || left.result != 0 {
-        left.values[0]
-    } else {
-        0
-    }
-}
-
 struct Case<'a> {
     random: Random,
     tally: &'a mut Tally,
@@ -277,7 +242,7 @@ impl Case<'_> {
         let report = |what: String| format!("{what}\nworkspace of {workspace}, answer area of {answer} bytes; in hexadecimal\n{made:02x?}");
         let left = call(made, work, out).map_err(report)?;
         judge(made, &must, work, out, &left).map_err(report)?;
-        *self.tally.results.entry((name(made), left.result, told_apart(made, &left))).or_default() += 1;
+        *self.tally.results.entry((made.name(), left.result, made.told_apart(left.result, left.values))).or_default() += 1;
         Ok(left)
     }
 
@@ -606,7 +571,9 @@ impl Case<'_> {
             return report("the moves don't finish the pattern");
         }
         match class(table, &moves, 3_000) {
-            Some(others) if !rests.iter().all(|rest| others.contains(rest)) => report("other moves that finish the pattern are not joined to these"),
+            Some(others) if !rests.iter().all(|rest| others.contains(rest)) => {
+                report("other moves that finish the pattern are not joined to these")
+            }
             _ => Ok(()),
         }
     }

@@ -1,11 +1,12 @@
 //! Cases of enquire and commit: the enquiry's own numbers in areas around its sizes, other numbers, stops, open pairs and damaged images. Each commit is
 //! also held against what the firmware itself said to the enquiry, and against reverse in areas of the same content.
 use super::{Case, Held};
-use crate::guarded::{Call, Left};
-use crate::image::{program_image, table_image};
-use crate::table::Table;
-use crate::tables::{any, clearing, forward_word, signed_word};
-use crate::word::undoing;
+use crate::guarded::Left;
+use second::call::Call;
+use second::image::{program_image, table_image};
+use second::table::Table;
+use second::tables::{any, clearing, forward_word, signed_word};
+use second::word::undoing;
 
 /// What the cases must lead to, beside each result.
 #[derive(Clone, Copy, Debug, PartialEq, Eq, PartialOrd, Ord)]

@@ -1,10 +1,11 @@
 //! Cases of bed: every number of moves, full twists, and programs that must leave the bed of another.
 use super::{Case, Held};
-use crate::guarded::{Call, Left};
-use crate::image::{program_image, table_image};
-use crate::table::Table;
-use crate::tables::{any, braid, forward_word, signed_word, walk, weights};
-use crate::word::{undoing, Word};
+use crate::guarded::Left;
+use second::call::Call;
+use second::image::{program_image, table_image};
+use second::table::Table;
+use second::tables::{any, braid, forward_word, signed_word, walk, weights};
+use second::word::{undoing, Word};
 
 impl Case<'_> {
     pub(super) fn bed(&mut self) -> Held<()> {

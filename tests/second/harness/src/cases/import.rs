@@ -1,11 +1,12 @@
 //! Cases of import: texts of random patterns in areas around their moves, counts around 4,095 and far above it, numbers above n, deep brackets, and texts that
 //! are damaged, faulty or any bytes. An answer is also held against those of its own moves, one after another, and of the text under a minus.
 use super::{Case, Held};
-use crate::guarded::{Call, Left};
-use crate::image::table_image;
-use crate::notation::{depth, highest, meaning, read, size, text, Body, Item, Pattern, BYTES, DEEPEST};
-use crate::patterns::{bracket, damaged, deep, emptied, faulty, letter, scattered, sized, tower, tree, with_number};
-use crate::tables::any;
+use crate::guarded::Left;
+use second::call::Call;
+use second::image::table_image;
+use second::notation::{depth, highest, meaning, read, size, text, Body, Item, Pattern, BYTES, DEEPEST};
+use second::patterns::{bracket, damaged, deep, emptied, faulty, letter, scattered, sized, tower, tree, with_number};
+use second::tables::any;
 
 /// What the cases must lead to, beside each result.
 #[derive(Clone, Copy, Debug, PartialEq, Eq, PartialOrd, Ord)]

@@ -422,7 +422,9 @@ pub fn bed(table: &[u8], program: &[u8], moves: u64, answer: &mut [u8]) -> Told 
 }
 
 pub fn ways(table: &[u8], program: &[u8], answer: &mut [u8]) -> Told {
-    told(|values| unsafe { braid_ways(table.as_ptr(), table.len(), program.as_ptr(), program.len(), answer.as_mut_ptr(), answer.len(), values) })
+    told(|values| unsafe {
+        braid_ways(table.as_ptr(), table.len(), program.as_ptr(), program.len(), answer.as_mut_ptr(), answer.len(), values)
+    })
 }
 
 pub fn import(table: &[u8], text: &[u8], answer: &mut [u8]) -> Told {

@@ -1,9 +1,11 @@
-//! Tray of the firmware: the cases of specification 10, each log against the firmware's own compare, faulty logs of every kind in every place, trays cut at every
-//! byte, numbers and lengths at their limits, and which of several faults is told. Every call is also held against the second implementation.
-use second::firmware;
-use second::guarded::{call, Call, Left};
+//! Tray of the firmware: the cases of specification 10, each log against the firmware's own compare, faulty logs of every kind in every place, trays cut at
+//! every byte, numbers and lengths at their limits, and which of several faults is told. Every call is also held against the second implementation.
+use harness::firmware;
+use harness::guarded::{call, Left};
+use harness::judge::judge;
+use second::call::Call;
+use second::expected::expected;
 use second::image::{program_image, read_program, table_image};
-use second::judge::{expected, judge};
 use second::outcome::Refusal;
 use second::random::Random;
 use second::reversing::Most;
