@@ -1,10 +1,11 @@
 #!/bin/sh
-# The conformity kit: our library passes its examples, each of some wrong libraries fails them, and a file that is not one of vectors fails. The last line is
-# 'N passed, M failed'. Usage: tests/conformity.sh, with gcc.
+# The conformity kit: its vectors are current, our library and the second implementation pass them, each wrong library fails by a case that names its fault, and
+# a file that is not one of vectors fails. The last line is 'N passed, M failed'. Usage: tests/conformity.sh, with gcc and cargo.
 cd "$(dirname "$0")/.." || exit 1
 sh tests/library.sh || exit 1
 library=target/staticlib/libbraid.a
 strict="-std=c99 -O1 -Wall -Wextra -Werror -pedantic -Iinclude -Iconformity"
+export CARGO_TARGET_DIR=target/second
 work=$(mktemp -d) || exit 1
 trap 'rm -rf "$work"' EXIT
 passed=0
@@ -21,12 +22,31 @@ held() {
     fi
 }
 
-cases=$(grep -c '^case ' conformity/examples.txt)
-CC=gcc CFLAGS="-Wall -Wextra -Werror -pedantic" sh conformity/run.sh $library > "$work/report"
+# THE VECTORS: current, and of the sizes promised
+cargo run --release --offline --quiet --manifest-path tests/second/Cargo.toml -p second --bin vectors -- --check > "$work/report" 2>&1
 status=$?
-held "our library" 0 "$cases passed, 0 failed"
+held "the vectors are current" 0 ""
+cargo build --release --offline --quiet --manifest-path tests/second/Cargo.toml -p shell || exit 1
+second=$CARGO_TARGET_DIR/release/libshell.a
 
-# every call of the header has an example, and the README shows a block of the file
+sh conformity/table.sh | cmp - conformity/COVERED.md > "$work/report" 2>&1
+status=$?
+held "the table of what the vectors cover is current: sh conformity/table.sh > conformity/COVERED.md" 0 ""
+
+# THE LIBRARIES THAT PASS
+export CC=gcc CFLAGS="-O2 -Wall -Wextra -Werror -pedantic"
+for name in examples vectors-small vectors; do
+    file=conformity/$name.txt
+    cases=$(sed -n 's/^end //p' $file)
+    for judged in $library $second; do
+        sh conformity/run.sh "$judged" $file > "$work/report"
+        status=$?
+        held "$name on $judged" 0 "$cases passed, 0 failed"
+        if grep -q '^not run' "$work/report"; then failed=$((failed + 1)); echo "failed: a case of $name was not run"; fi
+    done
+done
+
+# THE EXAMPLES: every call of the header has one, and the README shows a block of the file
 for call in $(sed -n 's/^BRAID_CALL uint8_t braid_\([a-z_]*\)(.*/\1/p' include/braid.h); do
     if grep -q "^call $call\$" conformity/examples.txt; then passed=$((passed + 1)); else failed=$((failed + 1)); echo "failed: no example of $call"; fi
 done
@@ -37,50 +57,94 @@ status=$?
 : > "$work/report"
 held "the block that the README shows stands in the examples" 0 ""
 
-for part in runner host; do gcc $strict -c conformity/$part.c -o "$work/$part.o" || exit 1; done
-# wrong NUMBER CALL FAULT: this wrong library fails, by a case of the call with this fault
+# WRONG LIBRARIES
+judging=
+for part in $(sed -n 's/^parts="\(.*\)"$/\1/p' conformity/run.sh); do
+    gcc $strict -c conformity/"$part".c -o "$work/$part.o" || exit 1
+    judging="$judging $work/$part.o"
+done
+tried=0
+# wrong NUMBER CALL TITLE: this wrong library of a call fails by the cases that name its fault in their title
 wrong() {
-    gcc $strict -DWRONG="$1" -Wl,--wrap=braid_"$2" tests/wrong_library.c "$work/runner.o" "$work/host.o" $library -o "$work/wrong" || exit 1
-    "$work/wrong" conformity/examples.txt > "$work/report"
-    if [ $? -eq 1 ] && grep -q "^failed: $2, line [0-9]*, .*: $3\$" "$work/report" && ! grep '^failed: ' "$work/report" | grep -v -q "^failed: $2,"; then
+    awk -v call="call $2" -v title="$3" '
+        /^case / { block = ""; named = index($0, title) > 0 }
+        /^braid vectors/ { print $0 "\n" }
+        /^case /, /^$/ { block = block $0 "\n"; if ($0 == call) right = 1 }
+        /^$/ { if (named && right) { printf "%s", block; count++ } named = right = 0 }
+        END { print "end " count + 0 }' conformity/vectors.txt > "$work/named"
+    gcc $strict -DWRONG="$1" -Wl,--wrap=braid_"$2" tests/wrong_library.c $judging $library -o "$work/wrong" || exit 1
+    tried=$((tried + 1))
+    "$work/wrong" "$work/named" > "$work/report"
+    if [ $? -eq 1 ] && grep -q "^failed: $2, line [0-9]*, " "$work/report"; then
         passed=$((passed + 1))
     else
         failed=$((failed + 1))
-        echo "failed: the wrong library $1 of $2 is not met by: $3; the report has:"
-        grep -e '^failed: ' -e ' passed, ' "$work/report"
+        echo "failed: the wrong library $1 of $2 is not met by a case with the title: $3; the report ends:"
+        tail -n 2 "$work/report"
     fi
 }
 gcc $strict -fsyntax-only tests/wrong_library.c || exit 1
-wrong 1 reverse 'the workspace is not all zero'
-wrong 2 reverse 'memory beside the answer area was written'
-wrong 3 reverse 'other values'
-wrong 4 reverse 'other values'
-wrong 5 reverse 'the area holds other bytes'
-wrong 6 reverse 'bytes behind what is written have changed'
-wrong 7 left_reverse 'the area holds other bytes'
-wrong 8 commit 'another result'
-wrong 9 clear 'other values'
-wrong 10 mirror_clear 'another result'
-wrong 11 compare 'the workspace is not as found'
-wrong 12 compare_signed 'other values'
-wrong 13 chain 'the area holds no chain of so many entries that leads from the first program to the second'
-wrong 14 chain 'the area holds no chain of so many entries that leads from the first program to the second'
-wrong 15 remainder 'the area holds other bytes'
-wrong 16 check 'other values'
-wrong 17 unpack_table 'the area holds other bytes'
-wrong 18 pack_program 'another result'
-wrong 19 bed 'the area holds other bytes'
-wrong 20 ways 'the area holds other bytes'
-wrong 21 import 'an image, or memory beside it, was written'
-wrong 22 tray 'the area holds other bytes'
-wrong 23 tray 'another result'
-wrong 24 reverse 'other values'
-wrong 25 reverse 'memory beside the values was written'
+while read -r number call title; do wrong "$number" "$call" "$title"; done <<'WRONG'
+1 reverse the workspace is all zero after an answer
+2 reverse no byte past the answer area is written
+3 reverse the steps are counted one by one
+4 reverse all four values are set
+5 reverse D is read from the end of the back part
+6 reverse bytes behind the answer are as found
+7 left_reverse N stands in its own order
+8 commit other numbers come before a short area
+9 clear a broken cube rule has its triple
+10 mirror_clear the mirror's cube rule is 17, not 9
+11 compare the workspace is as found after 8
+12 compare_signed a workspace too short for the set names the set
+13 chain the listed chain leads from the first program to the second
+14 chain the filling of a listed chain is zero
+15 remainder the moves that are left stand in their order
+16 check an entry that does not fit breaks the chain
+17 unpack_table a weight is one more than its field
+18 pack_program too many bytes come before a wrong one
+19 bed totals have their high byte first
+20 ways the area is all zero after 13
+21 import a text is only read
+22 tray a log's steps have their high byte first
+23 tray more than 64 logs are 23, whatever follows
+24 reverse the back move of an open pair comes first
+25 reverse no memory beside the values is written
+26 chain steps on equal moves are counted, and have no entry
+27 reverse C(a,b) and C(b,a) are not exchanged
+28 compare an open pair is different, not refused
+29 clear one undefined side fails the cube rule
+30 compare bytes behind a program come before its back move
+31 enquire the length of N is told first, then that of D
+32 compare weights are compared, and not lengths
+33 compare a stop is no verdict
+34 compare_signed the steps of both reversings are told
+35 reverse an allowance that is one step short stops
+36 reverse a workspace of just the longest word suffices
+37 chain an area of just the chain's bytes suffices
+38 import 4,095 moves are not too many
+39 remainder none is told apart from no move left
+40 tray a faulty log ends no tray
+41 bed a number of moves beyond 65,535 means all of them
+42 check the second program's length plays no part in 12
+43 pack_table bytes behind a plain table are refused
+44 ways the word with the lower number comes first
+45 unpack_program a back move's byte has 128 more
+46 mirror_clear no mirror comes before unequal weights
+47 left_reverse a program's fault comes before a mirror that is missing
+48 commit numbers are compared with all 64 bits
+WRONG
+status=0
+: > "$work/report"
+[ "$tried" -ge 30 ] || status=1
+held "wrong libraries tried: $tried" 0 ""
 
-# a runner with little memory: what it cannot run is told and counts neither way
+# A runner with little memory: what it cannot run is told and counts neither way.
+examples=conformity/examples.txt
+cases=$(sed -n 's/^end //p' $examples)
 gcc $strict -DRUNNER_CAPACITY=300 -c conformity/host.c -o "$work/small.o" || exit 1
-gcc "$work/runner.o" "$work/small.o" $library -o "$work/small" || exit 1
-"$work/small" conformity/examples.txt > "$work/report"
+gcc $(echo "$judging" | sed "s|$work/host.o|$work/small.o|") $library -o "$work/small" || exit 1
+"$work/small" $examples > "$work/report"
 status=$?
 left=$(grep -c '^not run: ' "$work/report")
 held "a runner with little memory" 0 "$((cases - left)) passed, 0 failed"
@@ -88,7 +152,8 @@ grep -x -q "$left not run" "$work/report"
 status=$?
 held "what was not run is told" 0 "$((cases - left)) passed, 0 failed"
 
-gcc "$work/runner.o" "$work/host.o" $library -o "$work/runner" || exit 1
+# FILES THAT ARE NONE OF VECTORS
+gcc $judging $library -o "$work/runner" || exit 1
 # broken LABEL WHAT: the file made in $work/vectors is no file of vectors, for this reason
 broken() {
     "$work/runner" "$work/vectors" > "$work/report"
@@ -102,7 +167,6 @@ broken() {
         tail -n 1 "$work/report"
     fi
 }
-examples=conformity/examples.txt
 # changed BEGINNING LINE: the examples, with another line in the place of the first one that begins so
 changed() { awk -v begins="$1" -v line="$2" '!done && index($0, begins) == 1 { $0 = line; done = 1 } { print }' $examples > "$work/vectors"; }
 : > "$work/vectors"

@@ -25,7 +25,9 @@ fn leave(call: &Call, areas: &mut [&mut [u8]], values: &mut [u64]) -> u8 {
     }
     let written = if must.listed.is_some() { chain(call) } else { must.written };
     if let Some(answer) = areas.last_mut().filter(|_| call.has_answer()) {
-        answer[..written.len()].copy_from_slice(&written);
+        // A wrong version may have more to write than the area holds; that is for the judge to see.
+        let length = written.len().min(answer.len());
+        answer[..length].copy_from_slice(&written[..length]);
     }
     values.copy_from_slice(&must.values);
     must.result
