@@ -228,6 +228,38 @@ fn growth(book: &mut Book) {
     }
 }
 
+/// Tables that are the braid table but for one completion: a move changed, left out or put behind, or the pair open.
+fn nearly_braid(book: &mut Book) {
+    for moves in [2, 3] {
+        let whole = braid(moves);
+        for (k, (a, b)) in Table::pair_order(moves).into_iter().enumerate() {
+            let mut add = |what: &str, pair: Option<(Word, Word)>| {
+                let mut table = whole.clone();
+                table.pairs[k] = pair;
+                let what = format!("the braid table of {moves} moves but for the pair {a}, {b}: {what}");
+                book.add("6.11", &what, Call::Bed { table: table_image(&table), program: program_image(moves, &[]), moves: 0 }, 0, 16);
+            };
+            add("it is open", None);
+            let (there, back) = whole.pairs[k].clone().expect("no pair of a braid table is open");
+            let changes = |word: &Word| {
+                let mut words = vec![[word.clone(), vec![1]].concat(), word[1..].to_vec(), word[..word.len() - 1].to_vec()];
+                for at in 0..word.len() {
+                    let mut other = word.clone();
+                    other[at] = other[at] % moves as i8 + 1;
+                    words.push(other);
+                }
+                words
+            };
+            for other in changes(&there) {
+                add(&format!("C({a},{b}) is {other:?}"), Some((other, back.clone())));
+            }
+            for other in changes(&back) {
+                add(&format!("C({b},{a}) is {other:?}"), Some((there.clone(), other)));
+            }
+        }
+    }
+}
+
 /// Sets that close, sets that do not, and the largest that does.
 fn sets(book: &mut Book) {
     let signed = |table: &Table| Inputs::new(table, &[1, -2], &[-2, 1], &[]).call("compare_signed");
@@ -258,7 +290,7 @@ fn mirrors(book: &mut Book) {
 }
 
 pub fn add(book: &mut Book) {
-    for part in [every_number_of_moves, every_weight, largest_images, long_words, growth, sets, mirrors] {
+    for part in [every_number_of_moves, every_weight, largest_images, long_words, growth, nearly_braid, sets, mirrors] {
         part(book);
     }
 }

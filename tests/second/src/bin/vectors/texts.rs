@@ -3,7 +3,7 @@ use crate::book::Book;
 use second::call::Call;
 use second::image::table_image;
 use second::notation::text;
-use second::patterns::{deep, faulty, sized, tree};
+use second::patterns::{deep, faulty, sized, tower, tree};
 use second::random::Random;
 use second::tables::unrelated;
 
@@ -29,6 +29,17 @@ fn short(book: &mut Book) {
             import(book, 2, text, 8);
         }
         texts = texts.iter().flat_map(|text| b" -()^012".iter().map(|byte| [text.as_slice(), &[*byte]].concat())).collect();
+    }
+}
+
+/// The texts that specification 6.17 names as patterns, and as none.
+fn named(book: &mut Book) {
+    for text in ["", "()", "1", "-2^0", "(1 -2)^3 4", "-(1 (2)^0)", "-(1 2)^2", "1^1", "-1^2"] {
+        import(book, 4, text.as_bytes(), 20);
+    }
+    let none = [" 1", "1 ", "1  2", "1^", "^2", "--1", "1^2^3", "01", "0", "100", "1^00", "1^-1", "( 1)", "(1", "1)", "(1)(2)", "1-2"];
+    for text in none.into_iter().chain(["(1)^2^3", "(1 )", "1 ^2", "1^ 2", "- 1", "-", "^", "()()", "(1)2", "1(2)", "-^2", "(-)"]) {
+        import(book, 4, text.as_bytes(), 20);
     }
 }
 
@@ -76,9 +87,10 @@ fn limits(book: &mut Book) {
             import(book, 2, text.as_bytes(), area);
         }
     }
+    // 2^64 moves: counted in 64 bits they would be none.
+    import(book, 1, &text(&tower(1, 1_024, 64)), 4);
     for (count, what) in [(99, "too many"), (64, "2^54 moves"), (2, "512 moves"), (1, "one move"), (0, "none")] {
-        let tower = format!("{}1^{count}{}", "(".repeat(8), format!(")^{count}").repeat(8));
-        let call = Call::Import { table: vec![0], text: tower.into_bytes() };
+        let call = Call::Import { table: vec![0], text: text(&tower(1, 1, count)) };
         book.add("6.17", &format!("nine counts of {count}, one inside the other: {what}"), call, 0, 600);
     }
 }
@@ -104,7 +116,7 @@ fn drawn(book: &mut Book) {
 }
 
 pub fn add(book: &mut Book) {
-    for part in [short, bytes, limits, drawn] {
+    for part in [named, short, bytes, limits, drawn] {
         part(book);
     }
 }
