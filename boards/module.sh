@@ -5,17 +5,9 @@
 # Usage: sh boards/module.sh. Exit status: 0 the module is there and current; 1 the library is not proved or not built; 2 bad usage, or the kit is not as
 # expected.
 cd "$(dirname "$0")/.." || exit 2
-known=22
-fail() { echo "boards/module.sh: $1" >&2; exit "${2:-2}"; }
-
+script=boards/module.sh
+. boards/kit.sh
 [ $# -eq 0 ] || fail "it takes no argument"
-command -v rt > /dev/null || fail "there is no rt on the PATH: install the Rattle toolchain"
-kit=${RATTLE_HOME:-$(dirname "$(dirname "$(rt doc)")")}
-tools=$kit/on/$(uname -m)/toolchain/bin
-[ -x "$tools/clang" ] || fail "the kit at $kit has no clang at on/$(uname -m)/toolchain/bin: it is not the kit that this script knows"
-version=$("$tools/clang" --version | sed -n '1s/.*version \([0-9]*\).*/\1/p')
-[ "$version" = "$known" ] ||
-    fail "the kit's clang has version ${version:-unknown}, and this script knows $known: look whether rt still compiles one module, then say so here"
 
 out=target/boards
 module=$out/braid.bc
@@ -24,7 +16,6 @@ if [ -f $module ] && [ -f $out/libbraid.a ] && [ -z "$newer" ]; then
     exit 0
 fi
 mkdir -p $out
-rm -f $module $out/libbraid.a
 work=$(mktemp -d) || exit 2
 trap 'rm -rf "$work"' EXIT
 home=$work/kit
