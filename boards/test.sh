@@ -149,6 +149,27 @@ on_board() {
     compared "$name"
 }
 
+# on_microbit: the library for the M0+ on a board with 16 KB of memory for data, and those of the vectors that fit: the calls that take more stack than it has
+# are left out, and cases that take more memory are told as not run
+on_microbit() {
+    awk '/^case / { block = ""; fits = 1 }
+        /^call (pack_table|unpack_table|left_reverse|mirror_clear|compare_signed)$/ { fits = 0 }
+        { block = block $0 "\n" }
+        /^$/ { if (fits) { printf "%s", block; count++ } block = "" }
+        /^braid vectors/ { print $0 "\n"; block = "" ; fits = 0 }
+        END { print "end " count }' "$vectors" > $work/fitting.txt
+    cases=$(sed -n 's/^end //p' $work/fitting.txt)
+    # shellcheck disable=SC2046
+    arm-none-eabi-gcc -mcpu=cortex-m0plus -mthumb -std=gnu99 -Os -ffunction-sections -Wl,--gc-sections,-z,noexecstack -nostartfiles $include -Iboards/bare \
+        -T boards/bare/microbit.ld -DRUNNER_CAPACITY=3000 -DRUNNER_COUNT=uint16_t -DSTACK_SPAN=6400 -DBOARD_FILE="\"$work/fitting.txt\"" -Wl,--wrap=make_call \
+        boards/bare/cortex-m.S boards/bare/board.c boards/bare/vectors.c boards/stack.c $(sources "$judging" conformity) \
+        target/boards/cortex-m0plus/libbraid.a -o $work/microbit.elf || { one "microbit: the runner is built" 1; return; }
+    # shellcheck disable=SC2086
+    qemu-system-arm -M microbit $quiet -kernel $work/microbit.elf > $work/report
+    judged "cortex-m0plus on a microbit"
+    cases=$(sed -n 's/^end //p' "$vectors")
+}
+
 # in_node: WebAssembly, the kit's own compiler for the callers too
 in_node() {
     objects=
@@ -191,7 +212,7 @@ run() {
     cortex-m0plus)
         tools_of "$1" "qemu-system-arm gcc-arm-none-eabi libnewlib-arm-none-eabi" qemu-system-arm arm-none-eabi-gcc &&
             on_board "$1" arm-none-eabi-gcc boards/bare/cortex-m.S boards/bare/mps2.ld "qemu-system-arm -M mps2-an385 $quiet -kernel" 1048576 \
-                -mcpu=cortex-m0plus -mthumb -DTRAP_UNALIGNED ;;
+                -mcpu=cortex-m0plus -mthumb -DTRAP_UNALIGNED && on_microbit ;;
     riscv32-none)
         tools_of "$1" "qemu-system-misc gcc-riscv64-unknown-elf picolibc-riscv64-unknown-elf" qemu-system-riscv32 riscv64-unknown-elf-gcc &&
             on_board "$1" riscv64-unknown-elf-gcc boards/bare/riscv.S boards/bare/virt.ld \

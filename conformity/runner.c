@@ -16,7 +16,11 @@ static int byte_here;
 static uint64_t line;
 static int broken; /* the file is not one of vectors: nothing more is read */
 static uint64_t passed, failed, not_run;
-static uint32_t tally[CALLS][OUTCOMES][3]; /* held, failed, not run */
+/* A board with little memory counts in fewer bits: as many as the cases of its file need. */
+#ifndef RUNNER_COUNT
+#define RUNNER_COUNT uint32_t
+#endif
+static RUNNER_COUNT tally[CALLS][OUTCOMES][3]; /* held, failed, not run */
 static uint8_t reported[CALLS];
 static char title[TITLE + 1];
 
@@ -415,7 +419,7 @@ static void lend_areas(struct one_case *c)
 static void judge(struct one_case *c, uint64_t began)
 {
     int kind = c->call.kind;
-    uint32_t *row = tally[kind][outcome_of(kind, c->expected_result, c->expected_values[0])];
+    RUNNER_COUNT *row = tally[kind][outcome_of(kind, c->expected_result, c->expected_values[0])];
     const char *found;
     lend_areas(c);
     if (c->runs && c->stated != (uint64_t)(memory.free - memory_start) + (c->has_listed ? MOST_WORD : 0u)) {
@@ -497,7 +501,7 @@ static void put_table(void)
     put_text("call, outcome: cases, held, failed, not run\n");
     for (kind = 0; kind < CALLS; kind++) {
         for (outcome = 0; outcome < OUTCOMES; outcome++) {
-            const uint32_t *row = tally[kind][outcome];
+            const RUNNER_COUNT *row = tally[kind][outcome];
             if (row[0] + row[1] + row[2] > 0) {
                 put_outcome(kind, outcome);
                 put_text(": ");

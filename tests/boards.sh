@@ -43,6 +43,15 @@ if ! grep -q '^not run: the boards' "$work/report"; then
     refuses "a number that is none" 2 "--calls wants a number, and not 'many'" sh boards/test.sh --calls many
     mkdir "$work/kit"
     refuses "a kit without a compiler" 2 'has no clang at ' env RATTLE_HOME="$work/kit" sh boards/build.sh wasm32
+    RATTLE_HOME=$work/kit sh boards/test.sh --gate wasm32 > "$work/out" 2>&1
+    status=$?
+    if [ $status -eq 0 ] && grep -q '^not run: the boards: ' "$work/out" && [ "$(tail -n 1 "$work/out")" = "0 passed, 0 failed" ]; then
+        passed=$((passed + 1))
+    else
+        failed=$((failed + 1))
+        echo "failed: another kit in the gate: status $status, and:"
+        tail -n 3 "$work/out"
+    fi
     # The look at the calls sees one without zeroext, and one that is called from within.
     module=target/boards/aarch64-linux/braid.ll
     sed 's/ zeroext i8 @braid_bed(/ i8 @braid_bed(/; s/i16 zeroext /i16 /' $module > "$work/narrow.ll"
