@@ -4,7 +4,6 @@
  */
 #include "put.h"
 #include "random_calls.h"
-#include "stack.h"
 #include "stream.h"
 
 enum { EVERY = 1000 };

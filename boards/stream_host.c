@@ -1,6 +1,5 @@
 /* The stream of random calls on a system with files. Usage: stream SEED CALLS */
 #include "put.h"
-#include "stack.h"
 #include "stream.h"
 #include <stdio.h>
 #include <stdlib.h>

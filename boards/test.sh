@@ -50,6 +50,7 @@ judging=$(sed -n 's/^parts="\(.*\)"$/\1/p' conformity/run.sh | sed 's/ host$//')
 drawing=$(sed -n 's/^drawing="\(.*\)"$/\1/p' conformity/against.sh)
 shared="call place outcome chain put make_call"
 include="-Iinclude -Iconformity -Iboards"
+wrapped="-Wl,--wrap=make_call,--wrap=run_vectors"
 
 # one LABEL STATUS: a test by its exit status
 one() {
@@ -113,7 +114,7 @@ compared() {
 on_linux() {
     for level in -O0 -O2; do
         # shellcheck disable=SC2046
-        "$2" -static -std=c99 $level $include -Wl,--wrap=make_call $(sources "$judging" conformity) boards/linux.c boards/stack.c \
+        "$2" -static -std=c99 $level $include $wrapped $(sources "$judging" conformity) conformity/host.c boards/stack.c \
             target/boards/"$1"/libbraid.a -o $work/vectors || { one "$1: the runner is built with $level" 1; return; }
         $3 $work/vectors $vectors > $work/report
         judged "$1, callers compiled with $level"
@@ -137,7 +138,7 @@ on_board() {
     shift 6
     common="-std=gnu99 -Os -ffunction-sections -Wl,--gc-sections,-z,noexecstack -nostartfiles $include -Iboards/bare -T $script_of_board"
     # shellcheck disable=SC2046,SC2086
-    $compiler "$@" $common -DRUNNER_CAPACITY="$capacity" -DBOARD_FILE="\"$vectors\"" -Wl,--wrap=make_call $start boards/bare/board.c boards/bare/vectors.c \
+    $compiler "$@" $common -DRUNNER_CAPACITY="$capacity" -DBOARD_FILE="\"$vectors\"" $wrapped $start boards/bare/board.c boards/bare/vectors.c \
         boards/stack.c $(sources "$judging" conformity) target/boards/"$name"/libbraid.a -o $work/vectors.elf ||
         { one "$name: the runner is built" 1; return; }
     $emulator $work/vectors.elf > $work/report
@@ -161,7 +162,7 @@ on_microbit() {
     cases=$(sed -n 's/^end //p' $work/fitting.txt)
     # shellcheck disable=SC2046
     arm-none-eabi-gcc -mcpu=cortex-m0plus -mthumb -std=gnu99 -Os -ffunction-sections -Wl,--gc-sections,-z,noexecstack -nostartfiles $include -Iboards/bare \
-        -T boards/bare/microbit.ld -DRUNNER_CAPACITY=3000 -DRUNNER_COUNT=uint16_t -DSTACK_SPAN=6400 -DBOARD_FILE="\"$work/fitting.txt\"" -Wl,--wrap=make_call \
+        -T boards/bare/microbit.ld -DRUNNER_CAPACITY=3000 -DRUNNER_COUNT=uint16_t -DSTACK_SPAN=6400 -DBOARD_FILE="\"$work/fitting.txt\"" $wrapped \
         boards/bare/cortex-m.S boards/bare/board.c boards/bare/vectors.c boards/stack.c $(sources "$judging" conformity) \
         target/boards/cortex-m0plus/libbraid.a -o $work/microbit.elf || { one "microbit: the runner is built" 1; return; }
     # shellcheck disable=SC2086
@@ -180,7 +181,7 @@ in_node() {
         objects="$objects $object"
     done
     # shellcheck disable=SC2086
-    target/boards/wasm32/wasm-ld --no-entry -z stack-size=262144 --wrap=make_call --allow-undefined --export=vectors --export=stream --export=stack_taken \
+    target/boards/wasm32/wasm-ld --no-entry -z stack-size=262144 --wrap=make_call --wrap=run_vectors --allow-undefined --export=vectors --export=stream \
         $objects target/boards/wasm32/libbraid.a -o $work/runner.wasm || { one "wasm32: the runner is linked" 1; return; }
     node boards/wasm/run.mjs $work/runner.wasm vectors $vectors > $work/report
     judged wasm32

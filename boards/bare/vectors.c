@@ -1,8 +1,6 @@
-/* Runs vectors on a bare board, and tells the stack that the calls took. */
+/* Runs vectors on a bare board. */
 #include "board.h"
-#include "put.h"
 #include "runner.h"
-#include "stack.h"
 
 static uint8_t memory[RUNNER_CAPACITY];
 
@@ -13,10 +11,6 @@ int next_byte(void)
 
 int main(void)
 {
-    int status = run_vectors(memory, sizeof memory);
-    put_text("stack ");
-    put_number(stack_most);
-    put_byte('\n');
-    board_exit(status);
+    board_exit(run_vectors(memory, sizeof memory));
     return 0;
 }

@@ -1,13 +1,11 @@
 /* The conformity runner and the stream of random calls as exports of a WebAssembly module; bytes come and go by two imports. */
 #include "runner.h"
-#include "stack.h"
 #include "stream.h"
 
 static uint8_t memory[RUNNER_CAPACITY];
 
 int vectors(void);
 int stream(uint64_t seed, uint64_t calls);
-uint64_t stack_taken(void);
 
 int vectors(void)
 {
@@ -17,9 +15,4 @@ int vectors(void)
 int stream(uint64_t seed, uint64_t calls)
 {
     return run_stream(seed, calls);
-}
-
-uint64_t stack_taken(void)
-{
-    return stack_most;
 }

@@ -30,5 +30,4 @@ const { instance } = await WebAssembly.instantiate(readFileSync(module), { env }
 const calls = instance.exports;
 const status = what === 'vectors' ? calls.vectors() : calls.stream(BigInt(rest[0]), BigInt(rest[1]));
 flush();
-if (what === 'vectors') console.log(`stack ${calls.stack_taken()}`);
 process.exitCode = status;
