@@ -15,6 +15,7 @@ copy=$work/tests/second
 export CARGO_TARGET_DIR=$work/target/second
 mkdir -p $work/tests $work/target
 ln -sfn ../../staticlib $work/target/staticlib
+ln -sfn ../../bindings $work/bindings
 rm -rf $copy
 cp -R tests/second $copy
 manifest=$copy/Cargo.toml

@@ -212,9 +212,11 @@ fn part(fault: Fault) -> Option<Table> {
     }
 }
 
-/// An image of this layout with a damage.
-fn damaged(image: &mut Vec<u8>, layout: &Layout, damage: Damage) {
+/// An image of this layout with a damage, which is the fault that comes, or not.
+fn damaged(image: &mut Vec<u8>, layout: &Layout, damage: Damage, comes: bool) {
     match damage {
+        // The image whose fault must not come is empty: that is the fault that is seen with the least reading.
+        Ends if !comes => image.clear(),
         Ends => {
             image.pop();
         }
@@ -306,10 +308,10 @@ fn damage(made: &mut Inputs, faults: &[Fault], table: &Table, (first, second, en
                 continue;
             }
             match image {
-                Image::Table => damaged(&mut made.table, &table_layout(table), damage),
-                Image::First => damaged(&mut made.first, &program_layout(n, first.len()), damage),
-                Image::Second => damaged(&mut made.second, &program_layout(n, second.len()), damage),
-                Image::Chain => damaged(&mut made.chain, &chain_layout(n, entries.len()), damage),
+                Image::Table => damaged(&mut made.table, &table_layout(table), damage, fault == &faults[0]),
+                Image::First => damaged(&mut made.first, &program_layout(n, first.len()), damage, fault == &faults[0]),
+                Image::Second => damaged(&mut made.second, &program_layout(n, second.len()), damage, fault == &faults[0]),
+                Image::Chain => damaged(&mut made.chain, &chain_layout(n, entries.len()), damage, fault == &faults[0]),
                 Image::PlainTable => match damage {
                     Field => made.plain_table[1] = 9,
                     Tail => made.plain_table.push(0),
