@@ -162,7 +162,7 @@ on_microbit() {
     cases=$(sed -n 's/^end //p' $work/fitting.txt)
     # shellcheck disable=SC2046
     arm-none-eabi-gcc -mcpu=cortex-m0plus -mthumb -std=gnu99 -Os -ffunction-sections -Wl,--gc-sections,-z,noexecstack -nostartfiles $include -Iboards/bare \
-        -T boards/bare/microbit.ld -DRUNNER_CAPACITY=3000 -DRUNNER_COUNT=uint16_t -DSTACK_SPAN=6400 -DBOARD_FILE="\"$work/fitting.txt\"" $wrapped \
+        -T boards/bare/microbit.ld -DRUNNER_CAPACITY=3000 -DRUNNER_COUNT=uint16_t -DSTACK_SPAN=7600 -DBOARD_FILE="\"$work/fitting.txt\"" $wrapped \
         boards/bare/cortex-m.S boards/bare/board.c boards/bare/vectors.c boards/stack.c $(sources "$judging" conformity) \
         target/boards/cortex-m0plus/libbraid.a -o $work/microbit.elf || { one "microbit: the runner is built" 1; return; }
     # shellcheck disable=SC2086

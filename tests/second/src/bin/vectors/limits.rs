@@ -9,6 +9,7 @@ use second::reversing::Most;
 use second::table::Table;
 use second::tables::signed::{costly_mirror, cyclic, dihedral, multiple};
 use second::tables::{braid, doubled};
+use second::tray::laid;
 
 /// What a call comes to at most, and the bytes of its answer, where it is not limited.
 fn needs(name: &str, inputs: &Inputs) -> (Most, usize) {
@@ -196,6 +197,9 @@ fn answer_areas(book: &mut Book) {
         empty.tray = vec![0];
         areas(book, name, "nothing to write, or the least", &empty);
     }
+    let mut faulty = Inputs::example();
+    faulty.tray = laid(&[vec![], faulty.first.clone(), vec![0x00]]);
+    areas(book, "tray", "three logs, two of them faulty", &faulty);
     let begun = Inputs::new(&braid(3), &[2], &[1, 2, 1, 3], &[]);
     areas(book, "remainder", "2 done of 1 2 1 3", &begun);
     areas(book, "remainder", "none", &Inputs::new(&braid(3), &[1], &[2, 2], &[]));
