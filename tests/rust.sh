@@ -1,6 +1,6 @@
 #!/bin/sh
-# The Rust packages: their layout and clippy's warnings, where cargo has these, and the binding's own tests, those in its documentation too. The last line is
-# 'N passed, M failed'. Usage: tests/rust.sh, with cargo.
+# The Rust packages: their layout and clippy's warnings, where cargo has these, the binding's own tests, those in its documentation too, and the tool's. The last
+# line is 'N passed, M failed'. Usage: tests/rust.sh, with cargo.
 cd "$(dirname "$0")/.." || exit 1
 sh tests/library.sh || exit 1
 passed=0
@@ -32,8 +32,11 @@ while read -r package built; do
 done <<'PACKAGES'
 bindings/rust bindings
 tests/second second
+tool tool
 PACKAGES
 export CARGO_TARGET_DIR=target/bindings
 one "the binding's tests" cargo test --release --offline --quiet --manifest-path bindings/rust/Cargo.toml
+export CARGO_TARGET_DIR=target/tool
+one "the tool's own tests" cargo test --release --offline --quiet --manifest-path tool/Cargo.toml
 echo "$passed passed, $failed failed"
 [ "$failed" -eq 0 ]

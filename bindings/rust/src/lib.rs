@@ -19,6 +19,8 @@ mod refusal;
 
 pub use refusal::{Place, Reason, Refusal};
 
+/// The version of the library and of its specification, as `include/braid.h` has it: major, minor.
+pub const VERSION: (u8, u8) = (3, 0);
 /// The most moves of a program in an image or in plain form.
 pub const MOST_MOVES: usize = 4_095;
 /// The most logs of a tray.
@@ -29,17 +31,18 @@ const PLAIN_BYTES: usize = 3_857;
 const PROGRAM_BYTES: usize = 2_561;
 const BED_BYTES: usize = 289;
 
-/// The most steps of one reversing, and the bytes of workspace, a byte a move.
+/// The most steps of one reversing, the bytes of workspace, a byte a move, and those of the answer area; where none are named, it is as long as any answer.
 #[derive(Clone, Copy, Debug, PartialEq, Eq)]
 pub struct Limits {
     pub allowance: u16,
     pub workspace: usize,
+    pub answer: Option<usize>,
 }
 
 impl Default for Limits {
     /// The largest allowance, and a usual workspace.
     fn default() -> Limits {
-        Limits { allowance: 65_535, workspace: 32_768 }
+        Limits { allowance: 65_535, workspace: 32_768, answer: None }
     }
 }
 
@@ -145,7 +148,8 @@ fn written(most: usize, call: impl FnOnce(&mut [u8], &mut [u64; 4]) -> u8) -> Re
 
 /// Both words of a reversing, which are together no longer than the workspace.
 fn fraction(limits: Limits, call: impl FnOnce(&mut [u8], &mut [u8], &mut [u64; 4]) -> u8) -> Result<Fraction, Refusal> {
-    let (mut workspace, mut answer, mut values) = (vec![0; limits.workspace], vec![0; limits.workspace], [0; 4]);
+    let area = limits.answer.unwrap_or(limits.workspace);
+    let (mut workspace, mut answer, mut values) = (vec![0; limits.workspace], vec![0; area], [0; 4]);
     let result = call(&mut workspace, &mut answer, &mut values);
     answered(result, values, |[numerator, denominator, steps, _]| {
         let (numerator, denominator) = (numerator as usize, denominator as usize);
@@ -170,7 +174,7 @@ pub fn enquire(table: &[u8], program: &[u8], limits: Limits) -> Result<Sizes, Re
     answered(result, values, |[numerator, denominator, steps, _]| Sizes { numerator, denominator, steps })
 }
 
-/// The answer of a reversing whose sizes are known, in an area of just these; 18 where they are others (6.16).
+/// The answer of a reversing whose sizes are known; 18 where they are others (6.16).
 pub fn commit(table: &[u8], program: &[u8], sizes: Sizes, limits: Limits) -> Result<Fraction, Refusal> {
     let numbers = [sizes.numerator, sizes.denominator, sizes.steps];
     fraction(limits, |workspace, answer, values| raw::commit(table, program, limits.allowance, numbers, workspace, answer, values))
@@ -217,7 +221,7 @@ fn move_bits(table: &[u8]) -> usize {
 /// Compares two programs, and lists a chain between them after same (6.6). The area holds an entry for each step of the allowance.
 pub fn chain(table: &[u8], first: &[u8], second: &[u8], limits: Limits) -> Result<Chained, Refusal> {
     let most = (16 + usize::from(limits.allowance) * (15 + 2 * move_bits(table))).div_ceil(8);
-    let (mut workspace, mut answer, mut values) = (vec![0; limits.workspace], vec![0; most], [0; 4]);
+    let (mut workspace, mut answer, mut values) = (vec![0; limits.workspace], vec![0; limits.answer.unwrap_or(most)], [0; 4]);
     let result = raw::chain(table, first, second, limits.allowance, &mut workspace, &mut answer, &mut values);
     answered(result, values, |[verdict, steps, entries, bytes]| match Verdict::told(verdict) {
         Verdict::Same => {
@@ -230,7 +234,8 @@ pub fn chain(table: &[u8], first: &[u8], second: &[u8], limits: Limits) -> Resul
 
 /// The moves that are left of a pattern after a part done (6.10).
 pub fn remainder(table: &[u8], done: &[u8], pattern: &[u8], limits: Limits) -> Result<Remainder, Refusal> {
-    let (mut workspace, mut answer, mut values) = (vec![0; limits.workspace], vec![0; limits.workspace], [0; 4]);
+    let area = limits.answer.unwrap_or(limits.workspace);
+    let (mut workspace, mut answer, mut values) = (vec![0; limits.workspace], vec![0; area], [0; 4]);
     let result = raw::remainder(table, done, pattern, limits.allowance, &mut workspace, &mut answer, &mut values);
     answered(result, values, |[none, moves, steps, _]| {
         if none == 1 {
@@ -276,7 +281,7 @@ pub fn tray_of(logs: &[&[u8]]) -> Option<Vec<u8>> {
 /// # Ok::<(), braid::Refusal>(())
 /// ```
 pub fn tray(table: &[u8], tray: &[u8], pattern: &[u8], limits: Limits) -> Result<Vec<Log>, Refusal> {
-    let (mut workspace, mut answer, mut values) = (vec![0; limits.workspace], [0; 3 * MOST_LOGS], [0; 4]);
+    let (mut workspace, mut answer, mut values) = (vec![0; limits.workspace], vec![0; limits.answer.unwrap_or(3 * MOST_LOGS)], [0; 4]);
     let result = raw::tray(table, tray, pattern, limits.allowance, &mut workspace, &mut answer, &mut values);
     answered(result, values, |[logs, ..]| answer[..3 * logs as usize].chunks(3).map(log).collect())
 }
@@ -311,8 +316,9 @@ pub fn unpack_program(table: &[u8], program: &[u8]) -> Result<Vec<u8>, Refusal> 
 }
 
 /// The bed after a program's first moves, under a braid table: the bobbin at each place, then the total of each two in order, high byte first (6.11).
-pub fn bed(table: &[u8], program: &[u8], moves: u64) -> Result<Vec<u8>, Refusal> {
-    written(BED_BYTES, |answer, values| raw::bed(table, program, moves, answer, values))
+/// Of the limits the answer area counts.
+pub fn bed(table: &[u8], program: &[u8], moves: u64, limits: Limits) -> Result<Vec<u8>, Refusal> {
+    written(limits.answer.unwrap_or(BED_BYTES), |answer, values| raw::bed(table, program, moves, answer, values))
 }
 
 /// Every word that lays the same as a program, in order; 13 where they take more than so many bytes, one more than its moves for each (6.14).

@@ -27,13 +27,16 @@ fn reversing() {
     let left = braid::left_reverse(&B, &[0x00, 0x21, 0x40], wide()).unwrap();
     assert_eq!((left.numerator, left.denominator, left.steps), (vec![2, 1], vec![1, 2], 1));
     assert_eq!(braid::reverse(&O, &[0x00, 0x2C], wide()), Err(refused(Reason::OpenPair, Place::Pair(2, 1))));
+    let area = Limits { answer: Some(6), ..wide() };
+    assert_eq!(braid::reverse(&B, &P, area), Err(refused(Reason::AnswerShort, Place::None)));
+    assert_eq!(braid::bed(&B, &P, 0, Limits { answer: Some(15), ..wide() }), Err(refused(Reason::AnswerShort, Place::None)));
     let short = Limits { allowance: 4, ..wide() };
     assert_eq!(braid::reverse(&B, &P, short), Err(refused(Reason::AllowanceUsed, Place::None)));
 }
 
 #[test]
 fn checking_tables() {
-    assert_eq!(braid::clear(&B, Limits { allowance: 5, workspace: 11 }), Ok(()));
+    assert_eq!(braid::clear(&B, Limits { allowance: 5, workspace: 11, ..wide() }), Ok(()));
     assert_eq!(braid::clear(&K, wide()), Err(refused(Reason::CubeFails, Place::Triple(1, 2, 3))));
     let short = Limits { workspace: 10, ..wide() };
     assert_eq!(braid::mirror_clear(&B, short), Err(refused(Reason::WorkspaceShort, Place::MirrorTriple(1, 2, 3))));
@@ -69,8 +72,8 @@ fn forms() {
     assert_eq!(braid::pack_table(&plain).as_deref(), Ok(&B[..]));
     assert_eq!(braid::unpack_program(&B, &P).as_deref(), Ok(&[131, 1, 130, 1, 2][..]));
     assert_eq!(braid::pack_program(&B, &[131, 1, 130, 1, 2]).as_deref(), Ok(&P[..]));
-    assert_eq!(braid::bed(&B, &P, 0).map(|bed| bed[..4].to_vec()), Ok(vec![1, 2, 3, 4]));
-    assert_eq!(braid::bed(&O, &P, 0), Err(refused(Reason::NotBraidTable, Place::None)));
+    assert_eq!(braid::bed(&B, &P, 0, wide()).map(|bed| bed[..4].to_vec()), Ok(vec![1, 2, 3, 4]));
+    assert_eq!(braid::bed(&O, &P, 0, wide()), Err(refused(Reason::NotBraidTable, Place::None)));
     assert_eq!(braid::ways(&B, &P121, 100), Ok(vec![vec![1, 2, 1], vec![2, 1, 2]]));
     assert_eq!(braid::ways(&B, &P121, 7), Err(refused(Reason::AnswerShort, Place::None)));
     assert_eq!(braid::ways(&B, &[0, 0], 1), Ok(vec![vec![]]));
@@ -88,11 +91,14 @@ fn images_that_overlap() {
     assert_eq!(braid::compare(&shared[..1], &shared, &shared, wide()), apart);
 }
 
-/// The sentences are those of `braid_text` in the header.
+/// The version and the sentences are those of the header.
 #[test]
 fn texts() {
     let header = std::fs::read_to_string(concat!(env!("CARGO_MANIFEST_DIR"), "/../../include/braid.h"))
         .expect("the header stands beside the binding");
+    let number =
+        |name: &str| header.lines().find_map(|line| line.strip_prefix(&format!("#define BRAID_VERSION_{name} "))?.parse::<u8>().ok());
+    assert_eq!((number("MAJOR"), number("MINOR")), (Some(braid::VERSION.0), Some(braid::VERSION.1)));
     let (_, texts) = header.split_once("static const char *const texts[] = {").expect("braid_text has its texts");
     let (texts, _) = texts.split_once("};").expect("they end");
     let of_header: Vec<Option<&str>> =
