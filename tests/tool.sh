@@ -108,6 +108,24 @@ gives 2 'refused 13\n' reverse samples/braid3.table samples/first.program --answ
 gives 2 'refused 13\n' chain $t '=1 2 1' '=2 1 2' --answer 4
 gives 2 'refused 13\n' remainder $t '=1' '=1 2 1' --answer 1
 gives 2 'refused 13\n' bed braid:3 '=1' --answer 15
+gives 2 'refused 13\n' pack $t -o "$work/none" --answer 7
+gives 2 'refused 13\n' pack '=1' --table $t -o "$work/none" --answer 1
+gives 2 'refused 13\n' unpack samples/braid3.table -o "$work/none" --answer 19
+gives 2 'refused 13\n' unpack samples/first.program --table $t -o "$work/none" --answer 4
+[ ! -e "$work/none" ]
+count "what is refused is not written" $?
+if [ -x target/bin/reader ]; then
+    # the reader's reports byte for byte, of every sample table with every sample program
+    for table in samples/*.table; do
+        for program in samples/*.program; do
+            target/bin/reader "$table" "$program" > "$work/expected"
+            "$tool" reverse "$table" "$program" 2> /dev/null | cmp -s - "$work/expected"
+            count "the reader's report of $table and $program" $?
+        done
+    done
+else
+    echo "not run: the reader's reports, for which target/bin/reader is missing"
+fi
 
 # TRAY
 gives 3 'same 12 samples/logs/tuesday.txt\nrefused 7 samples/logs/friday.txt\nunreadable none.program\n' tray $t samples/ordered.txt samples/logs/tuesday.txt \

@@ -90,6 +90,7 @@ pub fn of_text(table: &Table, name: &str, text: &[u8], refusal: Refusal) -> Vec<
             let end = (1..=text.len()).find(many).unwrap_or(text.len());
             at(end.saturating_sub(1), format!("{said}: with what stands here they are passed"))
         }
+        Reason::AnswerShort => vec![format!("{name}: {said}")],
         _ => vec![format!("{}: {said}", table.name)],
     }
 }

@@ -25,11 +25,14 @@ pub const VERSION: (u8, u8) = (3, 0);
 pub const MOST_MOVES: usize = 4_095;
 /// The most logs of a tray.
 pub const MOST_LOGS: usize = 64;
-/// The longest table image, plain table, program image and bed (specification 5.10).
-const TABLE_BYTES: usize = 1_942;
-const PLAIN_BYTES: usize = 3_857;
-const PROGRAM_BYTES: usize = 2_561;
-const BED_BYTES: usize = 289;
+/// The bytes of the longest table image (specification 5.10).
+pub const TABLE_BYTES: usize = 1_942;
+/// The bytes of the longest plain table.
+pub const PLAIN_BYTES: usize = 3_857;
+/// The bytes of the longest program image.
+pub const PROGRAM_BYTES: usize = 2_561;
+/// The bytes of the longest bed.
+pub const BED_BYTES: usize = 289;
 
 /// The most steps of one reversing, the bytes of workspace, a byte a move, and those of the answer area; where none are named, it is as long as any answer.
 #[derive(Clone, Copy, Debug, PartialEq, Eq)]
@@ -297,22 +300,42 @@ fn log(bytes: &[u8]) -> Log {
 
 /// The image of a plain table (6.8).
 pub fn pack_table(plain: &[u8]) -> Result<Vec<u8>, Refusal> {
-    written(TABLE_BYTES, |answer, values| raw::pack_table(plain, answer, values))
+    pack_table_within(plain, TABLE_BYTES)
+}
+
+/// [`pack_table`] in an area of so many bytes.
+pub fn pack_table_within(plain: &[u8], most: usize) -> Result<Vec<u8>, Refusal> {
+    written(most, |answer, values| raw::pack_table(plain, answer, values))
 }
 
 /// The plain form of a table image (6.8).
 pub fn unpack_table(table: &[u8]) -> Result<Vec<u8>, Refusal> {
-    written(PLAIN_BYTES, |answer, values| raw::unpack_table(table, answer, values))
+    unpack_table_within(table, PLAIN_BYTES)
+}
+
+/// [`unpack_table`] in an area of so many bytes.
+pub fn unpack_table_within(table: &[u8], most: usize) -> Result<Vec<u8>, Refusal> {
+    written(most, |answer, values| raw::unpack_table(table, answer, values))
 }
 
 /// The image of a plain program: a byte for each move, 128 more for a back move (6.8).
 pub fn pack_program(table: &[u8], plain: &[u8]) -> Result<Vec<u8>, Refusal> {
-    written(PROGRAM_BYTES, |answer, values| raw::pack_program(table, plain, answer, values))
+    pack_program_within(table, plain, PROGRAM_BYTES)
+}
+
+/// [`pack_program`] in an area of so many bytes.
+pub fn pack_program_within(table: &[u8], plain: &[u8], most: usize) -> Result<Vec<u8>, Refusal> {
+    written(most, |answer, values| raw::pack_program(table, plain, answer, values))
 }
 
 /// The plain form of a program image (6.8).
 pub fn unpack_program(table: &[u8], program: &[u8]) -> Result<Vec<u8>, Refusal> {
-    written(MOST_MOVES, |answer, values| raw::unpack_program(table, program, answer, values))
+    unpack_program_within(table, program, MOST_MOVES)
+}
+
+/// [`unpack_program`] in an area of so many bytes.
+pub fn unpack_program_within(table: &[u8], program: &[u8], most: usize) -> Result<Vec<u8>, Refusal> {
+    written(most, |answer, values| raw::unpack_program(table, program, answer, values))
 }
 
 /// The bed after a program's first moves, under a braid table: the bobbin at each place, then the total of each two in order, high byte first (6.11).

@@ -5,7 +5,7 @@ use crate::arguments::{shown, Arguments};
 use crate::chains::{self, Entry};
 use crate::end::{wrong, Done, End, AS_HOPED};
 use crate::explain;
-use crate::files::{self, Given, Program, Table};
+use crate::files::{self, Program, Table};
 use crate::output::{moves, word, Answer, Value};
 use crate::tables;
 use braid::Refusal;
@@ -80,7 +80,8 @@ pub fn pack(arguments: &Arguments) -> Done<Answer> {
     let (name, out) = (&arguments.operands[0], out(arguments)?);
     let Some(table) = &arguments.table else {
         let plain = files::plain_table(name)?;
-        let image = braid::pack_table(&plain)
+        let most = arguments.answer.unwrap_or(braid::TABLE_BYTES);
+        let image = braid::pack_table_within(&plain, most)
             .map_err(|refusal| End::Refused(refusal, vec![format!("{}: {}", shown(name), refusal.reason.text())]))?;
         return written(out, &image);
     };
@@ -96,9 +97,10 @@ pub fn pack(arguments: &Arguments) -> Done<Answer> {
         Some(notation) => notation.to_vec(),
         None => files::without_line_end(files::text(name)?),
     };
-    match files::imported(&table, Given::Text(text)) {
+    let most = arguments.answer.unwrap_or(braid::PROGRAM_BYTES);
+    match braid::import(&table.image, &text).and_then(|moves| braid::pack_program_within(&table.image, &moves, most)) {
         Ok(image) => written(out, &image),
-        Err((refusal, text)) => Err(End::Refused(refusal, explain::of_text(&table, &shown(name), &text, refusal))),
+        Err(refusal) => Err(End::Refused(refusal, explain::of_text(&table, &shown(name), &text, refusal))),
     }
 }
 
@@ -106,12 +108,14 @@ pub fn unpack(arguments: &Arguments) -> Done<Answer> {
     let (name, out) = (&arguments.operands[0], out(arguments)?);
     let Some(table) = &arguments.table else {
         let table = Table { name: shown(name), image: files::image(name)? };
-        let plain = braid::unpack_table(&table.image).map_err(explained(&table, &[], arguments))?;
+        let most = arguments.answer.unwrap_or(braid::PLAIN_BYTES);
+        let plain = braid::unpack_table_within(&table.image, most).map_err(explained(&table, &[], arguments))?;
         return written(out, &plain);
     };
     let table = files::table(table)?;
     let program = Program { name: shown(name), image: files::image(name)? };
     let programs = [&program];
-    let plain = braid::unpack_program(&table.image, &program.image).map_err(explained(&table, &programs, arguments))?;
+    let most = arguments.answer.unwrap_or(braid::MOST_MOVES);
+    let plain = braid::unpack_program_within(&table.image, &program.image, most).map_err(explained(&table, &programs, arguments))?;
     written(out, &plain)
 }
