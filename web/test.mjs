@@ -1,0 +1,159 @@
+/**
+ * The JavaScript binding: the conformity vectors through its raw calls, and each typed call on cases of specification 10.
+ * Usage: node web/test.mjs, after sh web/build.sh. The last line is 'N passed, M failed'.
+ */
+import { readFileSync } from 'node:fs';
+import { CALLS, TEXTS, load, trayOf } from '../target/web/braid.mjs';
+
+const top = new URL('..', import.meta.url);
+const read = (/** @type {string} */ name) => readFileSync(new URL(name, top));
+const braid = await load(read('target/web/braid.wasm'));
+let passed = 0;
+let failed = 0;
+/** @param {string} label @param {boolean} holds */
+const hold = (label, holds) => {
+    if (holds) passed++;
+    else {
+        failed++;
+        if (failed <= 20) console.log(`failed: ${label}`);
+    }
+};
+const same = (/** @type {ArrayLike<number>} */ one, /** @type {ArrayLike<number>} */ two) =>
+    one.length === two.length && Array.prototype.every.call(one, (byte, k) => byte === two[k]);
+
+// THE VECTORS (conformity/README.md)
+
+/** @param {string} text */
+const bytes = (text) =>
+    text === '-'
+        ? new Uint8Array()
+        : Uint8Array.from(
+              text.split(' ').flatMap((piece) => {
+                  const [byte, count = '1'] = piece.split('*');
+                  return Array(Number(count)).fill(parseInt(byte, 16));
+              }),
+          );
+
+/** The chain that was listed is followed here. @param {Record<string, string>} block @param {Uint8Array} image @param {number} entries */
+function leads(block, image, entries) {
+    const plain = braid.unpackTable(bytes(block.table));
+    const word = (/** @type {string} */ key) => {
+        const unpacked = braid.unpackProgram(bytes(block.table), bytes(block[key]));
+        return unpacked.answered ? [...unpacked.bytes] : [];
+    };
+    if (!plain.answered) return false;
+    const n = plain.bytes[0];
+    const sides = new Map();
+    let at = 1 + n;
+    for (let a = 1; a <= n; a++) {
+        for (let b = a + 1; b <= n; b++) {
+            if (plain.bytes[at] === 255) {
+                at++;
+                continue;
+            }
+            for (const [x, y] of [
+                [a, b],
+                [b, a],
+            ]) {
+                sides.set(`${x} ${y}`, [x, ...plain.bytes.slice(at + 1, at + 1 + plain.bytes[at])]);
+                at += 1 + plain.bytes[at];
+            }
+        }
+    }
+    let bit = 0;
+    const field = (/** @type {number} */ width) => {
+        let value = 0;
+        for (; width > 0; width--, bit++) value = 2 * value + (((image[bit >> 3] ?? 0) >> (7 - (bit & 7))) & 1);
+        return value;
+    };
+    const width = 32 - Math.clz32(n - 1);
+    let here = word('first');
+    if (field(16) !== entries) return false;
+    for (let k = 0; k < entries; k++) {
+        const [offset, a, b] = [field(15), field(width) + 1, field(width) + 1];
+        const [old, young] = [sides.get(`${a} ${b}`), sides.get(`${b} ${a}`)];
+        if (!old || !same(here.slice(offset, offset + old.length), old)) return false;
+        here = [...here.slice(0, offset), ...young, ...here.slice(offset + old.length)];
+    }
+    return same(here, word('second')) && field(8 * image.length - bit) === 0;
+}
+
+/** @param {Record<string, string>} block */
+function held(block) {
+    const call = CALLS[block.call];
+    const keys = Object.keys(block);
+    const images = keys.slice(keys.indexOf('memory') + 1, keys.indexOf('memory') + 1 + call.images).map((key) => bytes(block[key]));
+    const numbers = (block.numbers ?? block.moves ?? '').split(' ').filter(Boolean).map(BigInt);
+    const workspace = Uint8Array.from({ length: Number(block.workspace ?? 0) }, (_, i) => 31 * i + 7);
+    const answer = Uint8Array.from({ length: Number(block.answer ?? 0) }, (_, i) => 17 * i + 91);
+    const left = braid.raw(block.call, { images, allowance: Number(block.allowance ?? 0), numbers, workspace, answer });
+    if (left.result !== Number(block.result) || left.values.join(' ') !== block.values) return false;
+    if (!left.images.every((image, k) => same(image, images[k]))) return false;
+    if (block.ends && !(block.ends === 'zero' ? left.workspace.every((byte) => byte === 0) : same(left.workspace, workspace))) return false;
+    if (block.lists) {
+        const [entries, length] = block.lists.split(' ').map(Number);
+        return leads(block, left.answer.slice(0, length), entries) && same(left.answer.slice(length), answer.slice(length));
+    }
+    const written = bytes(block.leaves ?? '-');
+    return same(left.answer.slice(0, written.length), written) && same(left.answer.slice(written.length), answer.slice(written.length));
+}
+
+const file = process.argv[2] ?? 'conformity/vectors.txt';
+const blocks = read(file).toString('ascii').split('\n\n').slice(1, -1);
+for (const text of blocks) {
+    const block = Object.fromEntries(text.split('\n').map((line) => [line.slice(0, line.indexOf(' ')), line.slice(line.indexOf(' ') + 1)]));
+    hold(`the vector ${block.case}`, held(block));
+}
+hold('vectors are there', blocks.length > 100);
+
+// EACH TYPED CALL
+
+const B = bytes('20 04 90 86 30 92 92 60');
+const [first, second, one, two] = ['00 30 40', '00 32 08', '00 10', '00 12'].map(bytes);
+/** @param {any} answer @param {any} expected */
+const equals = (answer, expected) => JSON.stringify(answer, (_, value) => (value instanceof Uint8Array ? [...value] : value)) === JSON.stringify(expected);
+/** @param {string} label @param {any} answer @param {any} expected */
+const gives = (label, answer, expected) => hold(`${label}: ${JSON.stringify(answer)}`, equals(answer, expected));
+/** @param {number} refused @param {string} kind @param {number[]} moves */
+const refused = (refused, kind, moves) => ({ answered: false, refused, place: { kind, moves }, text: TEXTS[refused] });
+
+gives('reverse', braid.reverse(B, bytes('00 5C 28 20')), { answered: true, numerator: [1, 1, 2, 3], denominator: [1, 3, 2], steps: 5 });
+gives('reverse, 11', braid.reverse(B, bytes('00 5C 28 20'), { allowance: 4 }), refused(11, 'none', []));
+gives('reverse, 13', braid.reverse(B, bytes('00 5C 28 20'), { answer: 6 }), refused(13, 'none', []));
+gives('leftReverse', braid.leftReverse(B, bytes('00 21 40')), { answered: true, numerator: [2, 1], denominator: [1, 2], steps: 1 });
+gives('enquire', braid.enquire(B, bytes('00 5C 28 20')), { answered: true, numerator: 4, denominator: 3, steps: 5 });
+gives('commit', braid.commit(B, bytes('00 5C 28 20'), { numerator: 3, denominator: 4, steps: 5 }), refused(18, 'none', []));
+gives('clear', braid.clear(B, { allowance: 4 }), refused(11, 'triple', [1, 2, 3]));
+gives('mirrorClear', braid.mirrorClear(B), { answered: true });
+gives('mirrorClear, 12', braid.mirrorClear(B, { workspace: 10 }), refused(12, 'mirror', [1, 2, 3]));
+gives('compare', braid.compare(B, first, second), { answered: true, same: true, steps: 5 });
+gives('compare with itself', braid.compare(B, first, first), { answered: true, same: true, steps: 3 });
+gives('compareSigned', braid.compareSigned(B, bytes('00 30 60'), bytes('00 3A 08')), { answered: true, same: true, steps: [4, 1] });
+gives('compareSigned, 12', braid.compareSigned(B, one, two, { workspace: 165 }), refused(12, 'set', []));
+gives('chain', braid.chain(B, one, two), { answered: true, same: false, steps: 1 });
+const chain = braid.chain(B, first, second);
+hold('chain, same', chain.answered && chain.same && chain.entries === 1 && chain.steps === 5);
+if (chain.answered && chain.same) gives('check', braid.check(B, first, second, chain.bytes), { answered: true, passage: 'joins' });
+gives('check, breaks', braid.check(B, second, first, bytes('00 01 00 00 20')), { answered: true, passage: 'breaks', entry: 0 });
+gives('remainder', braid.remainder(B, one, first), { answered: true, moves: [2, 1], steps: 1 });
+gives('remainder, none', braid.remainder(B, one, two), { answered: true, steps: 1 });
+gives('packTable', braid.packTable(Uint8Array.of(2, 1, 8, 255)), { answered: true, bytes: [0x11, 0xc0] });
+gives('unpackTable', braid.unpackTable(bytes('11 C0')), { answered: true, bytes: [2, 1, 8, 255] });
+gives('packProgram', braid.packProgram(B, Uint8Array.of(131, 1, 130, 1, 2)), { answered: true, bytes: [0x00, 0x5c, 0x28, 0x20] });
+gives('unpackProgram', braid.unpackProgram(B, bytes('00 36')), refused(5, 'none', []));
+gives('bed', braid.bed(bytes('00'), bytes('00 24'), 1n), { answered: true, bytes: [2, 1, 0, 1] });
+gives('ways', braid.ways(B, first), { answered: true, count: 2, words: [[1, 2, 1], [2, 1, 2]] });
+gives('ways of nothing', braid.ways(B, bytes('00 00')), { answered: true, count: 1, words: [[]] });
+gives('import', braid.import(B, new TextEncoder().encode('-(1 2)^2')), { answered: true, bytes: [130, 129, 130, 129] });
+const tray = trayOf([first, bytes('00 18'), one]);
+hold('a tray', tray !== undefined && trayOf(Array(65).fill(one)) === undefined);
+if (tray) {
+    const logs = [{ same: true, steps: 5 }, { refused: 7, text: TEXTS[7] }, { same: false, steps: 0 }];
+    gives('tray', braid.tray(B, tray, second), { answered: true, logs });
+}
+const header = read('include/braid.h').toString();
+const texts = header.slice(header.indexOf('texts[] = {'), header.indexOf('};', header.indexOf('texts[] = {'))).split('\n').slice(1, 26);
+hold('the sentences of the header', texts.every((line, k) => (TEXTS[k] === undefined ? line.includes('(const char *)0') : line.includes(`"${TEXTS[k]}"`))));
+
+console.log(`${passed} passed, ${failed} failed`);
+process.exitCode = failed > 0 ? 1 : 0;
