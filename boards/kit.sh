@@ -11,4 +11,4 @@ for tool in clang ld.lld llvm-ar; do
 done
 version=$("$tools/clang" --version | sed -n '1s/.*version \([0-9]*\).*/\1/p')
 [ "$version" = "$known" ] ||
-    fail "the kit's clang has version ${version:-unknown}, and this script knows $known: look whether rt still compiles one module, then say so in boards/kit.sh"
+    fail "the kit's clang has version ${version:-unknown}, and this script knows $known: look whether rt still makes one module, and enter it in boards/kit.sh"

@@ -1,6 +1,6 @@
 #!/bin/sh
-# The Rust packages: their layout and clippy's warnings, where cargo has these, the binding's own tests, those in its documentation too, and the tool's. The last
-# line is 'N passed, M failed'. Usage: tests/rust.sh, with cargo.
+# The Rust packages: their layout and clippy's warnings, where cargo has these, the binding's own tests, those in its documentation too, and the tool's. The
+# last line is 'N passed, M failed'. Usage: tests/rust.sh, with cargo.
 cd "$(dirname "$0")/.." || exit 1
 sh tests/library.sh || exit 1
 passed=0

@@ -1,7 +1,7 @@
 #!/bin/sh
-# The bench tool: each command on the samples with its exact output and status, every refusal that a file can reach, wrong calls, damaged, empty, huge and missing
-# files, a pipe that closes, a full disk, JSON read back by another program, the help texts' examples as they are written, and tables as text. The last line is
-# 'N passed, M failed'. Usage: tests/tool.sh [TOOL], with cargo, and node for the JSON.
+# The bench tool: each command on the samples with its exact output and status, every refusal that a file can reach, wrong calls, damaged, empty, huge and
+# missing files, a pipe that closes, a full disk, JSON read back by another program, the help texts' examples as they are written, and tables as text. The last
+# line is 'N passed, M failed'. Usage: tests/tool.sh [TOOL], with cargo, and node for the JSON.
 cd "$(dirname "$0")/.." || exit 1
 if [ $# -eq 0 ]; then
     sh tool/build.sh || exit 1
@@ -285,7 +285,8 @@ fi
 
 # TABLES AS TEXT
 for file in samples/tables/good/*.txt; do
-    "$tool" pack "$file" -o "$work/one" > /dev/null && "$tool" show "$work/one" > "$work/shown.txt" && "$tool" pack "$work/shown.txt" -o "$work/two" > /dev/null &&
+    "$tool" pack "$file" -o "$work/one" > /dev/null && "$tool" show "$work/one" > "$work/shown.txt" &&
+        "$tool" pack "$work/shown.txt" -o "$work/two" > /dev/null &&
         cmp -s "$work/one" "$work/two" && "$tool" table "$work/one" | grep -v '^#' | cmp -s - "$work/shown.txt"
     count "text to image to text of $file" $?
 done

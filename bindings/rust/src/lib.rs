@@ -1,7 +1,7 @@
 //! Braid words under a mill's table of relations: the calls of `libbraid.a`, whose source is proved, as Rust.
 //!
-//! Every answer is the library's own; what is told here is in `docs/SPECIFICATION.md`, by section. There are two layers. [`raw`] has each call as C has it, on the
-//! caller's slices. The functions of this page lend the areas themselves, and give answers and refusals as types.
+//! Every answer is the library's own; what is told here is in `docs/SPECIFICATION.md`, by section. There are two layers. [`raw`] has each call as C has it, on
+//! the caller's slices. The functions of this page lend the areas themselves, and give answers and refusals as types.
 //!
 //! Tables, programs and chains are images, the bytes of specification 5; [`pack_table`], [`pack_program`] and [`import`] make them.
 //!

@@ -1,6 +1,6 @@
 //! The calls as C has them, on the caller's slices: the result is 0 for an answer, else the number of a refusal, and the four values are those of
-//! specification 8.3. Borrows keep the areas apart from the images. The library also forbids that images of one call overlap; where two of them do, the later one
-//! is copied.
+//! specification 8.3. Borrows keep the areas apart from the images. The library also forbids that images of one call overlap; where two of them do, the later
+//! one is copied.
 use std::borrow::Cow;
 
 mod c {
