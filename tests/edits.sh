@@ -12,10 +12,11 @@ listed() {
     echo 'Each is one wrong version of a crate, which the check must refuse because a fact no longer holds. Made from the edits by `sh tests/edits.sh --write`.'
     echo
     echo 'The fourth column names an input at which the version is wrong. Tables B, S, O and so on, W, A, k and z are those of section 10 of'
-    echo '`SPECIFICATION.md`; what is not named is as in 2.4 there. An edit is of `src/` or `specs/`. What it changes in a proof beside that only fits the proof'
-    echo 'to the edited shape, so that the fact alone is refused, and its line `# fits the proof:` says what. An edit of `proofs/` alone changes what a public'
-    echo 'law there states, and its line `# wrong law:` names the law. Versions of different functions or definitions may be tried in one edit, which the last'
-    echo 'column names; then each has a line `# refused at:` with the file and the need where it is refused, and `tests/looks.sh` demands every such refusal.'
+    echo '`SPECIFICATION.md`; what is not named is as in 2.4 there. An edit is of `src/` or `specs/`. What it changes in a proof beside that only fits the'
+    echo 'proof to the edited shape, so that the fact alone is refused, and its line `# fits the proof:` says what. An edit of `proofs/` alone changes what a'
+    echo 'public law there states, and its line `# wrong law:` names the law. Versions of different functions or definitions may be tried in one edit, which'
+    echo 'the last column names; then each has a line `# refused at:` with the file and the need where it is refused, and `tests/looks.sh` demands every such'
+    echo 'refusal.'
     echo
     echo '| crate | version | wrong version | where it is wrong | tried in |'
     echo '|---|---|---|---|---|'

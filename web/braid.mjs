@@ -6,7 +6,8 @@
  *     const table = braid.packTable(Uint8Array.of(1, 1)).bytes;
  *
  * Every answer is the library's own; docs/SPECIFICATION.md says what it means, by section. Images and plain forms are Uint8Array. An answer is an object with
- * `answered: true` and what the call tells; a refusal is an object with `answered: false`, its number, its place and its sentence. `raw` makes a call as C has it.
+ * `answered: true` and what the call tells; a refusal is an object with `answered: false`, its number, its place and its sentence. `raw` makes a call as C has
+ * it.
  */
 
 /** The sentences of refusals, by number: braid_text of the header. */
