@@ -1,6 +1,6 @@
 #!/bin/sh
-# That the tests can fail: each edit of the second implementation under tests/second/must-fail must be met by a difference with the firmware on random calls, and
-# as a library of its own by the conformity kit's vectors alone. Not part of the gate: it builds the packages anew for each edit.
+# That the tests can fail: each edit of the second implementation under tests/second/must-fail must be met by a difference with the firmware on random calls,
+# and as a library of its own by the conformity kit's vectors alone. Not part of the gate: it builds the packages anew for each edit.
 # Usage: tests/wrong.sh [--vectors | --calls] [LABEL..]: only the one or the other, and only these edits. The last line is 'N passed, M failed'.
 cd "$(dirname "$0")/.." || exit 1
 sh tests/library.sh || exit 1
