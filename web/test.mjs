@@ -1,9 +1,13 @@
 /**
- * The JavaScript binding: the conformity vectors through its raw calls, and each typed call on cases of specification 10.
+ * The JavaScript binding: the conformity vectors through its raw calls, and each typed call on cases of specification 10; tables as text, on the files that the
+ * tool's tests read, too; drawings; cases as text, and CSV.
  * Usage: node web/test.mjs, after sh web/build.sh. The last line is 'N passed, M failed'.
  */
-import { readFileSync } from 'node:fs';
+import { readFileSync, readdirSync } from 'node:fs';
 import { CALLS, TEXTS, load, trayOf } from '../target/web/braid.mjs';
+import { caseAddress, caseText, csv, readAddress, readCase } from './cases.mjs';
+import { drawing, follow } from './drawing.mjs';
+import { braidTable, readTable, tableText } from './tables.mjs';
 
 const top = new URL('..', import.meta.url);
 const read = (/** @type {string} */ name) => readFileSync(new URL(name, top));
@@ -154,6 +158,59 @@ if (tray) {
 const header = read('include/braid.h').toString();
 const texts = header.slice(header.indexOf('texts[] = {'), header.indexOf('};', header.indexOf('texts[] = {'))).split('\n').slice(1, 26);
 hold('the sentences of the header', texts.every((line, k) => (TEXTS[k] === undefined ? line.includes('(const char *)0') : line.includes(`"${TEXTS[k]}"`))));
+
+// TABLES AS TEXT (docs/TABLES.md)
+
+const names = (/** @type {string} */ folder) => readdirSync(new URL(folder, top)).filter((name) => name.endsWith('.txt'));
+for (const name of names('samples/tables/good')) {
+    const { plain } = readTable(read(`samples/tables/good/${name}`));
+    const packed = plain && braid.packTable(plain);
+    const again = plain && readTable(new TextEncoder().encode(tableText(plain))).plain;
+    hold(`text to image to text of ${name}`, !!packed?.answered && !!again && same(plain, again));
+}
+for (const name of names('samples/tables/bad')) {
+    const { faults } = readTable(read(`samples/tables/bad/${name}`));
+    const told = (faults ?? []).map((fault) => `${fault.line}:${fault.column}: ${fault.what}\n`).join('');
+    hold(`what is told of ${name}: ${told}`, told === read(`samples/tables/bad/${name.replace('.txt', '.errors')}`).toString('latin1'));
+}
+for (let n = 1; n <= 16; n++) {
+    const packed = braid.packTable(braidTable(n));
+    hold(`the braid table of ${n} moves`, packed.answered && braid.bed(packed.bytes, bytes('00 00')).answered);
+    if (packed.answered) {
+        const unpacked = braid.unpackTable(packed.bytes);
+        hold('its text', unpacked.answered && tableText(unpacked.bytes) === tableText(braidTable(n)));
+    }
+}
+
+// DRAWINGS: the bobbins at the end are those of the library's bed
+
+for (const word of [[], [1], [-3, 1, -2, 1, 2], Array.from({ length: 400 }, (_, k) => ((k * 7) % 3) + 1)]) {
+    const packed = braid.packProgram(B, Uint8Array.from(word, (move) => (move < 0 ? 128 - move : move)));
+    const bed = packed.answered ? braid.bed(B, packed.bytes) : packed;
+    const { places } = follow(word, 4);
+    hold(`the bobbins after ${word.length} moves`, bed.answered && same([...bed.bytes.slice(0, 4)], places.map((bobbin) => bobbin + 1)));
+    const svg = drawing(word, 4, { title: 'a < b & c' });
+    const curves = svg.match(/C/g)?.length ?? 0;
+    // Each crossing has a curve under and one over, which is drawn twice.
+    hold(`the drawing of ${word.length} moves: ${curves} curves`, curves === 3 * word.length && svg.includes('a &lt; b &amp; c') && !svg.includes('NaN'));
+}
+
+// CASES AS TEXT, AND CSV
+
+const given = { table: B, first, second: new Uint8Array(), allowance: 65535, workspace: 0 };
+for (const back of [readCase(caseText(given)), readAddress('#' + caseAddress(given)), readCase(caseText(given).replace(/\n/g, '\r\n\n'))]) {
+    hold('a case that is copied and pasted back', !!back.case && caseText(back.case) === caseText(given) && same(back.case.table, B));
+}
+for (const [text, what] of [
+    ['', 'missing: table, first, second, allowance, workspace'],
+    [caseText(given) + 'table 00\n', 'line 6: table stands twice'],
+    [caseText(given).replace('65535', '65536'), 'line 4: allowance is a number from 0 to 65535'],
+    [caseText(given).replace('first 003040', 'first 00304'), 'line 2: bytes are two hexadecimal digits each'],
+    ['<script>', "line 1: '<script>' is no part of a case: the parts are table, first, second, allowance, workspace"],
+]) {
+    hold(`a case with a fault: ${readCase(text).fault}`, readCase(text).fault === what);
+}
+hold('CSV', csv([['log', 'steps'], ['a "b", c\n', 5]]) === 'log,steps\r\n"a ""b"", c\n",5\r\n');
 
 console.log(`${passed} passed, ${failed} failed`);
 process.exitCode = failed > 0 ? 1 : 0;
