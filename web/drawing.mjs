@@ -46,23 +46,40 @@ function curve({ row, from, to }) {
     return `M${x(from)} ${y(row)}C${x(from)} ${middle} ${x(to)} ${middle} ${x(to)} ${y(row + 1)}`;
 }
 
+/** So many rows are drawn together: a browser then paints only what is seen of a long program. */
+const TOGETHER = 100;
+
 /**
- * The path of a bobbin where it is not over another: straight pieces, and the crossings under others.
- * @param {Crossing[]} crossings @param {number} start @param {number} rows
+ * The path of a bobbin from one row to another where it is not over another: straight pieces, and the crossings under others.
+ * @param {Crossing[]} crossings those between the rows @param {number} place where it stands @param {number} from @param {number} to
  */
-function under(crossings, start, rows) {
+function under(crossings, place, from, to) {
     let path = '';
-    let at = { row: 0, place: start };
+    let at = { row: from, place };
     for (const crossing of crossings) {
         if (crossing.row > at.row) path += `M${x(at.place)} ${y(at.row)}V${y(crossing.row)}`;
         if (!crossing.over) path += curve(crossing);
         at = { row: crossing.row + 1, place: crossing.to };
     }
-    return rows > at.row ? `${path}M${x(at.place)} ${y(at.row)}V${y(rows)}` : path;
+    return to > at.row ? `${path}M${x(at.place)} ${y(at.row)}V${y(to)}` : path;
 }
 
 /**
- * The drawing of a program. Strands over others stand on a broader line of the background's colour.
+ * The strands between two rows; those over others stand on a broader line of the background's colour.
+ * @param {Crossing[][]} crossings @param {number[]} places @param {number} from @param {number} to @param {string} background
+ */
+function strands(crossings, places, from, to, background) {
+    const lines = crossings.map((own, bobbin) => `<path d="${under(own, places[bobbin], from, to)}" stroke="${colour(bobbin)}"/>`);
+    const overs = crossings.flatMap((own, bobbin) => {
+        const path = own.filter((crossing) => crossing.over).map(curve).join('');
+        const casing = `<path d="${path}" stroke="${background}" stroke-width="11" stroke-linecap="butt"/>`;
+        return path ? [`${casing}<path d="${path}" stroke="${colour(bobbin)}"/>`] : [];
+    });
+    return `<g>${lines.join('')}${overs.join('')}</g>`;
+}
+
+/**
+ * The drawing of a program.
  * @param {number[]} moves
  * @param {number} bobbins
  * @param {{background?: string, text?: string, title?: string}} [looks]
@@ -72,17 +89,27 @@ export function drawing(moves, bobbins, { background = 'white', text = 'black', 
     const [width, height] = [2 * MARGIN + (bobbins - 1) * GAP, 2 * MARGIN + moves.length * ROW];
     const label = (/** @type {number} */ bobbin, /** @type {number} */ place, /** @type {number} */ at) =>
         `<text x="${x(place)}" y="${at}" fill="${text}" text-anchor="middle" font-size="12">${bobbin + 1}</text>`;
-    const lines = crossings.map((own, bobbin) => `<path d="${under(own, bobbin, moves.length)}" stroke="${colour(bobbin)}"/>`);
-    const overs = crossings.flatMap((own, bobbin) => {
-        const path = own.filter((crossing) => crossing.over).map(curve).join('');
-        return path ? [`<path d="${path}" stroke="${background}" stroke-width="11"/><path d="${path}" stroke="${colour(bobbin)}"/>`] : [];
-    });
+    // Where each bobbin stands, and how many of its crossings are drawn.
+    const here = crossings.map((_, bobbin) => ({ place: bobbin, drawn: 0 }));
+    const parts = [];
+    for (let from = 0; from < Math.max(moves.length, 1); from += TOGETHER) {
+        const to = Math.min(from + TOGETHER, moves.length);
+        const stood = here.map(({ place }) => place);
+        const between = crossings.map((own, bobbin) => {
+            const first = here[bobbin].drawn;
+            let last = first;
+            while (last < own.length && own[last].row < to) last++;
+            here[bobbin] = { place: last > first ? own[last - 1].to : here[bobbin].place, drawn: last };
+            return own.slice(first, last);
+        });
+        parts.push(strands(between, stood, from, to, background));
+    }
     const first = places.map((_, k) => label(k, k, MARGIN - 8));
     const last = places.map((bobbin, place) => label(bobbin, place, height - 8));
     const named = title ? `<title>${escaped(title)}</title>` : '';
     return (
         `<svg xmlns="http://www.w3.org/2000/svg" width="${width}" height="${height}" viewBox="0 0 ${width} ${height}" role="img">${named}` +
-        `<rect width="100%" height="100%" fill="${background}"/><g fill="none" stroke-width="5" stroke-linecap="round">${lines.join('')}${overs.join('')}</g>` +
+        `<rect width="100%" height="100%" fill="${background}"/><g fill="none" stroke-width="5" stroke-linecap="round">${parts.join('')}</g>` +
         `<g font-family="sans-serif">${first.join('')}${last.join('')}</g></svg>`
     );
 }

@@ -1,6 +1,6 @@
 /**
- * Tables as text (docs/TABLES.md): read into the plain form of specification 5.7, which the library packs, and written from it. The tool reads the same grammar,
- * and the files of samples/tables hold both to it.
+ * Tables as text (docs/TABLES.md): read into the plain form of specification 5.7, which the library packs, and written from it. The tool reads the same
+ * grammar, and the files of samples/tables hold both to it.
  */
 
 /** @typedef {{line: number, column: number, what: string}} Fault */

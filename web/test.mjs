@@ -7,9 +7,12 @@ import { readFileSync, readdirSync } from 'node:fs';
 import { CALLS, TEXTS, load, trayOf } from '../target/web/braid.mjs';
 import { caseAddress, caseText, csv, readAddress, readCase } from './cases.mjs';
 import { drawing, follow } from './drawing.mjs';
-import { braidTable, readTable, tableText } from './tables.mjs';
+import { entriesOf, steps, swapped, undoing } from './reversing.mjs';
+import { sha256 } from './sha256.mjs';
+import { braidTable, readTable, tableParts, tableText } from './tables.mjs';
 
 const top = new URL('..', import.meta.url);
+const encode = (/** @type {string} */ text) => new TextEncoder().encode(text);
 const read = (/** @type {string} */ name) => readFileSync(new URL(name, top));
 const braid = await load(read('target/web/braid.wasm'));
 let passed = 0;
@@ -194,6 +197,27 @@ for (const word of [[], [1], [-3, 1, -2, 1, 2], Array.from({ length: 400 }, (_, 
     // Each crossing has a curve under and one over, which is drawn twice.
     hold(`the drawing of ${word.length} moves: ${curves} curves`, curves === 3 * word.length && svg.includes('a &lt; b &amp; c') && !svg.includes('NaN'));
 }
+
+// REVERSINGS WORD BY WORD: the last word and the steps are the library's
+
+const parts = tableParts(braidTable(3));
+/** @type {[number[], boolean][]} */
+const reversed = [[[-3, 1, -2, 1, 2], false], [[2, 1, -2, 1, -3], true], [[1, -2, 3, -1, 2], false], [[], true]];
+for (const [word, left] of reversed) {
+    const packed = braid.packProgram(B, Uint8Array.from(word, (move) => (move < 0 ? 128 - move : move)));
+    const told = packed.answered ? braid[left ? 'leftReverse' : 'reverse'](B, packed.bytes) : packed;
+    const words = steps(parts, word, left, 1000);
+    const last = words[words.length - 1].word;
+    const [n, d] = told.answered ? [[...told.numerator], undoing([...told.denominator])] : [[], []];
+    const agrees = told.answered && words.length === told.steps + 1 && same(last, left ? [...d, ...n] : [...n, ...d]);
+    hold(`the words of ${word} from the ${left ? 'end' : 'start'}`, agrees);
+}
+hold('an open pair ends them', steps(tableParts(Uint8Array.of(2, 1, 1, 255)), [-1, 2], false, 9).length === 1);
+const entry = entriesOf(bytes('00 01 00 00 20'), 3);
+hold('an entry', entry.join() === '0,1,2' && swapped(parts, [1, 2, 1, 3], entry[0])?.word.join() === '2,1,2,3');
+hold('SHA-256', sha256(encode('abc')) === 'ba7816bf8f01cfea414140de5dae2223b00361a396177a9cb410ff61f20015ad');
+hold('SHA-256 of 63 bytes', sha256(encode('a'.repeat(63))) === '7d3e74a05d7db15bce4ad9ec0658ea98e3f06eeecf16b4c6fff2da457ddc2f34');
+hold('SHA-256 of nothing', sha256(new Uint8Array()) === 'e3b0c44298fc1c149afbf4c8996fb92427ae41e4649b934ca495991b7852b855');
 
 // CASES AS TEXT, AND CSV
 
