@@ -97,6 +97,8 @@ const builtins = [
 
 async function readTableText() {
     const current = turn('table');
+    const known = builtins.findIndex(({ text }) => text === $('table-text').value);
+    $('builtin').value = known < 0 ? '' : String(known);
     const { plain, faults } = readTable(encoded($('table-text').value));
     $('table-faults').innerHTML = (faults ?? []).map((fault) => `<li>line ${fault.line}, column ${fault.column}: ${escaped(fault.what)}</li>`).join('');
     table = undefined;
@@ -220,7 +222,7 @@ async function compare() {
     const current = turn('compare');
     const both = await bothPrograms();
     if (!both || !table || !current()) {
-        if (current()) $('verdict').innerHTML = '';
+        if (current()) $('verdict').innerHTML = $('printed').innerHTML = '';
         return;
     }
     const [first, second] = /** @type {{image: Uint8Array, word: number[]}[]} */ (both);
@@ -237,6 +239,9 @@ async function compare() {
         ? `The programs have back moves, so that compare_signed decided: ${told.steps[0]} and ${told.steps[1]} steps.`
         : `${counted(told.steps, 'step')}.`;
     const meaning = told.same ? 'A chain of swaps leads from the log to the pattern.' : 'No chain of swaps leads from the log to the pattern.';
+    const line = (/** @type {string} */ name, /** @type {number[]} */ word) =>
+        `<p><b>${name}</b>, ${counted(word.length, 'move')}: <span class="word">${shown(word)}</span></p>`;
+    $('printed').innerHTML = line('Log', first.word) + line('Pattern', second.word);
     const [kind, verdict] = told.same ? ['good', 'Same'] : ['bad', 'Different'];
     $('verdict').innerHTML = `<p class="verdict ${kind}">${verdict}</p><p>${meaning} ${by}</p><div id="detail"></div>`;
     if (told.same && !signed) await showChain(first, second, current);
@@ -487,8 +492,9 @@ const takers = {
 };
 
 function wire() {
-    $('builtin').innerHTML = builtins.map(({ name }, k) => `<option value="${k}"${k === 2 ? ' selected' : ''}>${name}</option>`).join('');
+    $('builtin').innerHTML = '<option value="">a table of your own</option>' + builtins.map(({ name }, k) => `<option value="${k}">${name}</option>`).join('');
     $('builtin').onchange = () => {
+        if ($('builtin').value === '') return;
         $('table-text').value = builtins[$('builtin').value].text;
         readTableText();
     };
@@ -544,11 +550,21 @@ function wire() {
         const both = await bothPrograms();
         if (!table || !both) return;
         const text = caseText({ table: table.image, first: both[0].image, second: both[1].image, ...limits() });
-        await navigator.clipboard.writeText(text).catch(() => window.prompt('Copy the case:', text.replace(/\n/g, '  ')));
+        try {
+            await navigator.clipboard.writeText(text);
+        } catch {
+            window.prompt('Copy the case:', text.replace(/\n/g, '  '));
+        }
     };
     $('paste-case').onclick = async () => {
-        const text = await navigator.clipboard.readText().catch(() => window.prompt('Paste a case:') ?? '');
-        takeCase(readCase(text.replace(/ {2,}/g, '\n')));
+        let text;
+        try {
+            text = await navigator.clipboard.readText();
+        } catch {
+            text = window.prompt('Paste a case:') ?? '';
+        }
+        // A field of one line has two spaces where a line ends.
+        await takeCase(readCase(text.replace(/ {2,}/g, '\n')));
     };
 }
 
