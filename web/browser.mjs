@@ -256,6 +256,19 @@ async function run() {
             hold(`${name} fits ${width}`, await value('document.documentElement.scrollWidth <= window.innerWidth'));
         }
     }
+    // A CASE IN THE ADDRESS: the verdict stands soon after opening
+    await looks(1200, 'light');
+    await send('Page.navigate', { url: 'about:blank' });
+    const asked = Date.now();
+    await send('Page.navigate', { url: `${page}#table=2004908630929260&first=003040&second=003208&allowance=65535&workspace=32768` });
+    hold('the verdict of a case in the address', await until("document.querySelector('.verdict')?.innerText === 'Same'"));
+    const taken = Date.now() - asked;
+    console.log(`a case in the address: the verdict ${taken} ms after opening`);
+    if (process.env.CI !== 'true') hold('within half a second', taken < 500);
+    await send('Page.navigate', { url: 'about:blank' });
+    await send('Page.navigate', { url: `${page}#table=00&first=zz` });
+    hold('rubbish in the address', await until("document.querySelector('#case-fault')?.innerText.includes('line 2: bytes are two hexadecimal digits each')"));
+
     hold(`no trouble: ${troubles.join('; ')}`, troubles.length === 0);
     hold(`nothing fetched: ${fetched.join(' ')}`, fetched.length === 0);
 }
