@@ -112,30 +112,31 @@ async function readTableText() {
     await Promise.all([showChecks(), refresh()]);
 }
 
-/** u\v by a call of reverse, or undefined. @param {number[]} u @param {number[]} v */
-async function complement(u, v) {
-    if (!table) return undefined;
-    const packed = await library.call('packProgram', table.image, plainOf([...undoing(u), ...v]));
-    const reversed = packed.answered && (await library.call('reverse', table.image, packed.bytes, limits()));
+/** u\v by a call of reverse, or undefined. @param {Table} own @param {number[]} u @param {number[]} v */
+async function complement(own, u, v) {
+    const packed = await library.call('packProgram', own.image, plainOf([...undoing(u), ...v]));
+    const reversed = packed.answered && (await library.call('reverse', own.image, packed.bytes, limits()));
     return reversed && reversed.answered ? moves(reversed.numerator) : undefined;
 }
 
-async function cubeSide(/** @type {number} */ a, /** @type {number} */ b, /** @type {number} */ c) {
-    const [one, two] = [await complement([a], [b]), await complement([a], [c])];
-    const side = one && two && (await complement(one, two));
+/** (a\b)\(a\c), as text. @param {Table} own @param {number} a @param {number} b @param {number} c */
+async function cubeSide(own, a, b, c) {
+    const [one, two] = [await complement(own, [a], [b]), await complement(own, [a], [c])];
+    const side = one && two && (await complement(own, one, two));
     return side ? shown(side) : 'undefined';
 }
 
 async function showChecks() {
+    const own = table;
     const current = turn('checks');
-    if (!table) {
+    if (!own) {
         $('checks').innerHTML = '<dd>The table is not read yet: its errors stand at their lines.</dd>';
         return;
     }
     const empty = Uint8Array.of(0, 0);
-    const cleared = await library.call('clear', table.image, limits());
-    const mirrored = await library.call('mirrorClear', table.image, limits());
-    const set = await library.call('compareSigned', table.image, empty, empty, limits());
+    const cleared = await library.call('clear', own.image, limits());
+    const mirrored = await library.call('mirrorClear', own.image, limits());
+    const set = await library.call('compareSigned', own.image, empty, empty, limits());
     /** @type {[string, boolean, string][]} */
     const rows = [['Weight check', cleared.refused !== 8, cleared.refused === 8 ? refusedText(cleared) : 'passes']];
     if (cleared.refused === 8) rows.push(['Cube check', false, 'not made where the weights fail']);
@@ -143,7 +144,7 @@ async function showChecks() {
         let told = cleared.answered ? 'passes' : refusedText(cleared);
         if (cleared.refused === 9) {
             const [a, b, c] = cleared.place.moves;
-            told += `. (${a}\\${b})\\(${a}\\${c}) is ${await cubeSide(a, b, c)}, (${b}\\${a})\\(${b}\\${c}) is ${await cubeSide(b, a, c)}`;
+            told += `. (${a}\\${b})\\(${a}\\${c}) is ${await cubeSide(own, a, b, c)}, (${b}\\${a})\\(${b}\\${c}) is ${await cubeSide(own, b, a, c)}`;
         }
         rows.push(['Cube check', cleared.answered, told]);
     }
@@ -172,23 +173,24 @@ async function takeTable(file) {
 
 // PROGRAMS
 
-/** The image and the moves of a text in the mills' notation, or its refusal. @param {string} text */
-async function programOf(text) {
-    if (!table) return { fault: 'There is no table: mend it in the view Table.' };
-    const imported = await library.call('import', table.image, encoded(text));
+/** The image and the moves of a text in the mills' notation under a table, or its refusal. @param {string} text @param {typeof table} own */
+async function programOf(text, own) {
+    if (!own) return { fault: 'There is no table: mend it in the view Table.' };
+    const imported = await library.call('import', own.image, encoded(text));
     if (!imported.answered) return { fault: refusedText(imported) };
-    const packed = await library.call('packProgram', table.image, imported.bytes);
+    const packed = await library.call('packProgram', own.image, imported.bytes);
     return packed.answered ? { image: packed.bytes, word: moves(imported.bytes) } : { fault: refusedText(packed) };
 }
 
 /** Takes a program file into a field: text by its name, else an image. @param {File} file @param {string} field */
 async function takeProgram(file, field) {
+    const own = table;
     const bytes = new Uint8Array(await file.arrayBuffer());
     if (file.name.endsWith('.txt')) {
         $(field).value = new TextDecoder().decode(bytes).replace(/\r?\n$/, '');
         return refresh();
     }
-    const unpacked = table ? await library.call('unpackProgram', table.image, bytes) : undefined;
+    const unpacked = own ? await library.call('unpackProgram', own.image, bytes) : undefined;
     if (!unpacked || !unpacked.answered) {
         $(`${field}-fault`).textContent = unpacked ? `${file.name}: ${refusedText(unpacked)}. The program before it stays.` : 'There is no table.';
         return undefined;
@@ -197,11 +199,11 @@ async function takeProgram(file, field) {
     return refresh();
 }
 
-/** Both programs of Compare; faults stand at their fields. */
-async function bothPrograms() {
+/** Both programs of Compare under a table; faults stand at their fields. @param {typeof table} own */
+async function bothPrograms(own) {
     const read = [];
     for (const field of ['first', 'second']) {
-        const program = await programOf($(field).value);
+        const program = await programOf($(field).value, own);
         $(`${field}-fault`).textContent = program.fault ?? '';
         read.push(program);
     }
@@ -219,17 +221,18 @@ function marked(word, at, length) {
 }
 
 async function compare() {
+    const own = table;
     const current = turn('compare');
-    const both = await bothPrograms();
-    if (!both || !table || !current()) {
+    const both = await bothPrograms(own);
+    if (!both || !own || !current()) {
         if (current()) $('verdict').innerHTML = $('printed').innerHTML = '';
         return;
     }
     const [first, second] = /** @type {{image: Uint8Array, word: number[]}[]} */ (both);
-    const given = { table: table.image, first: first.image, second: second.image, ...limits() };
+    const given = { table: own.image, first: first.image, second: second.image, ...limits() };
     history.replaceState(null, '', `#${caseAddress(given)}`);
     const signed = [...first.word, ...second.word].some((move) => move < 0);
-    const told = await library.call(signed ? 'compareSigned' : 'compare', table.image, first.image, second.image, limits());
+    const told = await library.call(signed ? 'compareSigned' : 'compare', own.image, first.image, second.image, limits());
     if (!current()) return;
     if (!told.answered) {
         $('verdict').innerHTML = `<p class="verdict bad">No verdict</p><p>${escaped(refusedText(told))}</p>`;
@@ -244,16 +247,17 @@ async function compare() {
     $('printed').innerHTML = line('Log', first.word) + line('Pattern', second.word);
     const [kind, verdict] = told.same ? ['good', 'Same'] : ['bad', 'Different'];
     $('verdict').innerHTML = `<p class="verdict ${kind}">${verdict}</p><p>${meaning} ${by}</p><div id="detail"></div>`;
-    if (told.same && !signed) await showChain(first, second, current);
-    if (!told.same) await showDifference(first, second, signed, current);
+    if (told.same && !signed) await showChain(own, first, second, current);
+    if (!told.same) await showDifference(own, first, second, signed, current);
 }
 
-/** @param {{image: Uint8Array, word: number[]}} first @param {{image: Uint8Array, word: number[]}} second @param {() => boolean} current */
-async function showChain(first, second, current) {
-    if (!table) return;
-    const chained = await library.call('chain', table.image, first.image, second.image, limits());
+/** @typedef {{image: Uint8Array, word: number[]}} Program */
+/** @typedef {{image: Uint8Array, plain: Uint8Array}} Table */
+/** @param {Table} own @param {Program} first @param {Program} second @param {() => boolean} current */
+async function showChain(own, first, second, current) {
+    const chained = await library.call('chain', own.image, first.image, second.image, limits());
     if (!current() || !chained.answered || !chained.same) return;
-    const parts = tableParts(table.plain);
+    const parts = tableParts(own.plain);
     const entries = entriesOf(chained.bytes, parts.moves);
     const words = [];
     let word = first.word;
@@ -284,20 +288,18 @@ async function showChain(first, second, current) {
     go(0);
 }
 
-/** @typedef {{image: Uint8Array, word: number[]}} Program */
-/** @param {Program} first @param {Program} second @param {boolean} signed @param {() => boolean} current */
-async function showDifference(first, second, signed, current) {
-    if (!table) return;
+/** @param {Table} own @param {Program} first @param {Program} second @param {boolean} signed @param {() => boolean} current */
+async function showDifference(own, first, second, signed, current) {
     let text = '';
     if (!signed && first.word.length + second.word.length <= 4095) {
-        const packed = await library.call('packProgram', table.image, plainOf([...undoing(first.word), ...second.word]));
-        const reversed = packed.answered && (await library.call('reverse', table.image, packed.bytes, limits()));
+        const packed = await library.call('packProgram', own.image, plainOf([...undoing(first.word), ...second.word]));
+        const reversed = packed.answered && (await library.call('reverse', own.image, packed.bytes, limits()));
         if (reversed && reversed.answered) {
             const [n, d] = [reversed.numerator, reversed.denominator].map((word) => shown(moves(word)));
             text += `<p>What is left of the pattern is N = <span class="word">${n}</span>, and of the log D = <span class="word">${d}</span>.</p>`;
         }
     }
-    const [one, two] = [await library.call('bed', table.image, first.image), await library.call('bed', table.image, second.image)];
+    const [one, two] = [await library.call('bed', own.image, first.image), await library.call('bed', own.image, second.image)];
     if (one.answered && two.answered) {
         const equal = one.bytes.join() === two.bytes.join();
         text += equal ? '<p>Both leave equal beds, though the programs are not the same.</p>' : '<p>They leave different beds.</p>';
@@ -311,9 +313,10 @@ async function showDifference(first, second, signed, current) {
 let rows = [];
 
 async function tray(/** @type {File[]} */ files) {
+    const own = table;
     const current = turn('tray');
-    const pattern = await programOf($('second').value);
-    if (!table || pattern.fault) {
+    const pattern = await programOf($('second').value, own);
+    if (!own || pattern.fault) {
         $('tray-fault').textContent = `The pattern: ${pattern.fault}`;
         return;
     }
@@ -323,11 +326,11 @@ async function tray(/** @type {File[]} */ files) {
         const images = [];
         for (const file of names) {
             const bytes = new Uint8Array(await file.arrayBuffer());
-            const notation = file.name.endsWith('.txt');
-            images.push(notation ? await programOf(new TextDecoder().decode(bytes).replace(/\r?\n$/, '')) : { image: bytes.slice(0, 65535), fault: undefined });
+            const notation = file.name.endsWith('.txt') && new TextDecoder().decode(bytes).replace(/\r?\n$/, '');
+            images.push(notation === false ? { image: bytes.slice(0, 65535), fault: undefined } : await programOf(notation, own));
         }
         const laid = trayOf(images.map((program) => program.image ?? new Uint8Array()));
-        const told = laid && (await library.call('tray', table.image, laid, pattern.image, limits()));
+        const told = laid && (await library.call('tray', own.image, laid, pattern.image, limits()));
         if (!current()) return;
         if (!told?.answered) {
             $('tray-fault').textContent = told ? refusedText(told) : 'A log is too long.';
@@ -360,10 +363,11 @@ function showRows() {
 // BED
 
 async function bed() {
+    const own = table;
     const current = turn('bed');
-    const both = await bothPrograms();
-    if (!table || !current()) return;
-    const parts = tableParts(table.plain);
+    const both = await bothPrograms(own);
+    if (!own || !current()) return;
+    const parts = tableParts(own.plain);
     const bobbins = parts.moves + 1;
     if (!both) {
         $('bed-fault').textContent = 'A program of the view Compare has a fault.';
@@ -375,7 +379,7 @@ async function bed() {
     const at = Math.min(Number($('bed-at').value), longest);
     $('bed-count').textContent = `${at} of ${longest}`;
     const beds = [];
-    for (const program of programs) beds.push(await library.call('bed', table.image, program.image, BigInt(at)));
+    for (const program of programs) beds.push(await library.call('bed', own.image, program.image, BigInt(at)));
     if (!current()) return;
     const refused = beds.find((told) => !told.answered);
     $('bed-fault').textContent = refused ? `${refusedText(refused)}: beds are of braid tables.` : '';
@@ -423,15 +427,16 @@ async function bed() {
 // REVERSE
 
 async function reverse() {
+    const own = table;
     const current = turn('reverse');
-    const program = await programOf($('program').value);
+    const program = await programOf($('program').value, own);
     $('program-fault').textContent = program.fault ?? '';
-    if (!table || program.fault || !program.word) {
+    if (!own || program.fault || !program.word) {
         $('reversing').innerHTML = '';
         return;
     }
     const left = $('left').checked;
-    const told = await library.call(left ? 'leftReverse' : 'reverse', table.image, program.image, limits());
+    const told = await library.call(left ? 'leftReverse' : 'reverse', own.image, program.image, limits());
     if (!current()) return;
     if (!told.answered) {
         $('reversing').innerHTML = `<p class="bad">${escaped(refusedText(told))}</p>`;
@@ -441,7 +446,7 @@ async function reverse() {
     const field = (/** @type {string} */ name, /** @type {string | number} */ said) => `<dt>${name}</dt><dd class="word">${said}</dd>`;
     let text = `<dl>${field('Numerator', shown(n))}${field('Denominator', shown(d))}${field('Steps', told.steps)}</dl>`;
     if (told.steps <= 1000) {
-        const words = steps(tableParts(table.plain), program.word, left, 1000);
+        const words = steps(tableParts(own.plain), program.word, left, 1000);
         const last = words[words.length - 1].word;
         const expected = left ? [...undoing(d), ...n] : [...n, ...undoing(d)];
         if (words.length === told.steps + 1 && last.join() === expected.join()) {
@@ -450,14 +455,14 @@ async function reverse() {
         }
     }
     if (program.word.every((move) => move > 0)) {
-        const ways = await library.call('ways', table.image, program.image);
+        const ways = await library.call('ways', own.image, program.image);
         const line = (/** @type {Uint8Array} */ word) => `<li class="word">${shown(moves(word))}</li>`;
         text += ways.answered
             ? `<h3>Ways to lay it: ${ways.count}</h3><ol class="words">${ways.words.slice(0, 500).map(line).join('')}</ol>`
             : `<h3>Ways to lay it</h3><p class="bad">${escaped(refusedText(ways))}</p>`;
-        const pattern = await programOf($('second').value);
+        const pattern = await programOf($('second').value, own);
         if (pattern.word?.every((move) => move > 0) && pattern.word.length > 0) {
-            const rest = await library.call('remainder', table.image, program.image, pattern.image, limits());
+            const rest = await library.call('remainder', own.image, program.image, pattern.image, limits());
             const said = rest.answered ? (rest.moves ? shown(moves(rest.moves)) : 'none: no moves finish the pattern') : refusedText(rest);
             text += `<h3>Left to run of the pattern of Compare, after this program</h3><p class="word">${escaped(said)}</p>`;
         }
@@ -547,9 +552,10 @@ function wire() {
         };
     }
     $('copy-case').onclick = async () => {
-        const both = await bothPrograms();
-        if (!table || !both) return;
-        const text = caseText({ table: table.image, first: both[0].image, second: both[1].image, ...limits() });
+        const own = table;
+        const both = await bothPrograms(own);
+        if (!own || !both) return;
+        const text = caseText({ table: own.image, first: both[0].image, second: both[1].image, ...limits() });
         try {
             await navigator.clipboard.writeText(text);
         } catch {
