@@ -4,7 +4,7 @@
  * Usage: node web/browser.mjs CHROMIUM, after sh web/build.sh. Pictures go to target/web/shots. The last line is 'N passed, M failed'.
  */
 import { spawn } from 'node:child_process';
-import { mkdirSync, mkdtempSync, rmSync, statSync, writeFileSync } from 'node:fs';
+import { existsSync, mkdirSync, mkdtempSync, readFileSync, rmSync, statSync, writeFileSync } from 'node:fs';
 import { tmpdir } from 'node:os';
 import { join } from 'node:path';
 
@@ -13,6 +13,8 @@ const page = new URL('target/web/braid.html', top).href;
 const shots = new URL('target/web/shots/', top);
 mkdirSync(shots, { recursive: true });
 const profile = mkdtempSync(join(tmpdir(), 'braid-'));
+const downloads = join(profile, 'saved');
+mkdirSync(downloads);
 const flags = ['--headless=new', '--no-sandbox', '--disable-gpu', '--no-first-run', '--remote-debugging-pipe', `--user-data-dir=${profile}`];
 const browser = spawn(process.argv[2] ?? 'chromium', flags, { stdio: ['ignore', 'ignore', 'ignore', 'pipe', 'pipe'] });
 let passed = 0;
@@ -105,9 +107,18 @@ async function looks(width, scheme) {
     await send('Emulation.setEmulatedMedia', { features: [{ name: 'prefers-color-scheme', value: scheme }] });
 }
 const file = (/** @type {string} */ name) => new URL(name, top).pathname;
+/** Whether a file that the page saved is as it must be. @param {string} name @param {(bytes: Buffer) => boolean} right */
+async function saved(name, right) {
+    for (let k = 0; k < 200; k++) {
+        if (existsSync(join(downloads, name))) return right(readFileSync(join(downloads, name)));
+        await new Promise((resolve) => setTimeout(resolve, 50));
+    }
+    return false;
+}
 
 async function run() {
     await send('Browser.grantPermissions', { permissions: ['clipboardReadWrite', 'clipboardSanitizedWrite'] });
+    await send('Browser.setDownloadBehavior', { behavior: 'allow', downloadPath: downloads });
     const { targetId } = await send('Target.createTarget', { url: 'about:blank' });
     session = (await send('Target.attachToTarget', { targetId, flatten: true })).sessionId;
     for (const domain of ['Page', 'Runtime', 'Log', 'Network', 'DOM']) await send(`${domain}.enable`);
@@ -128,6 +139,10 @@ async function run() {
     hold('bytes that are no table', await until("document.querySelector('#table-faults').innerText.includes('rubbish: refused')"));
     await hand('#table-file', [file('samples/braid3.table')]);
     hold('a table image', await until("document.querySelectorAll('#checks dd.good').length === 4"));
+    await click('#save-image');
+    hold('the table as an image', await saved('table.table', (bytes) => bytes.equals(readFileSync(file('samples/braid3.table')))));
+    await click('#save-text');
+    hold('the table as text', await saved('table.txt', (bytes) => bytes.toString() === 'moves 3\nweights 1 1 1\n1 2 1 = 2 1 2\n1 3 = 3 1\n2 3 2 = 3 2 3\n'));
     await hand('#table-file', [file('samples/braid3.txt')]);
     hold('a table text', await until("document.querySelector('#table-text').value.includes('four strands')"));
 
@@ -172,12 +187,17 @@ async function run() {
     await click('[data-sort="1"]');
     hold('sorted by the answer', await value("document.querySelector('#tray-table tbody td:nth-child(2)').innerText === 'different'"));
     await shot('tray');
+    await click('#save-csv');
+    hold('the tray as CSV', await saved('tray.csv', (bytes) => bytes.toString().startsWith('log,answer,steps\r\nwednesday.program,different,12\r\n')));
 
     // BED
     await click('[data-view=compare]');
     await type('#first', '1 3 3 2 1 2 3 2 2 1 3 2');
     await click('[data-view=bed]');
     hold('both drawings', await until("document.querySelectorAll('#beds svg').length === 2"));
+    await click('#save-svg');
+    hold('the log as SVG', await saved('log.svg', (bytes) => bytes.toString().startsWith('<svg ')));
+    hold('the pattern as SVG', await saved('pattern.svg', (bytes) => bytes.toString().endsWith('</svg>')));
     await click('#bed-at');
     hold('a place of the slider', await until("/^[5-7] of 12$/.test(document.querySelector('#bed-count').innerText)"));
     await shot('bed');

@@ -90,7 +90,8 @@ function save(/** @type {string} */ name, /** @type {any} */ content, type = 'ap
 const builtins = [
     ...Array.from({ length: 16 }, (_, k) => ({ name: `braid table of ${k + 1} moves`, text: tableText(braidTable(k + 1)) })),
     { name: '1 2 1 = 2 2, weights 1 and 2', text: 'moves 2\nweights 1 2\n1 2 1 = 2 2\n' },
-    { name: 'an open pair', text: 'moves 2\nweights 1 1\n' },
+    { name: 'two moves, the pair open', text: 'moves 2\nweights 1 1\n' },
+    { name: '16 moves, all pairs open', text: `moves 16\nweights${' 1'.repeat(16)}\n` },
     { name: 'one that breaks the cube rule', text: 'moves 3\nweights 1 1 1\n1 2 = 2 1\n1 3 = 3 1\n2 1 = 3 1\n' },
     { name: 'one that never ends', text: 'moves 3\nweights 1 1 1\n1 2 1 = 2 1 2\n1 3 1 = 3 1 3\n2 3 2 = 3 2 3\n' },
 ];
@@ -538,8 +539,7 @@ function wire() {
     $('save-text').onclick = () => table && save('table.txt', tableText(table.plain), 'text/plain');
     $('save-csv').onclick = () => save('tray.csv', csv([['log', 'answer', 'steps'], ...rows]), 'text/csv');
     $('save-svg').onclick = () => {
-        const svg = $('beds').querySelector('svg');
-        if (svg) save('braid.svg', svg.outerHTML, 'image/svg+xml');
+        [...$('beds').querySelectorAll('svg')].forEach((svg, k) => save(['log.svg', 'pattern.svg'][k], svg.outerHTML, 'image/svg+xml'));
     };
     $('print').onclick = () => window.print();
     for (const button of document.querySelectorAll('[data-sort]')) {
