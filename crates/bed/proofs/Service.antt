@@ -25,7 +25,6 @@ use Rattle.images.proofs.RoundTrip.{table-in-range, program-in-range}
 use Rattle.images.specs.Tables.{TableOf}
 use Rattle.theory.specs.Beds.{BedMeaning}
 use Rattle.theory.proofs.Totals.{bed-meaning}
-use Rattle.cells.proofs.Rules.{of-some, of-few}
 use Rattle.bed.specs.BraidTable.{BraidOf}
 use Rattle.bed.specs.Shown.{Answers}
 use Rattle.bed.specs.Meaning.{BedSays}
@@ -47,15 +46,8 @@ module _ (image : List ℕ) (T : Presentation) (e : readTable image ≡ answered
   pub braid-refused : isBraid T ≡ false → readBraid image ≡ refusal NotBraidTable
   braid-refused b = read-is ∙ ap (λ t. unless (not t) 15 T) b
 
-pub braid-of : (image cells : List ℕ) (size : ℕ) (t : TableOf image cells size) → isBraid (t .table) ≡ true → BraidOf image size
-braid-of image cells size t b =
-    record {
-      table = t .table;
-      read = braid-read image (t .table) (t .read) b;
-      size-is = t .of .sized;
-      some = of-some (t .of);
-      few = of-few (t .of);
-    }
+pub braid-of : (image cells : List ℕ) (size : ℕ) (t : TableOf image cells size) → isBraid (t .table) ≡ true → BraidOf image cells size
+braid-of image cells size t b = record { table = t .table; read = braid-read image (t .table) (t .read) b; of = t .of }
 
 -- THE OUTCOME
 

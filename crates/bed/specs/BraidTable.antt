@@ -37,14 +37,12 @@ BraidRow T size a = (b : ℕ) → a < b → b ≤ size → BraidPair T a b
 abbrev pub RowDecided : List ℕ → ℕ → ℕ → Bool → Type 0
 RowDecided cells size a r = (T : Presentation) → Of cells size T → Decides r (BraidRow T size a)
 
--- the image holds a braid table of so many letters
-pub record BraidOf (image : List ℕ) (size : ℕ) : Type 0 where
+-- the cells stand for the braid table that the image holds
+pub record BraidOf (image cells : List ℕ) (size : ℕ) : Type 0 where
   pub table : Presentation
   pub read : readBraid image ≡ answered table
-  pub size-is : table .size ≡ size
-  pub some : 1 ≤ size
-  pub few : size ≤ 16
+  pub of : Of cells size table
 
-abbrev pub BraidDone : List ℕ → TableRead → Type 0
-BraidDone image (Table size) = BraidOf image size
-BraidDone image (Refused r) = readBraid image ≡ refusal r
+abbrev pub BraidDone : List ℕ → List ℕ → TableRead → Type 0
+BraidDone image cells (Table size) = BraidOf image cells size
+BraidDone image cells (Refused r) = readBraid image ≡ refusal r

@@ -2,6 +2,7 @@
 use crate::braid_table::read_braid;
 use crate::moves::laid;
 use crate::writing::write_bed;
+use cells::layout::CELLS;
 use images::programs::ProgramRead;
 use images::programs::read_program;
 use images::tables::TableRead;
@@ -47,16 +48,19 @@ pub fn bed(table: &[u8], program: &[u8], moves: u64, answer: &mut [u8]) -> Packe
     ensures answer { λ r. ⌜ now (answer .exit) ≡ outputAfter (λ b. b) (bed (now (table .entry)) (now (program .entry)) moves (length (now (answer .entry)))) (now (answer .entry)) ⌝ }
     ensures meaning { λ r. ⌜ BedSays (now (table .entry)) (now (program .entry)) moves (packedAs r) (now (answer .exit)) ⌝ }
 {
-    let read = read_braid(table);
+    let mut cells = [0u8; CELLS];
+    let read = read_braid(table, &mut cells);
     match read {
         TableRead::Refused(refusal) => Packed::Refused(refusal),
         TableRead::Table { size } => {
-            let accepted = read_program(program, size);
+            let accepted = read_program(program, &cells, size);
             match accepted {
                 ProgramRead::Refused(refusal) => Packed::Refused(refusal),
-                ProgramRead::Program { count } => {
-                    show_program(program, size, count, moves, answer)
-                }
+                ProgramRead::Program {
+                    count,
+                    forward: _,
+                    weight: _,
+                } => show_program(program, size, count, moves, answer),
             }
         }
     }

@@ -1,11 +1,10 @@
 // Whether a table is the braid table of its number of letters (specification 2.4).
 ghost use mathlib.Core.Path.{_≡_};
 ghost use Prim.Native.Nat.{_≤_};
-ghost use Rattle.cells.specs.Stands.{Sized, Of, Filled};
+ghost use Rattle.cells.specs.Stands.{Sized, Of, Filled, Blank};
 ghost use Rattle.model.specs.Presentation.{Presentation};
 ghost use Rattle.model.specs.Bed.{isBraid, adjacent};
 ghost use Rattle.bed.specs.BraidTable.{WordDecided, RowDecided, BraidDone};
-use cells::layout::CELLS;
 use cells::layout::cell_at;
 use images::tables::TableRead;
 use images::tables::read_table;
@@ -71,16 +70,16 @@ pub fn is_braid(cells: &[u8], size: u8) -> bool
     true
 }
 
-// As reading a table, then refusal 15 where it is not a braid table.
-pub fn read_braid(image: &[u8]) -> TableRead
-    ensures { λ r. ⌜ BraidDone (now (image .entry)) r ⌝ }
+// As reading a table into cells, then refusal 15 where it is not a braid table.
+pub fn read_braid(image: &[u8], cells: &mut [u8]) -> TableRead
+    requires { ⌜ Blank (now cells) ⌝ }
+    ensures { λ r. ⌜ BraidDone (now (image .entry)) (now (cells .exit)) r ⌝ }
 {
-    let mut cells = [0u8; CELLS];
-    let read = read_table(image, &mut cells);
+    let read = read_table(image, cells);
     match read {
         TableRead::Refused(refusal) => TableRead::Refused(refusal),
         TableRead::Table { size } => {
-            if is_braid(&cells, size) {
+            if is_braid(cells, size) {
                 return TableRead::Table { size };
             }
             TableRead::Refused(Refusal::NotBraidTable)

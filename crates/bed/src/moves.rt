@@ -89,7 +89,7 @@ pub fn laid(program: &[u8], size: u8, count: u16, made: u16) -> Bed
     requires { ⌜ Accepted (now program) size count × (made ≤ count) ⌝ }
     ensures { λ r. ⌜ ((w : Word) → readProgram size (now (program .entry)) ≡ answered w → Shows r (laid (take made w) (firstBed size))) ⌝ }
 {
-    let width = bits::letter_width(size) as usize;
+    let width = bits::letter_width(size) as u32;
     let places = size as usize + 1;
     let mut bed = first_bed();
     let mut i: u16 = 0;

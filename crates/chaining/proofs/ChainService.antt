@@ -39,7 +39,7 @@ use Rattle.chains.specs.Listing.{Chained}
 use Rattle.chains.specs.Listing.{Compared as Listed-from}
 use Rattle.loading.specs.Loading.{Images, readImages}
 use Rattle.comparing.specs.Compare.{Ended, Judged, Meaning}
-use Rattle.loading.specs.Comparison.{LoadedPrograms}
+use Rattle.loading.specs.Reversing.{LoadedPrograms}
 use Rattle.chaining.specs.Chain.{Area, ListedAs, JoinsChecked, ListedChecks}
 use Rattle.loading.proofs.Outcomes.{AsFound}
 use Rattle.loading.proofs.Reading.{programs-refused, programs-run}

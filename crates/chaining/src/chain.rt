@@ -7,6 +7,7 @@ ghost use Rattle.model.specs.Services.{chain, listable, chainAnswer, verdictIn}
 ghost use Rattle.model.specs.Areas.{workspaceAfter, ChainArea};
 ghost use Rattle.model.specs.Stated.{compared, chained};
 ghost use Rattle.loading.specs.Loading.{Forward};
+ghost use Rattle.loading.specs.Weighing.{Weigh};
 ghost use Rattle.comparing.specs.Compare.{Meaning};
 ghost use Rattle.chaining.specs.Chain.{Lists, ListedChecks};
 use areas::bytes::wipe;
@@ -15,14 +16,15 @@ use chains::listing::list;
 use comparing::compare::compare_programs;
 use engine::gap::Gap;
 use entries::entry::chain_bytes;
-use loading::comparison::load_programs;
+use images::programs::Signs;
 use loading::loading::ProgramsRead;
 use loading::loading::read_programs;
+use loading::reversing::load_programs;
 use model::answers::Chained;
 use model::answers::Compared;
 use model::answers::Refusal;
 
-// Two accepted forward programs under a table that was loaded. The workspace is wiped, unless the weight check refused.
+// Two accepted forward programs, which weigh `one` and `two`, under a table that was loaded. The workspace is wiped, unless the weight check refused.
 pub fn chain_programs(
     cells: &[u8],
     size: u8,
@@ -30,14 +32,28 @@ pub fn chain_programs(
     m: u16,
     second: &[u8],
     n: u16,
+    one: u16,
+    two: u16,
     budget: u16,
     workspace: &mut [u8],
     answer: &mut [u8],
 ) -> Compared
-    requires { ⌜ Forward (now cells) size (now first) m (now second) n ⌝ }
+    requires programs { ⌜ Forward (now cells) size (now first) m (now second) n ⌝ }
+    requires weights { ⌜ Weigh (now cells) size (now first) one (now second) two ⌝ }
     ensures { λ r. ⌜ Lists (now (cells .entry)) size (now (first .entry)) (now (second .entry)) budget (now (workspace .entry)) (now (workspace .exit)) (now (answer .entry)) (now (answer .exit)) r ⌝ }
 {
-    let verdict = compare_programs(cells, size, first, m, second, n, budget, workspace);
+    let verdict = compare_programs(
+        cells,
+        size,
+        first,
+        m,
+        second,
+        n,
+        one,
+        two,
+        budget,
+        workspace,
+    );
     let Compared::Same { steps, relations } = verdict else {
         return verdict;
     };
@@ -90,10 +106,16 @@ pub fn chain(
     ensures meaning { λ r. ⌜ Meaning (now (table .entry)) (now (first .entry)) (now (second .entry)) allowance (length (now (workspace .entry))) (λ T v. listable (T .size) (length (now (answer .entry))) v) (mapped verdictIn (chained r)) ⌝ }
 {
     let mut cells = [0u8; CELLS];
-    let read = read_programs(table, first, second, &mut cells);
+    let read = read_programs(table, first, second, Signs::Forward, &mut cells);
     match read {
         ProgramsRead::Refused(refusal) => Chained::Refused(refusal),
-        ProgramsRead::Programs { size, m, n } => {
+        ProgramsRead::Programs {
+            size,
+            m,
+            n,
+            first_weight,
+            second_weight,
+        } => {
             let verdict = chain_programs(
                 &cells,
                 size,
@@ -101,6 +123,8 @@ pub fn chain(
                 m,
                 second,
                 n,
+                first_weight,
+                second_weight,
                 allowance,
                 workspace,
                 answer,

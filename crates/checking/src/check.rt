@@ -10,6 +10,7 @@ use cells::layout::CELLS;
 use engine::gap::Gap;
 use images::chains::ChainRead;
 use images::chains::read_chain;
+use images::programs::Signs;
 use images::programs::unpack_letters;
 use loading::loading::ProgramsRead;
 use loading::loading::read_programs;
@@ -99,10 +100,16 @@ pub fn check(
     ensures meaning { λ r. ⌜ CheckMeaning (now (table .entry)) (now (first .entry)) (now (second .entry)) (now (entries .entry)) (length (now (workspace .entry))) (checked r) ⌝ }
 {
     let mut cells = [0u8; CELLS];
-    let read = read_programs(table, first, second, &mut cells);
+    let read = read_programs(table, first, second, Signs::Forward, &mut cells);
     match read {
         ProgramsRead::Refused(refusal) => Checked::Refused(refusal),
-        ProgramsRead::Programs { size, m, n } => {
+        ProgramsRead::Programs {
+            size,
+            m,
+            n,
+            first_weight: _,
+            second_weight: _,
+        } => {
             let list = read_chain(entries, size);
             match list {
                 ChainRead::Refused(refusal) => Checked::Refused(refusal),

@@ -10,9 +10,10 @@ ghost use Rattle.engine.specs.Run.{Finishable};
 ghost use Rattle.committing.specs.Commit.{handed, CommitOf, ProgramCommitted, CommitMeaning};
 use areas::bytes::wipe;
 use cells::layout::CELLS;
+use images::programs::Signs;
 use loading::loading::TableProgram;
 use loading::loading::read_table_program;
-use loading::loading::run_program;
+use loading::reversing::reverse_image;
 use model::answers::Ending;
 use model::answers::Refusal;
 use model::answers::Reversed;
@@ -77,7 +78,7 @@ pub fn commit_program(
     requires { ⌜ ProgramRuns (now cells) size (now program) count ⌝ }
     ensures { λ r. ⌜ ProgramCommitted (now (cells .entry)) size (now (program .entry)) budget (handed numbers) (now (workspace .entry)) (now (workspace .exit)) (now (answer .entry)) (now (answer .exit)) r ⌝ }
 {
-    let ending = run_program(cells, size, program, count, budget, workspace);
+    let ending = reverse_image(cells, size, program, count, budget, workspace);
     let result = commit_ending(ending, numbers, workspace, answer);
     wipe(workspace);
     result
@@ -97,10 +98,14 @@ pub fn commit(
     ensures meaning { λ r. ⌜ CommitMeaning (now (table .entry)) (now (program .entry)) allowance (length (now (workspace .entry))) (handed numbers) (now (answer .entry)) (now (answer .exit)) (reversed r) ⌝ }
 {
     let mut cells = [0u8; CELLS];
-    let read = read_table_program(table, program, &mut cells);
+    let read = read_table_program(table, program, Signs::Any, &mut cells);
     match read {
         TableProgram::Refused(refusal) => Reversed::Refused(refusal),
-        TableProgram::Loaded { size, count } => commit_program(
+        TableProgram::Loaded {
+            size,
+            count,
+            weight: _,
+        } => commit_program(
             &cells,
             size,
             program,

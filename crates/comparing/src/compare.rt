@@ -6,14 +6,15 @@ ghost use Rattle.model.specs.Services.{compare};
 ghost use Rattle.model.specs.Areas.{workspaceAfter};
 ghost use Rattle.model.specs.Stated.{compared};
 ghost use Rattle.loading.specs.Loading.{Forward};
+ghost use Rattle.loading.specs.Weighing.{Weigh};
 ghost use Rattle.comparing.specs.Compare.{judgement, Decides, Judges, Meaning};
 use areas::bytes::wipe;
 use cells::layout::CELLS;
 use clearing::clear::clear_cells;
-use loading::comparison::run_programs;
+use images::programs::Signs;
 use loading::loading::ProgramsRead;
 use loading::loading::read_programs;
-use loading::weighing::program_weight;
+use loading::reversing::reverse_images;
 use model::answers::Cleared;
 use model::answers::Compared;
 use model::answers::Ending;
@@ -43,7 +44,7 @@ pub fn judge(ending: Ending) -> Compared
     }
 }
 
-// Two accepted forward programs under a table that has cleared. The workspace is all zero before and after.
+// Two accepted forward programs, which weigh `one` and `two`, under a table that has cleared. The workspace is all zero before and after.
 pub fn compare_cleared(
     cells: &[u8],
     size: u8,
@@ -51,24 +52,25 @@ pub fn compare_cleared(
     m: u16,
     second: &[u8],
     n: u16,
+    one: u16,
+    two: u16,
     budget: u16,
     workspace: &mut [u8],
 ) -> Compared
     requires programs { ⌜ Forward (now cells) size (now first) m (now second) n ⌝ }
     requires zero { ⌜ now workspace ≡ replicate (length (now workspace)) 0 ⌝ }
+    requires weights { ⌜ Weigh (now cells) size (now first) one (now second) two ⌝ }
     ensures { λ r. ⌜ Decides (now (cells .entry)) size (now (first .entry)) (now (second .entry)) budget (now (workspace .entry)) (now (workspace .exit)) r ⌝ }
 {
-    let one = program_weight(cells, size, first, m);
-    let two = program_weight(cells, size, second, n);
     if one != two {
         return Compared::Different { steps: 0 };
     }
-    let ending = run_programs(cells, size, first, m, second, n, budget, workspace);
+    let ending = reverse_images(cells, size, first, m, second, n, budget, workspace);
     wipe(workspace);
     judge(ending)
 }
 
-// Two accepted forward programs under a table that was loaded. The workspace is wiped, unless the weight check refused.
+// Two accepted forward programs, which weigh `one` and `two`, under a table that was loaded. The workspace is wiped, unless the weight check refused.
 pub fn compare_programs(
     cells: &[u8],
     size: u8,
@@ -76,16 +78,30 @@ pub fn compare_programs(
     m: u16,
     second: &[u8],
     n: u16,
+    one: u16,
+    two: u16,
     budget: u16,
     workspace: &mut [u8],
 ) -> Compared
-    requires { ⌜ Forward (now cells) size (now first) m (now second) n ⌝ }
+    requires programs { ⌜ Forward (now cells) size (now first) m (now second) n ⌝ }
+    requires weights { ⌜ Weigh (now cells) size (now first) one (now second) two ⌝ }
     ensures { λ r. ⌜ Judges (now (cells .entry)) size (now (first .entry)) (now (second .entry)) budget (now (workspace .entry)) (now (workspace .exit)) r ⌝ }
 {
     let clear = clear_cells(cells, size, budget, workspace);
     match clear {
         Cleared::Refused(refusal) => Compared::Refused(refusal),
-        Cleared::Passed => compare_cleared(cells, size, first, m, second, n, budget, workspace),
+        Cleared::Passed => compare_cleared(
+            cells,
+            size,
+            first,
+            m,
+            second,
+            n,
+            one,
+            two,
+            budget,
+            workspace,
+        ),
     }
 }
 
@@ -101,16 +117,24 @@ pub fn compare(
     ensures meaning { λ r. ⌜ Meaning (now (table .entry)) (now (first .entry)) (now (second .entry)) allowance (length (now (workspace .entry))) (λ T v. answered v) (compared r) ⌝ }
 {
     let mut cells = [0u8; CELLS];
-    let read = read_programs(table, first, second, &mut cells);
+    let read = read_programs(table, first, second, Signs::Forward, &mut cells);
     match read {
         ProgramsRead::Refused(refusal) => Compared::Refused(refusal),
-        ProgramsRead::Programs { size, m, n } => compare_programs(
+        ProgramsRead::Programs {
+            size,
+            m,
+            n,
+            first_weight,
+            second_weight,
+        } => compare_programs(
             &cells,
             size,
             first,
             m,
             second,
             n,
+            first_weight,
+            second_weight,
             allowance,
             workspace,
         ),

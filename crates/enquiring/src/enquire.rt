@@ -8,9 +8,10 @@ ghost use Rattle.loading.specs.Loading.{ProgramRuns};
 ghost use Rattle.enquiring.specs.Enquire.{sizesTold, ProgramEnquired, EnquireMeaning};
 use areas::bytes::wipe;
 use cells::layout::CELLS;
+use images::programs::Signs;
 use loading::loading::TableProgram;
 use loading::loading::read_table_program;
-use loading::loading::run_program;
+use loading::reversing::reverse_image;
 use model::answers::Ending;
 use model::answers::Refusal;
 use model::answers::Reversed;
@@ -48,7 +49,7 @@ pub fn enquire_program(
     requires { ⌜ ProgramRuns (now cells) size (now program) count ⌝ }
     ensures { λ r. ⌜ ProgramEnquired (now (cells .entry)) size (now (program .entry)) budget (now (workspace .entry)) (now (workspace .exit)) r ⌝ }
 {
-    let ending = run_program(cells, size, program, count, budget, workspace);
+    let ending = reverse_image(cells, size, program, count, budget, workspace);
     wipe(workspace);
     sizes_of(ending)
 }
@@ -59,16 +60,13 @@ pub fn enquire(table: &[u8], program: &[u8], allowance: u16, workspace: &mut [u8
     ensures meaning { λ r. ⌜ EnquireMeaning (now (table .entry)) (now (program .entry)) allowance (length (now (workspace .entry))) (reversed r) ⌝ }
 {
     let mut cells = [0u8; CELLS];
-    let read = read_table_program(table, program, &mut cells);
+    let read = read_table_program(table, program, Signs::Any, &mut cells);
     match read {
         TableProgram::Refused(refusal) => Reversed::Refused(refusal),
-        TableProgram::Loaded { size, count } => enquire_program(
-            &cells,
+        TableProgram::Loaded {
             size,
-            program,
             count,
-            allowance,
-            workspace,
-        ),
+            weight: _,
+        } => enquire_program(&cells, size, program, count, allowance, workspace),
     }
 }

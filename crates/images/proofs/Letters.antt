@@ -21,7 +21,6 @@ use Rattle.images.specs.Fields.{from, Before, FieldAt}
 use Rattle.images.specs.Programs.{SignedAt, Accepted, HasLetter}
 use Rattle.model.specs.Areas.{written}
 use Rattle.model.proofs.Impossible.{same-answer}
-use Rattle.images.proofs.Signed.{sign-of}
 use Rattle.images.proofs.RoundTrip.{program-in-range}
 use Rattle.images.proofs.Placed.{letter-placed, letter-inside}
 
@@ -42,32 +41,13 @@ module _ (image : List ℕ) (size width i : ℕ) (p : HasLetter image size width
       subst (λ k. signedField size (from image (12 + i * (1 + k))) ≡ answered (record { value = getD w i (forward 0); rest = from image (12 + i * (1 + k) + (1 + k)) }))
       (sym (p .width-is)) (letter-placed size (p .few) image w e i l (forward 0))
 
-  ends-inside : 12 + i * (1 + width) + (1 + width) ≤ 8 * length image
+  pub ends-inside : 12 + i * (1 + width) + (1 + width) ≤ 8 * length image
   ends-inside =
       subst (λ k. 12 + i * (1 + k) + (1 + k) ≤ 8 * length image) (sym (p .width-is)) (letter-inside size (p .few) image (p .word) (p .read) i (p .inside))
-
-  pub letter-before : Before image (12 + i * (1 + width)) size width
-  letter-before =
-      record {
-        inside = omega (arith, ends-inside);
-        small = omega (arith, near i width index-small (p .narrow));
-        some = p .some;
-        few = p .few;
-        narrow = p .narrow;
-        width-is = p .width-is;
-      }
 
   pub letter-answer : (x : ℕ) → SignedAt image (12 + i * (1 + width)) size width x → (w : Word) → readProgram size image ≡ answered w → x ≡ byte (getD w i (forward 0))
   letter-answer x s w e =
       sym (s .written) ∙ ap (λ r. byte (r .value)) (same-answer _ (record { value = getD w i (forward 0); rest = from image (12 + i * (1 + width) + (1 + width)) }) (sym (s .read) ∙ stands w e))
-
-  -- the first bit of a letter is its sign
-  pub sign-inside : Inside image (12 + i * (1 + width)) 1
-  sign-inside = record { narrow = omega arith; inside = omega (arith, ends-inside); small = omega (arith, near i width index-small (p .narrow)) }
-
-  pub letter-sign : (sign : ℕ) → FieldAt image (12 + i * (1 + width)) 1 sign → (w : Word) → readProgram size image ≡ answered w → (a : ℕ) × (signed sign a ≡ getD w i (forward 0))
-  letter-sign sign s w e =
-      sign-of image (12 + i * (1 + width)) size width sign s (getD w i (forward 0)) (from image (12 + i * (1 + width) + (1 + width))) (stands w e)
 
   pub letter-stands : (n : ℕ) → signedField size (from image (12 + i * (1 + width))) ≡ refused n unplaced → ⊥
   letter-stands n e =
@@ -93,22 +73,6 @@ count-small image size count a =
 
 pub count-of : (image : List ℕ) (size count : ℕ) → Accepted image size count → (w : Word) → readProgram size image ≡ answered w → length w ≡ count
 count-of image size count a w e = ap length (same-answer w (a .program .word) (sym e ∙ a .program .read)) ∙ a .program .count-is
-
--- FORWARD
-
-module _ (sign a : ℕ) (w : Word) (i : ℕ) (h : i < length w) (e : signed sign a ≡ getD w i (forward 0)) where
-  pub forward-more : sign ≡ 0 → isForward w ≡ isForward (drop i w) → isForward w ≡ isForward (drop (i + 1) w)
-  forward-more z r =
-      r ∙ (ap isForward (drop-cons w i (forward 0) h)
-      ∙ (ap (λ x. isForward (x ∷ drop (suc i) w)) (sym e ∙ ap (λ t. cond t (forward a) (back a)) (eq-eqb sign 0 z))
-      ∙ ap (λ k. isForward (drop k w)) (sym (add-one i))))
-
-  pub back-found : (sign ≡ 0 → ⊥) → isForward w ≡ isForward (drop i w) → isForward w ≡ false
-  back-found z r =
-      r ∙ (ap isForward (drop-cons w i (forward 0) h) ∙ ap (λ x. isForward (x ∷ drop (suc i) w)) (sym e ∙ ap (λ t. cond t (forward a) (back a)) (ne-eqb sign 0 z)))
-
-pub forward-all : (w : Word) (i : ℕ) → length w ≡ i → isForward w ≡ isForward (drop i w) → isForward w ≡ true
-forward-all w i l r = r ∙ (ap (λ k. isForward (drop k w)) (sym l) ∙ ap isForward (drop-length w))
 
 -- UNPACKING
 

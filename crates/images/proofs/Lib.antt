@@ -1,7 +1,9 @@
 pub mod Reading
+pub mod BitReader
 pub mod Several
 pub mod Signed
 pub mod Validating
+pub mod Measuring
 pub mod Codec
 pub mod Inverse
 pub mod RoundTrip

@@ -60,6 +60,13 @@ module _ {A : Type 0} (width tail early size : ℕ) (reader : List ℕ → Outco
           finished (filling (r .0 .rest)) (r .0 .value) (r .2),
         )
 
+    -- the count lies inside the image
+    pub counted : width ≤ 8 * length image
+    unfolding body
+    counted =
+        let k = answer-of (field early width (bitsOf image)) body xs read in
+        omega (arith, enough (field-codec early width) width (length-digits width) image 0 (k .0) (k .1))
+
     pub placed : (i : ℕ) → i < length xs → (d : A)
         → reader (from image (width + i * size)) ≡ answered (record { value = getD xs i d; rest = from image (width + i * size + size) })
     placed i h d =
@@ -84,6 +91,10 @@ module _ (n : ℕ) (few : n ≤ 16) (image : List ℕ) where
   pub letter-inside : (w : Word) → readProgram n image ≡ answered w → (i : ℕ) → i < length w → 12 + i * (1 + letterWidth n) + (1 + letterWidth n) ≤ 8 * length image
   unfolding readProgram
   letter-inside w e i h = omega (arith, placed-inside 12 6 4 (1 + letterWidth n) (signedField n) (signedBits n) _ (signed-codec n few) (length-signed n) image w e i h (forward 0))
+
+  pub count-inside : (w : Word) → readProgram n image ≡ answered w → 12 ≤ 8 * length image
+  unfolding readProgram
+  count-inside w e = counted 12 6 4 (1 + letterWidth n) (signedField n) (signedBits n) _ (signed-codec n few) (length-signed n) image w e
 
   pub entry-placed : (es : List Entry) → readChain n image ≡ answered es → (i : ℕ) → i < length es → (d : Entry)
       → entryField n (from image (entryPosition n i)) ≡ answered (record { value = getD es i d; rest = from image (entryPosition n i + entryWidth n) })

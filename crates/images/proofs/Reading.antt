@@ -1,21 +1,20 @@
 -- The next field, the next letter and the end of an image, from what was read of its bits. Each gives the model's answer or refusal.
-use mathlib.Core.Path.{_≡_, refl, sym, ap, _∙_}
+use mathlib.Core.Path.{_≡_, refl, sym, ap, subst, _∙_}
 use mathlib.Core.List.{List, [], _∷_}
 use mathlib.Core.Bool.{false, _&&_}
-use Prim.Native.Nat.{ℕ, zero, suc, _+_, _-_, _*_, _≤_, _<_}
+use Prim.Native.Nat.{ℕ, zero, suc, _+_, _-_, _*_, _^_, _≤_, _<_}
 use native.Mathlib.Omega.{arith}
 use borrow.Author.Tests.{lt-ltb, le-ltb, le-leb, lt-leb, ne-eqb}
 use lib.Dec.{leb, eqb}
 use lib.ListN.{length, take, drop, length-drop}
-use lib.Seq.{drop-drop, take-all}
+use lib.Seq.{drop-drop, take-all, length-take-le}
 use lib.Pow.{pow-pos}
 use Rattle.model.specs.Outcome.{unplaced, Outcome, answered, refused, _>>=_, unless}
 use Rattle.model.specs.Bits.{Read, bitsOf, number, field, filling, allZero, letterWidth}
 use Rattle.model.specs.Images.{letterField}
-use Rattle.bits.specs.Fields.{Inside}
-use Rattle.bits.proofs.Digits.{AreBits, number-after}
+use Rattle.bits.proofs.Digits.{AreBits, number-after, number-bound}
 use Rattle.bits.proofs.Bytes.{length-bits, bits-are-bits}
-use Rattle.bits.proofs.Fields.{field-fits, bits-drop}
+use Rattle.bits.proofs.Fields.{bits-take, bits-drop}
 use Rattle.images.specs.Fields.{FieldAt, LetterAt, from}
 
 pub length-from : (image : List ℕ) (at : ℕ) → length (from image at) ≡ 8 * length image - at
@@ -24,16 +23,22 @@ length-from image at = length-drop at (bitsOf image) ∙ ap (λ n. n - at) (leng
 pub from-from : (image : List ℕ) (at more : ℕ) → drop more (from image at) ≡ from image (at + more)
 from-from image at more = drop-drop more at (bitsOf image)
 
+-- a field of so many bits is a number of so many binary digits
+pub field-small : (image : List ℕ) (at width : ℕ) → at + width ≤ 8 * length image → number 0 (take width (from image at)) < 2 ^ width
+field-small image at width inside =
+    subst (λ n. number 0 (take width (from image at)) < 2 ^ n) (length-take-le width (from image at) (omega (arith, length-from image at)))
+    (number-bound (take width (from image at)) (bits-take width (from image at) (bits-drop at (bitsOf image) (bits-are-bits image))))
+
 module _ (image : List ℕ) (at width : ℕ) where
-  pub field-answered : Inside image at width → (v : ℕ) → v ≡ number 0 (take width (from image at)) → FieldAt image at width v
+  pub field-answered : at + width ≤ 8 * length image → (v : ℕ) → v ≡ number 0 (take width (from image at)) → FieldAt image at width v
   unfolding field
   field-answered inside v e =
       record {
-        inside = inside .inside;
-        small = omega (arith, field-fits image at width inside width (omega arith));
+        inside = inside;
+        small = omega (arith, field-small image at width inside);
         read = λ early.
             ap (λ t. unless t early (record { value = number 0 (take width (from image at)); rest = drop width (from image at) }))
-            (le-ltb (length (from image at)) width (omega (arith, length-from image at, inside .inside)))
+            (le-ltb (length (from image at)) width (omega (arith, length-from image at)))
             ∙ (ap (λ x. answered (record { value = x; rest = drop width (from image at) })) (sym e)
             ∙ ap (λ r. answered (record { value = v; rest = r })) (from-from image at width));
       }

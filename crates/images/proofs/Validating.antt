@@ -43,7 +43,7 @@ module _ {A : Type 0} (reader : List ℕ → Outcome (Read A)) (head : ℕ) wher
     whole-is =
         ap afterCount (first .read 4) ∙ ap (λ n. afterValues (several reader count (from image n))) {x = 0 + head} {y = head} (omega arith)
 
-    pub validated-none : Validated reader head image count head 0
+    unfoldable pub validated-none : Validated reader head image count head 0
     validated-none =
         record {
           some-left = omega arith;
@@ -55,10 +55,10 @@ module _ {A : Type 0} (reader : List ℕ → Outcome (Read A)) (head : ℕ) wher
         }
 
     module _ (at i : ℕ) (v : Validated reader head image count at i) where
-      left : i < count → count - i ≡ suc (count - (i + 1))
+      pub left : i < count → count - i ≡ suc (count - (i + 1))
       left h = omega arith
 
-      pub validated-more : (x : A) (next : ℕ) → next ≤ at + 23 → next ≤ 8 * length image → i < count → reader (from image at) ≡ answered (record { value = x; rest = from image next })
+      unfoldable pub validated-more : (x : A) (next : ℕ) → next ≤ at + 23 → next ≤ 8 * length image → i < count → reader (from image at) ≡ answered (record { value = x; rest = from image next })
           → Validated reader head image count next (i + 1)
       validated-more x next short inside h e =
           record {

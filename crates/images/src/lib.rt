@@ -1,3 +1,4 @@
+pub mod bit_reader;
 pub mod chains;
 pub mod fields;
 pub mod packing;

@@ -12,6 +12,7 @@ use crate::backward::run_backward;
 use areas::bytes::wipe;
 use cells::layout::CELLS;
 use cells::layout::UNDEFINED;
+use images::programs::Signs;
 use loading::loading::TableProgram;
 use loading::loading::read_table_program;
 use mirrors::mirror::Mirrored;
@@ -80,17 +81,13 @@ pub fn left_reverse(
     ensures meaning { λ r. ⌜ LeftMeaning (now (table .entry)) (now (program .entry)) allowance (length (now (workspace .entry))) (now (answer .entry)) (now (answer .exit)) (reversed r) ⌝ }
 {
     let mut cells = [0u8; CELLS];
-    let read = read_table_program(table, program, &mut cells);
+    let read = read_table_program(table, program, Signs::Any, &mut cells);
     match read {
         TableProgram::Refused(refusal) => Reversed::Refused(refusal),
-        TableProgram::Loaded { size, count } => left_reverse_program(
-            &cells,
+        TableProgram::Loaded {
             size,
-            program,
             count,
-            allowance,
-            workspace,
-            answer,
-        ),
+            weight: _,
+        } => left_reverse_program(&cells, size, program, count, allowance, workspace, answer),
     }
 }

@@ -23,7 +23,7 @@ use Rattle.engine.proofs.Lettering.{length-positive, length-negative}
 use Rattle.engine.proofs.Loads.{loaded, load-searched, load-serves}
 use Rattle.engine.specs.Words.{Inverted}
 use Rattle.cells.proofs.Rules.{of-few}
-use Rattle.loading.specs.Comparison.{LoadedPrograms}
+use Rattle.loading.specs.Reversing.{LoadedPrograms}
 use Rattle.loading.proofs.Programs.{byte-letters, written-end, too-long}
 
 module _ (cells : List ℕ) (size : ℕ) (T : Presentation) (o : Of cells size T) (u v : Positive) (pu : ProgramInRange size (positive u)) (pv : ProgramInRange size (positive v))

@@ -2,6 +2,7 @@
 -- chain and check do, and compare_signed with programs of either sign.
 use mathlib.Core.Path.{_≡_, refl, sym, ap, _∙_}
 use mathlib.Core.List.{List}
+use mathlib.Core.Bool.{Bool}
 use Prim.Native.Nat.{ℕ}
 use native.Mathlib.Omega.{arith}
 use Rattle.model.specs.Word.{Positive}
@@ -13,12 +14,16 @@ use Rattle.model.specs.Areas.{Compares}
 use Rattle.model.specs.Stated.{refusal}
 use Rattle.model.specs.declared.answers.Refusal.{Refusal}
 use Rattle.model.proofs.Outcomes.{still-refused, goes-on}
-use Rattle.images.specs.Programs.{ProgramOf, ForwardOf}
+use Rattle.images.specs.Programs.{Measured, ForwardMeasured, MeasuredAs, readAs}
+use Rattle.images.specs.declared.programs.Signs.{Signs}
+use Rattle.images.specs.declared.programs.Signs.the-variants.{Any, Forward as ForwardAlone}
+use Rattle.cells.specs.Stands.{Sized}
 use Rattle.images.specs.Tables.{TableOf}
 use Rattle.cells.proofs.Rules.{of-some, of-few}
-use Rattle.loading.specs.Loading.{readTableWith, ProgramLoaded, ForwardLoaded, Images, readImages, ProgramsLoaded}
+use Rattle.loading.specs.Loading.{readTableWith, ProgramLoaded, ForwardLoaded, LoadedAs, Images, readImages, ProgramsLoaded, SignedLoaded, BothAs}
 use Rattle.loading.proofs.Early.{Early, early-then, wider, table-early, forward-early}
 use Rattle.loading.proofs.Outcomes.{AsFound, reading-refused}
+use Rattle.loading.proofs.Weights.{measured-weighs}
 
 -- a reading of two parts, and then the rest
 regrouped : {A B C : Type 0} (o : Outcome A) (f : A → Outcome B) (rest : B → Outcome C) (g : A → Outcome C) → ((x : A) → (f x >>= rest) ≡ g x)
@@ -68,22 +73,27 @@ module _ {W : Type 0} (read : ℕ → List ℕ → Outcome W) (table program : L
     pub program-runs : (T : Presentation) (w : W) → readTable table ≡ answered T → read (T .size) program ≡ answered w → program-service ≡ rest T w
     program-runs T w e f = goes-on (readTable table) T e _ ∙ goes-on (read (T .size) program) w f _
 
-module _ (table program : List ℕ) {cells : List ℕ} {size count : ℕ} (t : TableOf table cells size) where
-  pub program-loaded : ProgramOf program size count → ProgramLoaded table program cells size count
-  program-loaded p =
+module _ (table program : List ℕ) {cells : List ℕ} {size : ℕ} (t : TableOf table cells size) (count weight : ℕ) where
+  program-loaded : {all : Bool} → Measured program cells size count all weight → ProgramLoaded table program cells size count weight
+  program-loaded m =
       record {
-        runs = record { table = t .table; of = t .of; accepted = record { some = of-some (t .of); few = of-few (t .of); program = p } };
+        runs = record { table = t .table; of = t .of; accepted = record { some = of-some (t .of); few = of-few (t .of); program = m .program } };
+        weighs = m .weight-is;
         table-read = t .read;
-        program-read = sized readProgram table program t ∙ p .read;
+        program-read = sized readProgram table program t ∙ m .program .read;
       }
 
-  pub forward-loaded : ForwardOf program size count → ForwardLoaded table program cells size count
-  forward-loaded f =
+  forward-loaded : ForwardMeasured program cells size count weight → ForwardLoaded table program cells size count weight
+  forward-loaded m =
       record {
-        runs = record { table = t .table; of = t .of; forward = f };
+        runs = record { table = t .table; of = t .of; forward = m .forward; weighs = measured-weighs cells size program count weight m };
         table-read = t .read;
-        program-read = sized readForward table program t ∙ f .read;
+        program-read = sized readForward table program t ∙ m .forward .read;
       }
+
+  pub loaded-as : (s : Signs) (all : Bool) → MeasuredAs s program cells size count all weight → LoadedAs s table program cells size count weight
+  loaded-as Any all m = program-loaded m
+  loaded-as ForwardAlone all m = forward-loaded m
 
 -- TWO PROGRAMS
 
@@ -130,13 +140,46 @@ module _ {W : Type 0} (read : ℕ → List ℕ → Outcome W) (table first secon
 
 -- .. of forward moves
 module _ (table first second : List ℕ) where
-  pub programs-loaded : {cells : List ℕ} {size m n : ℕ} → ForwardLoaded table first cells size m → ForwardOf second size n → ProgramsLoaded table first second cells size m n
-  programs-loaded l two =
+  programs-loaded : {cells : List ℕ} {size m n one two : ℕ} → ForwardLoaded table first cells size m one → ForwardMeasured second cells size n two
+      → ProgramsLoaded table first second cells size m n one two
+  programs-loaded {cells} {size} {m} {n} {one} {two} l f =
       let o = l .runs .of in
       record {
-        forward = record { table = l .runs .table; of = o; pair = record { some = of-some o; few = of-few o; one = l .runs .forward; two = two } };
-        reads = record { table-read = l .table-read; first-read = l .program-read; second-read = ap (λ i. readForward i second) (o .sized) ∙ two .read };
+        forward = record { table = l .runs .table; of = o; pair = record { some = of-some o; few = of-few o; one = l .runs .forward; two = f .forward } };
+        weights = record { one = l .runs .weighs; two = measured-weighs cells size second n two f };
+        reads = record { table-read = l .table-read; first-read = l .program-read; second-read = ap (λ i. readForward i second) (o .sized) ∙ f .forward .read };
       }
+
+  signed-loaded : {cells : List ℕ} {size m n one two : ℕ} {all : Bool} → ProgramLoaded table first cells size m one → Measured second cells size n all two
+      → SignedLoaded table first second cells size m n one two
+  signed-loaded l f =
+      let r = l .runs in
+      record {
+        runs = record { table = r .table; of = r .of; programs = record { one = r .accepted; two = record { some = r .accepted .some; few = r .accepted .few; program = f .program } } };
+        first-weighs = l .weighs;
+        second-weighs = f .weight-is;
+        table-read = l .table-read;
+      }
+
+  pub both-as : (s : Signs) (cells : List ℕ) (size m n one two : ℕ) (all : Bool) → LoadedAs s table first cells size m one → MeasuredAs s second cells size n all two
+      → BothAs s table first second cells size m n one two
+  both-as Any cells size m n one two all l f = signed-loaded l f
+  both-as ForwardAlone cells size m n one two all l f = programs-loaded l f
+
+  -- the second program is refused
+  pub second-refused : (s : Signs) (cells : List ℕ) (size m one : ℕ) → LoadedAs s table first cells size m one → (r : Refusal) → readAs s size second ≡ refusal r
+      → readImages (readAs s) table first second ≡ refusal r
+  second-refused Any cells size m one l r e =
+      no-second readProgram table first second (l .runs .table) (l .runs .accepted .program .word) (l .table-read) (l .program-read) r
+      (ap (λ i. readProgram i second) (l .runs .of .sized) ∙ e)
+  second-refused ForwardAlone cells size m one l r e =
+      no-second readForward table first second (l .runs .table) (l .runs .forward .word) (l .table-read) (l .program-read) r
+      (ap (λ i. readForward i second) (l .runs .of .sized) ∙ e)
+
+  -- the cells stand for the table
+  pub loaded-of : (s : Signs) (cells : List ℕ) (size m one : ℕ) → LoadedAs s table first cells size m one → Sized cells size
+  loaded-of Any cells size m one l = (l .runs .table, l .runs .of)
+  loaded-of ForwardAlone cells size m one l = (l .runs .table, l .runs .of)
 
   module _ {A : Type 0} (rest : Images Positive → Outcome A) where
     abbrev forward-service : Outcome A

@@ -1,3 +1,3 @@
-pub mod Loading
-pub mod Comparison
 pub mod Weighing
+pub mod Loading
+pub mod Reversing

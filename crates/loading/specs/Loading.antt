@@ -2,17 +2,17 @@
 use mathlib.Core.List.{List}
 use mathlib.Core.Path.{_≡_}
 use Prim.Native.Nat.{ℕ, _≤_}
-use Rattle.model.specs.Word.{Word}
 use Rattle.model.specs.Presentation.{Presentation}
 use Rattle.model.specs.Outcome.{Outcome, answered, _>>=_}
 use Rattle.model.specs.Images.{readTable, readProgram}
 use Rattle.model.specs.Services.{readForward}
 use Rattle.model.specs.Areas.{Compares}
 use Rattle.model.specs.Stated.{refusal}
-use Rattle.model.specs.declared.answers.Ending.{Ending}
-use Rattle.images.specs.Programs.{Accepted, ForwardOf}
+use Rattle.images.specs.Programs.{Accepted, ForwardOf, cellsWeigh, readAs}
+use Rattle.images.specs.declared.programs.Signs.{Signs}
+use Rattle.images.specs.declared.programs.Signs.the-variants.{Any, Forward as ForwardAlone}
 use Rattle.cells.specs.Stands.{Of}
-use Rattle.engine.specs.Run.{Reverses}
+use Rattle.loading.specs.Weighing.{Weighs, Weigh}
 use Rattle.loading.specs.declared.loading.TableProgram.{TableProgram}
 use Rattle.loading.specs.declared.loading.TableProgram.the-variants.{Loaded as LoadedAnswer, Refused as NotLoaded}
 use Rattle.loading.specs.declared.loading.ProgramsRead.{ProgramsRead}
@@ -25,15 +25,11 @@ pub record ProgramRuns (cells : List ℕ) (size : ℕ) (program : List ℕ) (cou
   pub accepted : Accepted program size count
 
 -- .. of forward moves
-pub record ForwardRuns (cells : List ℕ) (size : ℕ) (program : List ℕ) (count : ℕ) : Type 0 where
+pub record ForwardRuns (cells : List ℕ) (size : ℕ) (program : List ℕ) (count weight : ℕ) : Type 0 where
   pub table : Presentation
   pub of : Of cells size table
   pub forward : ForwardOf program size count
-
--- the reversing of a program, under every table that the cells stand for
-abbrev pub ProgramReverses : List ℕ → ℕ → List ℕ → ℕ → List ℕ → Ending → Type 0
-ProgramReverses cells size program budget workspace r =
-    (T : Presentation) → Of cells size T → (w : Word) → readProgram size program ≡ answered w → Reverses T w budget workspace r
+  pub weighs : Weighs cells size program weight
 
 -- A TABLE AND A PROGRAM, which is read as a word of either sign or as one of forward moves
 
@@ -46,24 +42,25 @@ unfoldable pub readTableWith : {W : Type 0} → (ℕ → List ℕ → Outcome W)
 readTableWith read table program = readTable table >>= λ T. read (T .size) program >>= λ w. answered (record { table = T; word = w })
 
 -- the table that the cells stand for, and the program, are those that the images hold
-pub record ProgramLoaded (table program cells : List ℕ) (size count : ℕ) : Type 0 where
+pub record ProgramLoaded (table program cells : List ℕ) (size count weight : ℕ) : Type 0 where
   pub runs : ProgramRuns cells size program count
+  pub weighs : weight ≡ cellsWeigh cells (runs .accepted .program .word)
   pub table-read : readTable table ≡ answered (runs .table)
   pub program-read : readProgram (runs .table .size) program ≡ answered (runs .accepted .program .word)
 
-abbrev pub TableProgramDone : List ℕ → List ℕ → List ℕ → TableProgram → Type 0
-TableProgramDone table program cells (LoadedAnswer size count) = ProgramLoaded table program cells size count
-TableProgramDone table program cells (NotLoaded r) = readTableWith readProgram table program ≡ refusal r
-
 -- .. of forward moves
-pub record ForwardLoaded (table program cells : List ℕ) (size count : ℕ) : Type 0 where
-  pub runs : ForwardRuns cells size program count
+pub record ForwardLoaded (table program cells : List ℕ) (size count weight : ℕ) : Type 0 where
+  pub runs : ForwardRuns cells size program count weight
   pub table-read : readTable table ≡ answered (runs .table)
   pub program-read : readForward (runs .table .size) program ≡ answered (runs .forward .word)
 
-abbrev pub TableForwardDone : List ℕ → List ℕ → List ℕ → TableProgram → Type 0
-TableForwardDone table program cells (LoadedAnswer size count) = ForwardLoaded table program cells size count
-TableForwardDone table program cells (NotLoaded r) = readTableWith readForward table program ≡ refusal r
+abbrev pub LoadedAs : Signs → List ℕ → List ℕ → List ℕ → ℕ → ℕ → ℕ → Type 0
+LoadedAs Any table program cells size count weight = ProgramLoaded table program cells size count weight
+LoadedAs ForwardAlone table program cells size count weight = ForwardLoaded table program cells size count weight
+
+abbrev pub TableProgramDone : List ℕ → List ℕ → Signs → List ℕ → TableProgram → Type 0
+TableProgramDone table program s cells (LoadedAnswer size count weight) = LoadedAs s table program cells size count weight
+TableProgramDone table program s cells (NotLoaded r) = readTableWith (readAs s) table program ≡ refusal r
 
 -- A TABLE AND TWO PROGRAMS
 
@@ -95,10 +92,31 @@ readImages read table first second =
     answered (record { table = T; first = u; second = v })
 
 -- the table that the cells stand for, and the programs, are those that the images hold
-pub record ProgramsLoaded (table first second cells : List ℕ) (size first-count second-count : ℕ) : Type 0 where
+pub record ProgramsLoaded (table first second cells : List ℕ) (size first-count second-count first-weight second-weight : ℕ) : Type 0 where
   pub forward : Forward cells size first first-count second second-count
+  pub weights : Weigh cells size first first-weight second second-weight
   pub reads : Compares table first second (forward .table) (forward .pair .one .word) (forward .pair .two .word)
 
-abbrev pub ProgramsDone : List ℕ → List ℕ → List ℕ → List ℕ → ProgramsRead → Type 0
-ProgramsDone table first second cells (ProgramsAnswer size m n) = ProgramsLoaded table first second cells size m n
-ProgramsDone table first second cells (RefusedAnswer r) = readImages readForward table first second ≡ refusal r
+-- .. of either sign
+pub record TwoAccepted (size : ℕ) (first : List ℕ) (first-count : ℕ) (second : List ℕ) (second-count : ℕ) : Type 0 where
+  pub one : Accepted first size first-count
+  pub two : Accepted second size second-count
+
+pub record SignedRuns (cells : List ℕ) (size : ℕ) (first : List ℕ) (first-count : ℕ) (second : List ℕ) (second-count : ℕ) : Type 0 where
+  pub table : Presentation
+  pub of : Of cells size table
+  pub programs : TwoAccepted size first first-count second second-count
+
+pub record SignedLoaded (table first second cells : List ℕ) (size first-count second-count first-weight second-weight : ℕ) : Type 0 where
+  pub runs : SignedRuns cells size first first-count second second-count
+  pub first-weighs : first-weight ≡ cellsWeigh cells (runs .programs .one .program .word)
+  pub second-weighs : second-weight ≡ cellsWeigh cells (runs .programs .two .program .word)
+  pub table-read : readTable table ≡ answered (runs .table)
+
+abbrev pub BothAs : Signs → List ℕ → List ℕ → List ℕ → List ℕ → ℕ → ℕ → ℕ → ℕ → ℕ → Type 0
+BothAs Any table first second cells size m n one two = SignedLoaded table first second cells size m n one two
+BothAs ForwardAlone table first second cells size m n one two = ProgramsLoaded table first second cells size m n one two
+
+abbrev pub ProgramsDone : List ℕ → List ℕ → List ℕ → Signs → List ℕ → ProgramsRead → Type 0
+ProgramsDone table first second s cells (ProgramsAnswer size m n one two) = BothAs s table first second cells size m n one two
+ProgramsDone table first second s cells (RefusedAnswer r) = readImages (readAs s) table first second ≡ refusal r

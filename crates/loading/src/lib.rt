@@ -1,4 +1,3 @@
 // Images read and programs loaded into the workspace, as the services begin.
-pub mod comparison;
 pub mod loading;
-pub mod weighing;
+pub mod reversing;

@@ -1,5 +1,6 @@
 // Unpack a program: its letters, a byte each, in the answer area.
 
+use cells::layout::CELLS;
 use images::programs;
 use images::programs::ProgramRead;
 use images::tables;
@@ -20,11 +21,16 @@ pub fn unpack(table: &[u8], program: &[u8], answer: &mut [u8]) -> Packed
     ensures readable { λ r. ⌜ ReadsBack (programUnder (now (table .entry)) (now (program .entry))) (plainProgramUnder (now (table .entry))) (packedAs r) (now (answer .exit)) ⌝ }
     ensures undone { λ r. ⌜ Undone (packProgram (now (table .entry))) (now (program .entry)) (packedAs r) (now (answer .exit)) ⌝ }
 {
-    match tables::table_size(table) {
+    let mut cells = [0u8; CELLS];
+    match tables::read_table(table, &mut cells) {
         TableRead::Refused(refusal) => Packed::Refused(refusal),
-        TableRead::Table { size } => match programs::read_program(program, size) {
+        TableRead::Table { size } => match programs::read_program(program, &cells, size) {
             ProgramRead::Refused(refusal) => Packed::Refused(refusal),
-            ProgramRead::Program { count } => {
+            ProgramRead::Program {
+                count,
+                forward: _,
+                weight: _,
+            } => {
                 let bytes = count as usize;
                 if answer.len() < bytes {
                     return Packed::Refused(Refusal::AnswerShort);

@@ -7,15 +7,16 @@ ghost use Rattle.model.specs.Areas.{remainderBytes, outputAfter, workspaceAfter
 ghost use Rattle.model.specs.Stated.{counted, remaining};
 ghost use Rattle.engine.specs.Run.{Finishable};
 ghost use Rattle.loading.specs.Loading.{Forward};
+ghost use Rattle.loading.specs.Weighing.{Weigh};
 ghost use Rattle.remainders.specs.Remainder.{AnswerOf, Concludes, RemainderMeaning};
 use areas::bytes::copy_bytes;
 use areas::bytes::wipe;
 use cells::layout::CELLS;
 use clearing::clear::clear_cells;
-use loading::comparison::run_programs;
+use images::programs::Signs;
 use loading::loading::ProgramsRead;
 use loading::loading::read_programs;
-use loading::weighing::program_weight;
+use loading::reversing::reverse_images;
 use model::answers::Cleared;
 use model::answers::Ending;
 use model::answers::Refusal;
@@ -51,8 +52,8 @@ pub fn answer_ending(ending: Ending, workspace: &[u8], answer: &mut [u8]) -> Rem
     }
 }
 
-// Two accepted forward programs, the part done and the pattern, under a table that was loaded. The workspace is wiped, unless the weight
-// check refused.
+// Two accepted forward programs, the part done and the pattern, which weigh `one` and `two`, under a table that was loaded. The workspace is
+// wiped, unless the weight check refused.
 pub fn remainder_programs(
     cells: &[u8],
     size: u8,
@@ -60,23 +61,24 @@ pub fn remainder_programs(
     m: u16,
     pattern: &[u8],
     n: u16,
+    one: u16,
+    two: u16,
     budget: u16,
     workspace: &mut [u8],
     answer: &mut [u8],
 ) -> Remaining
-    requires { ⌜ Forward (now cells) size (now done) m (now pattern) n ⌝ }
+    requires programs { ⌜ Forward (now cells) size (now done) m (now pattern) n ⌝ }
+    requires weights { ⌜ Weigh (now cells) size (now done) one (now pattern) two ⌝ }
     ensures { λ r. ⌜ Concludes (now (cells .entry)) size (now (done .entry)) (now (pattern .entry)) budget (now (workspace .entry)) (now (workspace .exit)) (now (answer .entry)) (now (answer .exit)) r ⌝ }
 {
     let clear = clear_cells(cells, size, budget, workspace);
     match clear {
         Cleared::Refused(refusal) => Remaining::Refused(refusal),
         Cleared::Passed => {
-            let over = program_weight(cells, size, pattern, n);
-            let under = program_weight(cells, size, done, m);
-            if over < under {
+            if two < one {
                 return Remaining::Nothing { steps: 0 };
             }
-            let ending = run_programs(cells, size, done, m, pattern, n, budget, workspace);
+            let ending = reverse_images(cells, size, done, m, pattern, n, budget, workspace);
             let result = answer_ending(ending, workspace, answer);
             wipe(workspace);
             result
@@ -98,16 +100,24 @@ pub fn remainder(
     ensures meaning { λ r. ⌜ RemainderMeaning (now (table .entry)) (now (done .entry)) (now (pattern .entry)) allowance (length (now (workspace .entry))) (length (now (answer .entry))) (remaining r) (now (answer .exit)) ⌝ }
 {
     let mut cells = [0u8; CELLS];
-    let read = read_programs(table, done, pattern, &mut cells);
+    let read = read_programs(table, done, pattern, Signs::Forward, &mut cells);
     match read {
         ProgramsRead::Refused(refusal) => Remaining::Refused(refusal),
-        ProgramsRead::Programs { size, m, n } => remainder_programs(
+        ProgramsRead::Programs {
+            size,
+            m,
+            n,
+            first_weight,
+            second_weight,
+        } => remainder_programs(
             &cells,
             size,
             done,
             m,
             pattern,
             n,
+            first_weight,
+            second_weight,
             allowance,
             workspace,
             answer,

@@ -11,9 +11,10 @@ ghost use Rattle.reversal.specs.Reverse.{AnswerOf, ProgramAnswered, Reve
 use crate::fraction::write_fraction;
 use areas::bytes::wipe;
 use cells::layout::CELLS;
+use images::programs::Signs;
 use loading::loading::TableProgram;
 use loading::loading::read_table_program;
-use loading::loading::run_program;
+use loading::reversing::reverse_image;
 use model::answers::Ending;
 use model::answers::Refusal;
 use model::answers::Reversed;
@@ -59,7 +60,7 @@ pub fn reverse_program(
     requires { ⌜ ProgramRuns (now cells) size (now program) count ⌝ }
     ensures { λ r. ⌜ ProgramAnswered (now (cells .entry)) size (now (program .entry)) budget (now (workspace .entry)) (now (workspace .exit)) (now (answer .entry)) (now (answer .exit)) r ⌝ }
 {
-    let ending = run_program(cells, size, program, count, budget, workspace);
+    let ending = reverse_image(cells, size, program, count, budget, workspace);
     let result = answer_ending(ending, workspace, answer);
     wipe(workspace);
     result
@@ -78,17 +79,13 @@ pub fn reverse(
     ensures meaning { λ r. ⌜ ReverseMeaning (now (table .entry)) (now (program .entry)) (reversed r) (now (answer .exit)) ⌝ }
 {
     let mut cells = [0u8; CELLS];
-    let read = read_table_program(table, program, &mut cells);
+    let read = read_table_program(table, program, Signs::Any, &mut cells);
     match read {
         TableProgram::Refused(refusal) => Reversed::Refused(refusal),
-        TableProgram::Loaded { size, count } => reverse_program(
-            &cells,
+        TableProgram::Loaded {
             size,
-            program,
             count,
-            allowance,
-            workspace,
-            answer,
-        ),
+            weight: _,
+        } => reverse_program(&cells, size, program, count, allowance, workspace, answer),
     }
 }

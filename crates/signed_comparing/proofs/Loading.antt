@@ -1,4 +1,4 @@
--- Two programs of any signs at the workspace's end, and the reading of them.
+-- Two programs of any signs at the workspace's end.
 use mathlib.Core.Path.{_≡_, sym, ap, subst, _∙_}
 use mathlib.Core.List.{List, [], _++_, append-assoc, append-nil}
 use Prim.Native.Nat.{ℕ, _+_, _≤_}
@@ -11,16 +11,11 @@ use Rattle.model.specs.Plain.{plainProgram}
 use Rattle.model.specs.Range.{LetterInRange, Lettered, ProgramInRange}
 use Rattle.theory.proofs.Letters.{all-append, inverse-lettered}
 use Rattle.model.specs.Areas.{written}
-use Rattle.images.specs.Programs.{ProgramOf}
 use Rattle.engine.specs.Gap.{letters, wordAt, Searched}
 use Rattle.engine.specs.Words.{Inverted}
 use Rattle.engine.proofs.Letters.{letters-append}
 use Rattle.cells.specs.Stands.{Serves, Of}
-use Rattle.loading.specs.Loading.{ProgramLoaded}
 use Rattle.loading.proofs.Programs.{byte-letters}
-use Rattle.signed_comparing.specs.Running.{SignedLoaded}
-
--- LOADING
 
 -- the inverse of w stands from `right` on, then v, up to the end
 module _ (size : ℕ) (few : size ≤ 16) (w v : Word) (pw : ProgramInRange size w) (pv : ProgramInRange size v) (start turned : List ℕ) (right m n : ℕ) (wm : length w ≡ m) (vn : length v ≡ n)
@@ -93,14 +88,3 @@ module _ (cells : List ℕ) (size : ℕ) (T : Presentation) (o : Of cells size T
     stands = o .stands;
     lettered = rw word-is (subst (λ n. Lettered n (inverse w ++ v)) (sym (o .sized)) (all-append (LetterInRange size) (inverse w) v (inverse-lettered size w (pw .letters)) (pv .letters)));
   }
-
--- READING
-
-pub signed-loaded : (table first second : List ℕ) {cells : List ℕ} {size m n : ℕ} → ProgramLoaded table first cells size m → ProgramOf second size n
-    → SignedLoaded table first second cells size m n
-signed-loaded table first second l two =
-    let r = l .runs in
-    record {
-      runs = record { table = r .table; of = r .of; programs = record { one = r .accepted; two = record { some = r .accepted .some; few = r .accepted .few; program = two } } };
-      table-read = l .table-read;
-    }

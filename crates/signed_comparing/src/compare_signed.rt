@@ -4,15 +4,16 @@ ghost use lib.ListN.{length};
 ghost use Rattle.model.specs.Areas.{workspaceAfter};
 ghost use Rattle.model.specs.Stated.{comparedSigned};
 ghost use Rattle.model.specs.Signed.{compareSigned};
-ghost use Rattle.signed_comparing.specs.Running.{SignedRuns};
+ghost use Rattle.loading.specs.Loading.{SignedRuns};
 ghost use Rattle.signed_comparing.specs.Service.{afterFirstAs, Ran, Settles, SignedCompared, SignedSays};
 use crate::fraction::compare_fraction;
 use crate::preparing::prepare;
-use crate::running::read_signed;
-use crate::running::run_signed;
+use crate::running::reverse_signed;
 use areas::bytes::wipe;
 use cells::layout::CELLS;
+use images::programs::Signs;
 use loading::loading::ProgramsRead;
+use loading::loading::read_programs;
 use model::answers::Cleared;
 use model::answers::Compared;
 use model::answers::ComparedSigned;
@@ -79,7 +80,7 @@ pub fn compare_loaded(
     match clear {
         Cleared::Refused(refusal) => ComparedSigned::Refused(refusal),
         Cleared::Passed => {
-            let ending = run_signed(cells, size, first, m, second, n, budget, workspace);
+            let ending = reverse_signed(cells, size, first, m, second, n, budget, workspace);
             let answer = settle(cells, ending, budget, workspace);
             wipe(workspace);
             answer
@@ -99,18 +100,15 @@ pub fn compare_signed(
     ensures meaning { λ r. ⌜ SignedSays (now (table .entry)) (now (first .entry)) (now (second .entry)) allowance (length (now (workspace .entry))) (comparedSigned r) ⌝ }
 {
     let mut cells = [0u8; CELLS];
-    let read = read_signed(table, first, second, &mut cells);
+    let read = read_programs(table, first, second, Signs::Any, &mut cells);
     match read {
         ProgramsRead::Refused(refusal) => ComparedSigned::Refused(refusal),
-        ProgramsRead::Programs { size, m, n } => compare_loaded(
-            &cells,
+        ProgramsRead::Programs {
             size,
-            first,
             m,
-            second,
             n,
-            allowance,
-            workspace,
-        ),
+            first_weight: _,
+            second_weight: _,
+        } => compare_loaded(&cells, size, first, m, second, n, allowance, workspace),
     }
 }

@@ -1,38 +1,15 @@
-// Two programs of any signs, read and reversed: the first one's inverse, then the second.
+// Two programs of any signs, loaded and reversed: the first one's inverse, then the second.
 ghost use mathlib.Core.Path.{_≡_};
 ghost use Prim.Native.Nat.{_+_};
 ghost use lib.ListN.{length};
-ghost use Rattle.cells.specs.Stands.{Blank};
-ghost use Rattle.signed_comparing.specs.Running.{TwoAccepted, LoadsSigned, SignedRuns, SignedReverses, SignedDone};
+ghost use Rattle.loading.specs.Loading.{TwoAccepted, SignedRuns};
+ghost use Rattle.signed_comparing.specs.Running.{LoadsSigned, SignedReverses};
 use engine::gap::Gap;
 use engine::run::reversing;
 use engine::words::invert;
-use images::programs::ProgramRead;
-use images::programs::read_program;
 use images::programs::unpack_letters;
-use loading::loading::ProgramsRead;
-use loading::loading::TableProgram;
-use loading::loading::read_table_program;
 use model::answers::Ending;
 use model::answers::Stop;
-
-// Reads a table image into cells, then the images of two programs.
-pub fn read_signed(table: &[u8], first: &[u8], second: &[u8], cells: &mut [u8]) -> ProgramsRead
-    requires { ⌜ Blank (now cells) ⌝ }
-    ensures { λ r. ⌜ SignedDone (now (table .entry)) (now (first .entry)) (now (second .entry)) (now (cells .exit)) r ⌝ }
-{
-    let read = read_table_program(table, first, cells);
-    match read {
-        TableProgram::Refused(refusal) => ProgramsRead::Refused(refusal),
-        TableProgram::Loaded { size, count: m } => {
-            let two = read_program(second, size);
-            match two {
-                ProgramRead::Refused(refusal) => ProgramsRead::Refused(refusal),
-                ProgramRead::Program { count: n } => ProgramsRead::Programs { size, m, n },
-            }
-        }
-    }
-}
 
 // The inverse of the first program, then the second, at the workspace's end, from `right` on: a site may begin in either.
 pub fn load_signed(
@@ -55,7 +32,7 @@ pub fn load_signed(
 }
 
 // Reverses the first program's inverse, then the second program.
-pub fn run_signed(
+pub fn reverse_signed(
     cells: &[u8],
     size: u8,
     first: &[u8],

@@ -59,7 +59,7 @@ pub fn spells(bytes: &[u8], letters: usize, program: &[u8], size: u8, count: u16
     if letters != count as usize {
         return false;
     }
-    let width = letter_width(size) as usize;
+    let width = letter_width(size) as u32;
     let mut i: usize = 0;
     while i < letters {
         if bytes[i] != letter_at(program, size, width, i) {

@@ -14,23 +14,27 @@ use Rattle.model.specs.Services.{sizes, Fraction, reverse}
 use Rattle.model.specs.Areas.{begins, fractionBytes, outputAfter, written}
 use Rattle.model.specs.Stated.{refusal}
 use Rattle.model.specs.declared.answers.Refusal.{Refusal}
-use Rattle.images.specs.Tables.{SizeOf}
+use Rattle.cells.proofs.Rules.{of-some, of-few}
+use Rattle.loading.specs.Loading.{ProgramLoaded}
 use Rattle.images.proofs.RoundTrip.{program-in-range}
 use Rattle.text.specs.Text.{wordText, bytesText, answerText, outcomeText, report}
 use Rattle.text.specs.Put.{Put}
 use Rattle.text.specs.Render.{Readable, Reported}
 use Rattle.reversal.proofs.Told.{Sized, mapped-answered}
-use Rattle.text.proofs.Reports.{outcome, no-program, no-answer, answer, bytes-word, numerator-part, denominator-part}
+use Rattle.text.proofs.Reports.{outcome, no-answer, answer, bytes-word, numerator-part, denominator-part}
 
 pub reported : {most : ℕ} {table program before text after : List ℕ} {r : ℕ} → Put most before 0 text after r → most ≤ length before → text ≡ report table program
     → Reported table program after r
 reported p h e = record { inside = omega (arith, p .near, p .same-length); text = p .appended ∙ e }
 
--- a table of so many letters, and a program that is refused under it
-pub program-refused : (table program : List ℕ) (size : ℕ) (t : SizeOf table size) (r : Refusal) → readProgram size program ≡ refusal r
-    → outcomeText (refusal r) ≡ report table program
-program-refused table program size t r e =
-    no-program table program (t .table) (t .read) r (ap (λ n. readProgram n program) (t .size-is) ∙ e)
+-- what was loaded can be read
+pub readable : {table program cells : List ℕ} {size count weight : ℕ} → ProgramLoaded table program cells size count weight → Readable table program size count
+readable l =
+    let o = l .runs .of in
+    record {
+      table-read = record { table = l .runs .table; read = l .table-read; size-is = o .sized; some = of-some o; few = of-few o };
+      program-read = l .runs .accepted;
+    }
 
 module _ (table program : List ℕ) (size count : ℕ) (q : Readable table program size count) (width area : ℕ) (ew : width ≡ 32768)
     (ea : area ≡ 32768) where

@@ -16,6 +16,8 @@ use Rattle.model.specs.declared.answers.Refusal.{Refusal}
 use Rattle.model.specs.Range.{All, LetterInRange}
 use Rattle.model.proofs.Outcomes.{still-refused, goes-on}
 use Rattle.engine.proofs.Letters.{letter-forward, letter-back}
+use Rattle.loading.specs.Loading.{readTableWith}
+use Rattle.loading.proofs.Reading.{program-still-refused}
 use Rattle.reversal.proofs.Told.{mapped-refused}
 use Rattle.text.specs.Text.{letterText, wordText, bytesText, answerText, outcomeText, reading, report}
 
@@ -27,17 +29,13 @@ module _ (table program : List ℕ) where
   abbrev text : Presentation → Word → Fraction → Outcome (List ℕ)
   text T w f = answered (answerText (T .size) (wordText w) (f .numerator) (f .denominator) (f .steps))
 
-  pub no-table : (r : Refusal) → readTable table ≡ refusal r → outcomeText (refusal r) ≡ report table program
+  pub not-read : (r : Refusal) → readTableWith readProgram table program ≡ refusal r → outcomeText (refusal r) ≡ report table program
   unfolding report
-  no-table r e = sym (ap outcomeText (still-refused (readTable table) r e (λ T. readProgram (T .size) program >>= λ w. outcome >>= text T w)))
+  not-read r e = sym (ap outcomeText (program-still-refused readProgram table program (λ T w. outcome >>= text T w) r e))
 
   module _ (T : Presentation) (e : readTable table ≡ answered T) where
     read-table : reading table program ≡ (readProgram (T .size) program >>= λ w. outcome >>= text T w)
     read-table = goes-on (readTable table) T e (λ T. readProgram (T .size) program >>= λ w. outcome >>= text T w)
-
-    pub no-program : (r : Refusal) → readProgram (T .size) program ≡ refusal r → outcomeText (refusal r) ≡ report table program
-    unfolding report
-    no-program r f = sym (ap outcomeText (read-table ∙ still-refused (readProgram (T .size) program) r f (λ w. outcome >>= text T w)))
 
     module _ (w : Word) (f : readProgram (T .size) program ≡ answered w) where
       read-both : reading table program ≡ (outcome >>= text T w)

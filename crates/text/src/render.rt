@@ -1,13 +1,12 @@
 // The report of a table image and a program image.
-ghost use Rattle.images.specs.Tables.{SizeOf};
 ghost use Rattle.text.specs.Render.{Areas, Readable, Reported};
 use crate::lines::put_areas;
 use crate::refusals::put_refusal;
-use images::programs::ProgramRead;
-use images::programs::read_program;
+use cells::layout::CELLS;
+use images::programs::Signs;
 use images::programs::unpack_letters;
-use images::tables::TableRead;
-use images::tables::table_size;
+use loading::loading::TableProgram;
+use loading::loading::read_table_program;
 use model::answers::Reversed;
 use reversal::reverse::reverse;
 
@@ -47,33 +46,6 @@ pub fn render_accepted(
     }
 }
 
-// Under a table that was read.
-pub fn render_program(
-    table: &[u8],
-    size: u8,
-    program: &[u8],
-    workspace: &mut [u8],
-    answer: &mut [u8],
-    out: &mut [u8],
-) -> usize
-    requires { ⌜ Areas (now workspace) (now answer) (now out) × SizeOf (now table) size ⌝ }
-    ensures { λ r. ⌜ Reported (now (table .entry)) (now (program .entry)) (now (out .exit)) r ⌝ }
-{
-    let read = read_program(program, size);
-    match read {
-        ProgramRead::Refused(refused) => put_refusal(out, refused),
-        ProgramRead::Program { count } => render_accepted(
-            table,
-            size,
-            program,
-            count,
-            workspace,
-            answer,
-            out,
-        ),
-    }
-}
-
 pub fn render(
     table: &[u8],
     program: &[u8],
@@ -84,9 +56,14 @@ pub fn render(
     requires { ⌜ Areas (now workspace) (now answer) (now out) ⌝ }
     ensures { λ r. ⌜ Reported (now (table .entry)) (now (program .entry)) (now (out .exit)) r ⌝ }
 {
-    let read = table_size(table);
+    let mut cells = [0u8; CELLS];
+    let read = read_table_program(table, program, Signs::Any, &mut cells);
     match read {
-        TableRead::Refused(refused) => put_refusal(out, refused),
-        TableRead::Table { size } => render_program(table, size, program, workspace, answer, out),
+        TableProgram::Refused(refused) => put_refusal(out, refused),
+        TableProgram::Loaded {
+            size,
+            count,
+            weight: _,
+        } => render_accepted(table, size, program, count, workspace, answer, out),
     }
 }

@@ -19,38 +19,46 @@ use cells::layout::CELLS;
 use clearing::clear::clear_cells;
 use comparing::compare::compare_cleared;
 use images::programs::ProgramRead;
-use images::programs::read_forward;
+use images::programs::Signs;
+use images::programs::read_as;
 use loading::loading::TableProgram;
-use loading::loading::read_table_forward;
+use loading::loading::read_table_program;
 use model::answers::Cleared;
 use model::answers::Compared;
 use model::answers::Refusal;
 use model::answers::TrayCompared;
 
-// One log against the pattern, under a table that has cleared. The workspace is all zero before and after.
+// One log against the pattern, which weighs `weight`, under a table that has cleared. The workspace is all zero before and after.
 pub fn compare_log(
     cells: &[u8],
     size: u8,
     log: &[u8],
     pattern: &[u8],
     n: u16,
+    weight: u16,
     budget: u16,
     workspace: &mut [u8],
 ) -> Compared
-    requires pattern { ⌜ ForwardRuns (now cells) size (now pattern) n ⌝ }
+    requires pattern { ⌜ ForwardRuns (now cells) size (now pattern) n weight ⌝ }
     requires zero { ⌜ now workspace ≡ replicate (length (now workspace)) 0 ⌝ }
     ensures { λ r. ⌜ LogCompared (now (cells .entry)) size (now (log .entry)) (now (pattern .entry)) budget (now (workspace .entry)) (now (workspace .exit)) r ⌝ }
 {
-    let read = read_forward(log, size);
+    let read = read_as(log, cells, size, Signs::Forward);
     match read {
         ProgramRead::Refused(refusal) => Compared::Refused(refusal),
-        ProgramRead::Program { count } => compare_cleared(
+        ProgramRead::Program {
+            count,
+            forward: _,
+            weight: own,
+        } => compare_cleared(
             cells,
             size,
             log,
             count,
             pattern,
             n,
+            own,
+            weight,
             budget,
             workspace,
         ),
@@ -65,12 +73,13 @@ pub fn answer_log(
     at: usize,
     pattern: &[u8],
     n: u16,
+    weight: u16,
     budget: u16,
     workspace: &mut [u8],
     answer: &mut [u8],
     place: usize,
 ) -> usize
-    requires pattern { ⌜ ForwardRuns (now cells) size (now pattern) n ⌝ }
+    requires pattern { ⌜ ForwardRuns (now cells) size (now pattern) n weight ⌝ }
     requires zero { ⌜ now workspace ≡ replicate (length (now workspace)) 0 ⌝ }
     requires log { ⌜ at + 2 + lengthAt (now tray) at ≤ length (now tray) ⌝ }
     requires room { ⌜ place + 3 ≤ length (now answer) ⌝ }
@@ -84,6 +93,7 @@ pub fn answer_log(
         &tray[start..end],
         pattern,
         n,
+        weight,
         budget,
         workspace,
     );
@@ -99,11 +109,12 @@ pub fn answer_logs(
     logs: u8,
     pattern: &[u8],
     n: u16,
+    weight: u16,
     budget: u16,
     workspace: &mut [u8],
     answer: &mut [u8],
 )
-    requires pattern { ⌜ ForwardRuns (now cells) size (now pattern) n ⌝ }
+    requires pattern { ⌜ ForwardRuns (now cells) size (now pattern) n weight ⌝ }
     requires zero { ⌜ now workspace ≡ replicate (length (now workspace)) 0 ⌝ }
     requires logs { ⌜ LogsOf (now tray) logs ⌝ }
     requires room { ⌜ 3 * logs ≤ length (now answer) ⌝ }
@@ -120,6 +131,7 @@ pub fn answer_logs(
             at,
             pattern,
             n,
+            weight,
             budget,
             workspace,
             answer,
@@ -138,11 +150,12 @@ pub fn compare_tray(
     logs: u8,
     pattern: &[u8],
     n: u16,
+    weight: u16,
     budget: u16,
     workspace: &mut [u8],
     answer: &mut [u8],
 ) -> TrayCompared
-    requires pattern { ⌜ ForwardRuns (now cells) size (now pattern) n ⌝ }
+    requires pattern { ⌜ ForwardRuns (now cells) size (now pattern) n weight ⌝ }
     requires logs { ⌜ LogsOf (now tray) logs ⌝ }
     ensures { λ r. ⌜ TrayJudged (now (cells .entry)) size (now (tray .entry)) logs (now (pattern .entry)) budget (now (workspace .entry)) (now (workspace .exit)) (now (answer .entry)) (now (answer .exit)) r ⌝ }
 {
@@ -160,6 +173,7 @@ pub fn compare_tray(
                 logs,
                 pattern,
                 n,
+                weight,
                 budget,
                 workspace,
                 answer,
@@ -183,16 +197,21 @@ pub fn tray_under(
     ensures { λ r. ⌜ TrayStated (now (table .entry)) (now (tray .entry)) (now (pattern .entry)) budget (now (workspace .entry)) (now (workspace .exit)) (now (answer .entry)) (now (answer .exit)) r ⌝ }
 {
     let mut cells = [0u8; CELLS];
-    let read = read_table_forward(table, pattern, &mut cells);
+    let read = read_table_program(table, pattern, Signs::Forward, &mut cells);
     match read {
         TableProgram::Refused(refusal) => TrayCompared::Refused(refusal),
-        TableProgram::Loaded { size, count } => compare_tray(
+        TableProgram::Loaded {
+            size,
+            count,
+            weight,
+        } => compare_tray(
             &cells,
             size,
             tray,
             logs,
             pattern,
             count,
+            weight,
             budget,
             workspace,
             answer,

@@ -12,9 +12,10 @@ use areas::bytes::wipe;
 use cells::layout::CELLS;
 use checks::table::Weights;
 use checks::table::check_weights;
+use images::programs::Signs;
 use images::programs::unpack_letters;
 use loading::loading::TableProgram;
-use loading::loading::read_table_forward;
+use loading::loading::read_table_program;
 use model::answers::Refusal;
 use model::answers::Ways;
 
@@ -46,10 +47,14 @@ pub fn ways(table: &[u8], program: &[u8], answer: &mut [u8]) -> Ways
     ensures meaning { λ r. ⌜ WaysSay (now (table .entry)) (now (program .entry)) (listedAs r) (now (answer .exit)) ⌝ }
 {
     let mut cells = [0u8; CELLS];
-    let read = read_table_forward(table, program, &mut cells);
+    let read = read_table_program(table, program, Signs::Forward, &mut cells);
     match read {
         TableProgram::Refused(refusal) => Ways::Refused(refusal),
-        TableProgram::Loaded { size, count } => {
+        TableProgram::Loaded {
+            size,
+            count,
+            weight: _,
+        } => {
             let weights = check_weights(&cells, size);
             match weights {
                 Weights::Unequal(pair) => Ways::Refused(Refusal::UnequalWeights(pair)),

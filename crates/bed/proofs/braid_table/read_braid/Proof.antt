@@ -1,17 +1,36 @@
 -- `bed::braid_table::read_braid` meets its contract.
 use mathlib.Core.Path.{sym, subst, _∙_}
+use mathlib.Core.List.{List}
+use Prim.Native.Nat.{ℕ}
 use Rattle.images.specs.Tables.{TableOf, TableDone}
-use Rattle.cells.proofs.Rules.{blank-zeros}
 use Rattle.bed.proofs.Service.{braid-of, table-refused, braid-refused}
 use borrow.Author.Needs.{needs}
 use Rattle.bed.proofs.braid_table.read_braid.Statement.{statement}
 use Rattle.bed.proofs.braid_table.read_braid.Tie as tie
 
-slice-aggregate-read-table : tie.Need-slice-aggregate-read-table
-slice-aggregate-read-table c = search needs
+abbrev start : tie.After-read-table → tie.Start
+start c = c .before .before .before .before
+
+-- where the table was read
+abbrev read-in : tie.After-slice-known2 → tie.After-read-table
+read-in c = c .before .before
+
+abbrev at-table : tie.After-is-braid-arg → tie.After-read-table
+at-table c = read-in (c .before .before .before .before)
+
+abbrev image : tie.After-read-table → List ℕ
+image v = start v .args .image .now
+
+abbrev cells : tie.After-read-table → List ℕ
+cells v = v .read-table .last .1 .0
+
+table-of : (c : tie.After-is-braid-arg) → TableOf (image (at-table c)) (cells (at-table c)) (c .before .before .read2 .given .0 .0)
+table-of c =
+    let v = at-table c in
+    subst (TableDone (image v) (cells v)) (c .before .before .read2 .given .1) (v .read-table .ensures .1)
 
 read-table-requires : tie.Need-read-table-requires
-read-table-requires c κs = blank-zeros
+read-table-requires c κs = search needs
 
 enum-known-read : tie.Need-enum-known-read
 enum-known-read c = search needs
@@ -19,28 +38,27 @@ enum-known-read c = search needs
 enum-known-read-2 : tie.Need-enum-known-read-2
 enum-known-read-2 c = search needs
 
-slice-aggregate-is-braid : tie.Need-slice-aggregate-is-braid
-slice-aggregate-is-braid c = search needs
-
--- the table that was read
-table-of : (c : tie.After-cells3) → TableOf (c .before .before .before .before .before .before .before .before .args .image .now) (c .before .before .before .before .before .read-table .last .1 .0) (c .before .before .read2 .given .0 .0)
-table-of c =
-    let v = c .before .before .before .before .before .read-table in
-    subst (TableDone (c .before .before .before .before .before .before .before .before .args .image .now) (v .last .1 .0)) (c .before .before .read2 .given .1) (v .ensures .1)
-
 is-braid-requires : tie.Need-is-braid-requires
 is-braid-requires c κs = let t = table-of c in (t .table, t .of)
+
+same-length : tie.Need-same-length
+same-length c = search needs
 
 returns : tie.Need-returns
 returns c =
     let t = table-of (c .before .before) in
     braid-of _ _ _ t (sym (c .before .is-braid .ensures (t .table) (t .of)) ∙ c .if1 .taken)
 
+same-length-2 : tie.Need-same-length-2
+same-length-2 c = search needs
+
 returns-2 : tie.Need-returns-2
 returns-2 c =
-    let s = c .before .before .before .before .before .before .before in
-    let v = c .before .before .before .before .read-table in
-    table-refused (s .args .image .now) (c .before .read .given .0 .0) (subst (TableDone (s .args .image .now) (v .last .1 .0)) (c .before .read .given .1) (v .ensures .1))
+    let v = read-in (c .before .before .before) in
+    table-refused (image v) (c .before .read .given .0 .0) (subst (TableDone (image v) (cells v)) (c .before .read .given .1) (v .read-table .ensures .1))
+
+same-length-3 : tie.Need-same-length-3
+same-length-3 c = search needs
 
 returns-3 : tie.Need-returns-3
 returns-3 c =
@@ -51,12 +69,13 @@ pub read-braid-spec : {M : Type 1} → statement M
 read-braid-spec =
     tie.close
     (tie.spec
-    slice-aggregate-read-table
     read-table-requires
     enum-known-read
     enum-known-read-2
-    slice-aggregate-is-braid
     is-braid-requires
+    same-length
     returns
+    same-length-2
     returns-2
+    same-length-3
     returns-3)

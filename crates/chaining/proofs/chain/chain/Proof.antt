@@ -5,6 +5,7 @@ use Rattle.model.specs.Outcome.{mapped}
 use Rattle.model.specs.Services.{chainAnswer}
 use Rattle.model.specs.Areas.{workspaceAfter, ChainArea}
 use Rattle.model.specs.Stated.{compared, chained}
+use Rattle.images.specs.declared.programs.Signs.the-variants.{Forward as ForwardAlone}
 use Rattle.loading.specs.Loading.{ProgramsDone}
 use Rattle.chaining.proofs.ChainService.{answer-workspace, chain-refused, chain-runs, chain-means, area-listed, listed-checks}
 use Rattle.cells.proofs.Rules.{blank-zeros}
@@ -31,21 +32,21 @@ chain-programs-requires : tie.Need-chain-programs-requires
 chain-programs-requires c κs =
     let a = c .before .before .before .before .before .before .before .before .before .before .before .before .before .before .args in
     let v = c .before .before .before .before .before .before .before .read-programs in
-    let t = subst (ProgramsDone (a .table .now) (a .first .now) (a .second .now) (v .last .1 .1 .1 .0)) (c .before .before .before .before .read2 .given .1) (v .ensures) in
-    t .forward
+    let t = subst (ProgramsDone (a .table .now) (a .first .now) (a .second .now) ForwardAlone (v .last .1 .1 .1 .1 .0)) (c .before .before .before .before .read2 .given .1) (v .ensures) in
+    (t .forward, t .weights)
 
 listed-requires : tie.Need-listed-requires
 listed-requires c κs =
     let a = c .before .before .before .before .before .before .before .before .before .before .before .before .before .before .before .before .before .before .before .args in
     let v = c .before .before .before .before .before .before .before .before .before .before .before .before .read-programs in
-    let t = subst (ProgramsDone (a .table .now) (a .first .now) (a .second .now) (v .last .1 .1 .1 .0)) (c .before .before .before .before .before .before .before .before .before .read2 .given .1) (v .ensures) in
+    let t = subst (ProgramsDone (a .table .now) (a .first .now) (a .second .now) ForwardAlone (v .last .1 .1 .1 .1 .0)) (c .before .before .before .before .before .before .before .before .before .read2 .given .1) (v .ensures) in
     (t .forward .pair .some, t .forward .pair .few)
 
 returns : tie.Need-returns
 returns c =
     let a = c .before .before .before .before .before .before .before .before .before .before .before .args in
     let v = c .before .before .before .before .read-programs in
-    let e = subst (ProgramsDone (a .table .now) (a .first .now) (a .second .now) (v .last .1 .1 .1 .0)) (c .before .read .given .1) (v .ensures) in
+    let e = subst (ProgramsDone (a .table .now) (a .first .now) (a .second .now) ForwardAlone (v .last .1 .1 .1 .1 .0)) (c .before .read .given .1) (v .ensures) in
     let r = c .before .read .given .0 .0 in
     let o = chain-refused (a .table .now) (a .first .now) (a .second .now) (a .allowance) (length (a .workspace .now)) (length (a .answer .now)) r e in
     let checks = listed-checks (a .table .now) (a .first .now) (a .second .now) (a .allowance) (length (a .workspace .now)) (a .answer .now) (a .answer .now) _ (o .stated) refl in
@@ -61,14 +62,14 @@ returns-2 : tie.Need-returns-2
 returns-2 c =
     let a = c .before .before .before .before .before .before .before .before .before .before .before .before .before .before .before .before .before .before .before .before .args in
     let v = c .before .before .before .before .before .before .before .before .before .before .before .before .before .read-programs in
-    let t = subst (ProgramsDone (a .table .now) (a .first .now) (a .second .now) (v .last .1 .1 .1 .0)) (c .before .before .before .before .before .before .before .before .before .before .read2 .given .1) (v .ensures) in
+    let t = subst (ProgramsDone (a .table .now) (a .first .now) (a .second .now) ForwardAlone (v .last .1 .1 .1 .1 .0)) (c .before .before .before .before .before .before .before .before .before .before .read2 .given .1) (v .ensures) in
     let f = t .forward in
     let z = c .before .before .before .before .before .chain-programs in
     let l = z .ensures .lists (f .table) (f .of) (f .pair .one .word) (f .pair .two .word) (f .pair .one .read) (f .pair .two .read) in
     let told = c .listed .ensures ∙ ap (λ n. mapped (chainAnswer n) (compared (z .result))) (sym (f .of .sized)) in
     let e = told ∙ (ap (mapped (chainAnswer (f .table .size))) (l .verdict) ∙ sym (chain-runs (a .table .now) (a .first .now) (a .second .now) (a .allowance) (length (a .workspace .now)) (length (a .answer .now)) (f .table) (f .pair .one .word) (f .pair .two .word) (t .reads))) in
-    let area = subst (ChainArea (a .table .now) (a .first .now) (a .second .now) (a .answer .now) (z .last .1 .1 .1 .1 .1 .1 .1 .1 .0)) (sym told) (area-listed (a .table .now) (a .first .now) (a .second .now) (a .answer .now) (z .last .1 .1 .1 .1 .1 .1 .1 .1 .0) (f .table) (f .pair .one .word) (f .pair .two .word) (t .reads) (compared (z .result)) (l .area)) in
-    let checks = listed-checks (a .table .now) (a .first .now) (a .second .now) (a .allowance) (length (a .workspace .now)) (a .answer .now) (z .last .1 .1 .1 .1 .1 .1 .1 .1 .0) (chained (c .listed .result)) e area in
+    let area = subst (ChainArea (a .table .now) (a .first .now) (a .second .now) (a .answer .now) (z .last .1 .1 .1 .1 .1 .1 .1 .1 .1 .1 .0)) (sym told) (area-listed (a .table .now) (a .first .now) (a .second .now) (a .answer .now) (z .last .1 .1 .1 .1 .1 .1 .1 .1 .1 .1 .0) (f .table) (f .pair .one .word) (f .pair .two .word) (t .reads) (compared (z .result)) (l .area)) in
+    let checks = listed-checks (a .table .now) (a .first .now) (a .second .now) (a .allowance) (length (a .workspace .now)) (a .answer .now) (z .last .1 .1 .1 .1 .1 .1 .1 .1 .1 .1 .0) (chained (c .listed .result)) e area in
     let wiped = z .ensures .wiped ∙ (sym (answer-workspace (f .table .size) (compared (z .result)) (a .workspace .now)) ∙ ap (λ x. workspaceAfter x (a .workspace .now)) (sym told ∙ e)) in
     (e, (wiped, (area, (checks, chain-means (a .table .now) (a .first .now) (a .second .now) (a .allowance) (length (a .workspace .now)) (length (a .answer .now)) _ e))))
 

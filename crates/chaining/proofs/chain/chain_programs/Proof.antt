@@ -54,7 +54,7 @@ returns-2 : tie.Need-returns-2
 returns-2 c =
     let s = c .before .before .before .before .before .before .before .before .before .before .before .before .before .before in
     let z = c .before .before .before .before .before .before .before .compare-programs in
-    let p = s .pre .pair in
+    let p = s .pre .0 .pair in
     let k = c .before .before .before .verdict .given .0 .0 in
     let r = c .before .before .before .verdict .given .0 .1 .0 in
     record {
@@ -66,29 +66,29 @@ sub-right : tie.Need-sub-right
 sub-right c =
     let s = c .before .before .before .before .before .before .before .before .before .before .before .before .before .before in
     let z = c .before .before .before .before .before .before .before .compare-programs in
-    let p = s .pre .pair in
+    let p = s .pre .0 .pair in
     let k = c .before .before .before .verdict .given .0 .0 in
     let r = c .before .before .before .verdict .given .0 .1 .0 in
-    omega (arith, programs-fit (s .pre .table) (p .one .word) (p .two .word) (s .args .budget) (length (s .args .workspace .now)) k r ((subst (Judged (s .pre .table) (p .one .word) (p .two .word) (s .args .budget) (length (s .args .workspace .now))) (c .before .before .before .verdict .given .1) (z .ensures .judged (s .pre .table) (s .pre .of) (p .one .word) (p .two .word) (p .one .read) (p .two .read))) .ended), p .one .count-is, p .two .count-is, (ap length (z .ensures .workspace ∙ ap (λ j. workspaceAfter (compared j) (s .args .workspace .now)) (c .before .before .before .verdict .given .1)) ∙ length-replicate (length (s .args .workspace .now)) 0))
+    omega (arith, programs-fit (s .pre .0 .table) (p .one .word) (p .two .word) (s .args .budget) (length (s .args .workspace .now)) k r ((subst (Judged (s .pre .0 .table) (p .one .word) (p .two .word) (s .args .budget) (length (s .args .workspace .now))) (c .before .before .before .verdict .given .1) (z .ensures .judged (s .pre .0 .table) (s .pre .0 .of) (p .one .word) (p .two .word) (p .one .read) (p .two .read))) .ended), p .one .count-is, p .two .count-is, (ap length (z .ensures .workspace ∙ ap (λ j. workspaceAfter (compared j) (s .args .workspace .now)) (c .before .before .before .verdict .given .1)) ∙ length-replicate (length (s .args .workspace .now)) 0))
 
 load-programs-requires : tie.Need-load-programs-requires
 load-programs-requires c κs =
     let s = c .before .before .before .before .before .before .before .before .before .before .before .before .before .before .before in
     let z = c .before .before .before .before .before .before .before .before .compare-programs in
-    let p = s .pre .pair in
+    let p = s .pre .0 .pair in
     let k = c .before .before .before .before .verdict .given .0 .0 in
     let r = c .before .before .before .before .verdict .given .0 .1 .0 in
-    (p, omega (arith, programs-fit (s .pre .table) (p .one .word) (p .two .word) (s .args .budget) (length (s .args .workspace .now)) k r ((subst (Judged (s .pre .table) (p .one .word) (p .two .word) (s .args .budget) (length (s .args .workspace .now))) (c .before .before .before .before .verdict .given .1) (z .ensures .judged (s .pre .table) (s .pre .of) (p .one .word) (p .two .word) (p .one .read) (p .two .read))) .ended), p .one .count-is, p .two .count-is, (ap length (z .ensures .workspace ∙ ap (λ j. workspaceAfter (compared j) (s .args .workspace .now)) (c .before .before .before .before .verdict .given .1)) ∙ length-replicate (length (s .args .workspace .now)) 0)))
+    (p, omega (arith, programs-fit (s .pre .0 .table) (p .one .word) (p .two .word) (s .args .budget) (length (s .args .workspace .now)) k r ((subst (Judged (s .pre .0 .table) (p .one .word) (p .two .word) (s .args .budget) (length (s .args .workspace .now))) (c .before .before .before .before .verdict .given .1) (z .ensures .judged (s .pre .0 .table) (s .pre .0 .of) (p .one .word) (p .two .word) (p .one .read) (p .two .read))) .ended), p .one .count-is, p .two .count-is, (ap length (z .ensures .workspace ∙ ap (λ j. workspaceAfter (compared j) (s .args .workspace .now)) (c .before .before .before .before .verdict .given .1)) ∙ length-replicate (length (s .args .workspace .now)) 0)))
 
 list-requires : tie.Need-list-requires
 list-requires c κs =
     let s = c .before .before .before .before .before .before .before .before .before .before .before .before .before .before .before .before .before .before .before .before in
     let z = c .before .before .before .before .before .before .before .before .before .before .before .before .before .compare-programs in
-    let p = s .pre .pair in
+    let p = s .pre .0 .pair in
     let l = c .before .before .before .before .load-programs in
     let k = c .before .before .before .before .before .before .before .before .before .verdict .given .0 .0 in
     let r = c .before .before .before .before .before .before .before .before .before .verdict .given .0 .1 .0 in
-    ((s .pre .table), (p .one .word), (p .two .word), k, listed-from (s .args .cells .now) (s .args .size) (s .pre .table) (s .pre .of) (p .one .word) (p .two .word) (s .args .first .now) (s .args .second .now) (s .args .m) (s .args .n) (p .one) (p .two) refl refl (s .args .budget) (length (s .args .workspace .now)) k r ((subst (Judged (s .pre .table) (p .one .word) (p .two .word) (s .args .budget) (length (s .args .workspace .now))) (c .before .before .before .before .before .before .before .before .before .verdict .given .1) (z .ensures .judged (s .pre .table) (s .pre .of) (p .one .word) (p .two .word) (p .one .read) (p .two .read))) .ended) (l .last .1 .1 .1 .1 .1 .0) (length (z .last .1 .1 .1 .1 .1 .1 .1 .0) - s .args .n) (l .ensures .same-length ∙ (ap length (z .ensures .workspace ∙ ap (λ j. workspaceAfter (compared j) (s .args .workspace .now)) (c .before .before .before .before .before .before .before .before .before .verdict .given .1)) ∙ length-replicate (length (s .args .workspace .now)) 0)) (l .ensures .loads (s .args .cells .now) (s .pre .table) (s .pre .of) (p .one .word) (p .two .word) (p .one .read) (p .two .read)) (length (s .args .answer .now)) (omega (arith, c .before .before .before .before .before .before .if1 .left, c .before .before .before .before .before .before .before .chain-bytes .ensures)))
+    ((s .pre .0 .table), (p .one .word), (p .two .word), k, listed-from (s .args .cells .now) (s .args .size) (s .pre .0 .table) (s .pre .0 .of) (p .one .word) (p .two .word) (s .args .first .now) (s .args .second .now) (s .args .m) (s .args .n) (p .one) (p .two) refl refl (s .args .budget) (length (s .args .workspace .now)) k r ((subst (Judged (s .pre .0 .table) (p .one .word) (p .two .word) (s .args .budget) (length (s .args .workspace .now))) (c .before .before .before .before .before .before .before .before .before .verdict .given .1) (z .ensures .judged (s .pre .0 .table) (s .pre .0 .of) (p .one .word) (p .two .word) (p .one .read) (p .two .read))) .ended) (l .last .1 .1 .1 .1 .1 .0) (length (z .last .1 .1 .1 .1 .1 .1 .1 .1 .1 .0) - s .args .n) (l .ensures .same-length ∙ (ap length (z .ensures .workspace ∙ ap (λ j. workspaceAfter (compared j) (s .args .workspace .now)) (c .before .before .before .before .before .before .before .before .before .verdict .given .1)) ∙ length-replicate (length (s .args .workspace .now)) 0)) (l .ensures .loads (s .args .cells .now) (s .pre .0 .table) (s .pre .0 .of) (p .one .word) (p .two .word) (p .one .read) (p .two .read)) (length (s .args .answer .now)) (omega (arith, c .before .before .before .before .before .before .if1 .left, c .before .before .before .before .before .before .before .chain-bytes .ensures)))
 
 wipe-requires : tie.Need-wipe-requires
 wipe-requires c κs = search needs
@@ -103,7 +103,7 @@ returns-3 : tie.Need-returns-3
 returns-3 c =
     let s = c .before .before .before .before .before .before .before .before .before .before .before .before .before .before .before .before .before .before .before .before .before .before .before .before .before .before .before .before .before in
     let z = c .before .before .before .before .before .before .before .before .before .before .before .before .before .before .before .before .before .before .before .before .before .before .compare-programs in
-    let p = s .pre .pair in
+    let p = s .pre .0 .pair in
     let l = c .before .before .before .before .before .before .before .before .before .before .before .before .before .load-programs in
     let h = c .before .before .before .before .before .before .before .before .list in
     let w = c .before .before .wipe in
@@ -116,7 +116,7 @@ returns-3 c =
           let fv : p .two .word ≡ v = same-answer (p .two .word) v (sym (p .two .read) ∙ ev) in
           lists-chain T u v (s .args .budget) (length (s .args .workspace .now)) (s .args .answer .now) (s .args .size) k r (o .sized) (subst (Judged T u v (s .args .budget) (length (s .args .workspace .now))) (c .before .before .before .before .before .before .before .before .before .before .before .before .before .before .before .before .before .before .verdict .given .1) (z .ensures .judged T o u v eu ev))
           (omega (arith, c .before .before .before .before .before .before .before .before .before .before .before .before .before .before .before .if1 .left, c .before .before .before .before .before .before .before .before .before .before .before .before .before .before .before .before .chain-bytes .ensures)) (h .last .1 .1 .1 .1 .1 .0)
-          (listed-of T u v r (s .args .answer .now) (h .last .1 .1 .1 .1 .1 .0) (o .stands .few) (h .ensures .1 .1 T u v k (listed-from (s .args .cells .now) (s .args .size) T o u v (s .args .first .now) (s .args .second .now) (s .args .m) (s .args .n) (p .one) (p .two) fu fv (s .args .budget) (length (s .args .workspace .now)) k r ((subst (Judged T u v (s .args .budget) (length (s .args .workspace .now))) (c .before .before .before .before .before .before .before .before .before .before .before .before .before .before .before .before .before .before .verdict .given .1) (z .ensures .judged T o u v eu ev)) .ended) (l .last .1 .1 .1 .1 .1 .0) (length (z .last .1 .1 .1 .1 .1 .1 .1 .0) - s .args .n) (l .ensures .same-length ∙ (ap length (z .ensures .workspace ∙ ap (λ j. workspaceAfter (compared j) (s .args .workspace .now)) (c .before .before .before .before .before .before .before .before .before .before .before .before .before .before .before .before .before .before .verdict .given .1)) ∙ length-replicate (length (s .args .workspace .now)) 0)) (l .ensures .loads (s .args .cells .now) T o u v eu ev) (length (s .args .answer .now)) (omega (arith, c .before .before .before .before .before .before .before .before .before .before .before .before .before .before .before .if1 .left, c .before .before .before .before .before .before .before .before .before .before .before .before .before .before .before .before .chain-bytes .ensures)))));
+          (listed-of T u v r (s .args .answer .now) (h .last .1 .1 .1 .1 .1 .0) (o .stands .few) (h .ensures .1 .1 T u v k (listed-from (s .args .cells .now) (s .args .size) T o u v (s .args .first .now) (s .args .second .now) (s .args .m) (s .args .n) (p .one) (p .two) fu fv (s .args .budget) (length (s .args .workspace .now)) k r ((subst (Judged T u v (s .args .budget) (length (s .args .workspace .now))) (c .before .before .before .before .before .before .before .before .before .before .before .before .before .before .before .before .before .before .verdict .given .1) (z .ensures .judged T o u v eu ev)) .ended) (l .last .1 .1 .1 .1 .1 .0) (length (z .last .1 .1 .1 .1 .1 .1 .1 .1 .1 .0) - s .args .n) (l .ensures .same-length ∙ (ap length (z .ensures .workspace ∙ ap (λ j. workspaceAfter (compared j) (s .args .workspace .now)) (c .before .before .before .before .before .before .before .before .before .before .before .before .before .before .before .before .before .before .verdict .given .1)) ∙ length-replicate (length (s .args .workspace .now)) 0)) (l .ensures .loads (s .args .cells .now) T o u v eu ev) (length (s .args .answer .now)) (omega (arith, c .before .before .before .before .before .before .before .before .before .before .before .before .before .before .before .if1 .left, c .before .before .before .before .before .before .before .before .before .before .before .before .before .before .before .before .chain-bytes .ensures)))));
     }
 
 pub chain-programs-spec : {M : Type 1} → statement M

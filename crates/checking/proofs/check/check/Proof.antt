@@ -3,6 +3,7 @@ use mathlib.Core.Path.{sym, ap, subst, _∙_}
 use lib.ListN.{length}
 use Rattle.model.specs.Areas.{workspaceAfter}
 use Rattle.images.specs.Chains.{ChainDone}
+use Rattle.images.specs.declared.programs.Signs.the-variants.{Forward as ForwardAlone}
 use Rattle.loading.specs.Loading.{ProgramsDone}
 use Rattle.checking.proofs.CheckService.{check-refused, check-no-chain, check-runs, check-says}
 use Rattle.cells.proofs.Rules.{blank-zeros}
@@ -26,7 +27,7 @@ read-chain-requires : tie.Need-read-chain-requires
 read-chain-requires c κs =
     let a = c .before .before .before .before .before .before .before .before .before .before .before .args in
     let v = c .before .before .before .before .read-programs in
-    let t = subst (ProgramsDone (a .table .now) (a .first .now) (a .second .now) (v .last .1 .1 .1 .0)) (c .before .read2 .given .1) (v .ensures) in
+    let t = subst (ProgramsDone (a .table .now) (a .first .now) (a .second .now) ForwardAlone (v .last .1 .1 .1 .1 .0)) (c .before .read2 .given .1) (v .ensures) in
     (t .forward .pair .some, t .forward .pair .few)
 
 enum-known-list : tie.Need-enum-known-list
@@ -42,7 +43,7 @@ check-programs-requires : tie.Need-check-programs-requires
 check-programs-requires c κs =
     let a = c .before .before .before .before .before .before .before .before .before .before .before .before .before .before .before .before .before .args in
     let v = c .before .before .before .before .before .before .before .before .before .before .read-programs in
-    let t = subst (ProgramsDone (a .table .now) (a .first .now) (a .second .now) (v .last .1 .1 .1 .0)) (c .before .before .before .before .before .before .before .read2 .given .1) (v .ensures) in
+    let t = subst (ProgramsDone (a .table .now) (a .first .now) (a .second .now) ForwardAlone (v .last .1 .1 .1 .1 .0)) (c .before .before .before .before .before .before .before .read2 .given .1) (v .ensures) in
     let size = c .before .before .before .before .before .before .before .read2 .given .0 .0 in
     let list = subst (ChainDone (a .entries .now) size) (c .before .before .before .list2 .given .1) (c .before .before .before .before .before .read-chain .ensures) in
     record { forward = t .forward; chain = list }
@@ -51,7 +52,7 @@ returns : tie.Need-returns
 returns c =
     let a = c .before .before .before .before .before .before .before .before .before .before .before .args in
     let v = c .before .before .before .before .read-programs in
-    let e = subst (ProgramsDone (a .table .now) (a .first .now) (a .second .now) (v .last .1 .1 .1 .0)) (c .before .read .given .1) (v .ensures) in
+    let e = subst (ProgramsDone (a .table .now) (a .first .now) (a .second .now) ForwardAlone (v .last .1 .1 .1 .1 .0)) (c .before .read .given .1) (v .ensures) in
     let o = check-refused (a .table .now) (a .first .now) (a .second .now) (a .entries .now) (length (a .workspace .now)) (c .before .read .given .0 .0) e in
     (o .stated, (o .workspace (a .workspace .now), check-says (a .table .now) (a .first .now) (a .second .now) (a .entries .now) (length (a .workspace .now)) _ (o .stated)))
 
@@ -59,7 +60,7 @@ returns-2 : tie.Need-returns-2
 returns-2 c =
     let a = c .before .before .before .before .before .before .before .before .before .before .before .before .before .before .before .args in
     let v = c .before .before .before .before .before .before .before .before .read-programs in
-    let t = subst (ProgramsDone (a .table .now) (a .first .now) (a .second .now) (v .last .1 .1 .1 .0)) (c .before .before .before .before .before .read2 .given .1) (v .ensures) in
+    let t = subst (ProgramsDone (a .table .now) (a .first .now) (a .second .now) ForwardAlone (v .last .1 .1 .1 .1 .0)) (c .before .before .before .before .before .read2 .given .1) (v .ensures) in
     let f = t .forward in
     let size = c .before .before .before .before .before .read2 .given .0 .0 in
     let e = subst (ChainDone (a .entries .now) size) (c .before .list .given .1) (c .before .before .before .read-chain .ensures) in
@@ -73,7 +74,7 @@ returns-3 : tie.Need-returns-3
 returns-3 c =
     let a = c .before .before .before .before .before .before .before .before .before .before .before .before .before .before .before .before .before .before .before .before .args in
     let v = c .before .before .before .before .before .before .before .before .before .before .before .before .before .read-programs in
-    let t = subst (ProgramsDone (a .table .now) (a .first .now) (a .second .now) (v .last .1 .1 .1 .0)) (c .before .before .before .before .before .before .before .before .before .before .read2 .given .1) (v .ensures) in
+    let t = subst (ProgramsDone (a .table .now) (a .first .now) (a .second .now) ForwardAlone (v .last .1 .1 .1 .1 .0)) (c .before .before .before .before .before .before .before .before .before .before .read2 .given .1) (v .ensures) in
     let f = t .forward in
     let size = c .before .before .before .before .before .before .before .before .before .before .read2 .given .0 .0 in
     let list = subst (ChainDone (a .entries .now) size) (c .before .before .before .before .before .before .list2 .given .1) (c .before .before .before .before .before .before .before .before .read-chain .ensures) in

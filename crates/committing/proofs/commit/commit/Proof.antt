@@ -5,6 +5,7 @@ use Rattle.model.specs.Services.{sizes}
 use Rattle.model.specs.Reversing.{reversing}
 use Rattle.model.specs.Outcome.{mapped}
 use Rattle.model.specs.Areas.{fractionBytes, outputAfter, workspaceAfter}
+use Rattle.images.specs.declared.programs.Signs.the-variants.{Any}
 use Rattle.loading.specs.Loading.{TableProgramDone}
 use Rattle.loading.proofs.Outcomes.{refused-stated, refused-output}
 use Rattle.committing.specs.Commit.{handed}
@@ -33,7 +34,7 @@ commit-program-requires : tie.Need-commit-program-requires
 commit-program-requires c κs =
     let s = c .before .before .before .before .before .before .before .before .before .before .before .before .before in
     let v = c .before .before .before .before .before .before .before .read-table-program in
-    let t = subst (TableProgramDone (s .args .table .now) (s .args .program .now) (v .last .1 .1 .0)) (c .before .before .before .before .read2 .given .1) (v .ensures) in
+    let t = subst (TableProgramDone (s .args .table .now) (s .args .program .now) Any (v .last .1 .1 .1 .0)) (c .before .before .before .before .read2 .given .1) (v .ensures) in
     t .runs
 
 returns : tie.Need-returns
@@ -41,7 +42,7 @@ returns c =
     let s = c .before .before .before .before .before .before .before .before .before .before in
     let v = c .before .before .before .before .read-table-program in
     let r = c .before .read .given .0 .0 in
-    let e = subst (TableProgramDone (s .args .table .now) (s .args .program .now) (v .last .1 .1 .0)) (c .before .read .given .1) (v .ensures) in
+    let e = subst (TableProgramDone (s .args .table .now) (s .args .program .now) Any (v .last .1 .1 .1 .0)) (c .before .read .given .1) (v .ensures) in
     let o = commit-refused (s .args .table .now) (s .args .program .now) (s .args .allowance) (length (s .args .workspace .now)) (handed (s .args .numbers)) (length (s .args .answer .now)) r e in
     promised (s .args .table .now) (s .args .program .now) (s .args .allowance) (s .args .workspace .now) (handed (s .args .numbers)) (s .args .answer .now) _ _ _ (refused-stated _ r (sym (o .stated)) sizes) (refused-output _ r (sym (o .stated)) fractionBytes (s .args .answer .now))
     (o .workspace (s .args .workspace .now))
@@ -56,7 +57,7 @@ returns-2 : tie.Need-returns-2
 returns-2 c =
     let s = c .before .before .before .before .before .before .before .before .before .before .before .before .before .before .before .before .before .before in
     let v = c .before .before .before .before .before .before .before .before .before .before .before .before .read-table-program in
-    let t = subst (TableProgramDone (s .args .table .now) (s .args .program .now) (v .last .1 .1 .0)) (c .before .before .before .before .before .before .before .before .before .read2 .given .1) (v .ensures) in
+    let t = subst (TableProgramDone (s .args .table .now) (s .args .program .now) Any (v .last .1 .1 .1 .0)) (c .before .before .before .before .before .before .before .before .before .read2 .given .1) (v .ensures) in
     let p = t .runs in
     let q = p .accepted .program in
     let o = commit-runs (s .args .table .now) (s .args .program .now) (s .args .allowance) (length (s .args .workspace .now)) (handed (s .args .numbers)) (length (s .args .answer .now)) (p .table) (t .table-read) (q .word) (t .program-read) in

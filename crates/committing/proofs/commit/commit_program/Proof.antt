@@ -7,13 +7,13 @@ use borrow.Author.Needs.{needs}
 use Rattle.committing.proofs.commit.commit_program.Statement.{statement}
 use Rattle.committing.proofs.commit.commit_program.Tie as tie
 
-run-program-requires : tie.Need-run-program-requires
-run-program-requires c κs = search needs
+reverse-image-requires : tie.Need-reverse-image-requires
+reverse-image-requires c κs = search needs
 
 commit-ending-requires : tie.Need-commit-ending-requires
 commit-ending-requires c κs =
     let s = c .before .before .before .before .before .before .before .before .before .before in
-    let v = c .before .before .before .before .run-program in
+    let v = c .before .before .before .before .reverse-image in
     let q = s .pre .accepted .program in
     finishable (s .pre .table) (q .word) (s .args .budget) (v .last .1 .1 .1 .1 .1 .0) (v .result) (v .ensures .1 (s .pre .table) (s .pre .of) (q .word) (q .read))
 
@@ -29,7 +29,7 @@ same-length-2 c = search needs
 returns : tie.Need-returns
 returns c =
     let s = c .before .before .before .before .before .before .before .before .before .before .before .before .before .before .before .before .before in
-    let v = c .before .before .before .before .before .before .before .before .before .before .before .run-program in
+    let v = c .before .before .before .before .before .before .before .before .before .before .before .reverse-image in
     let a = c .before .before .before .before .before .before .commit-ending in
     record {
       wiped = c .before .before .wipe .ensures ∙ ap (λ i. replicate i 0) (v .ensures .0);
@@ -41,7 +41,7 @@ pub commit-program-spec : {M : Type 1} → statement M
 commit-program-spec =
     tie.close
     (tie.spec
-    run-program-requires
+    reverse-image-requires
     commit-ending-requires
     wipe-requires
     same-length

@@ -2,6 +2,7 @@
 use mathlib.Core.Path.{sym, ap, subst, _∙_}
 use lib.ListN.{length}
 use Rattle.model.specs.Areas.{workspaceAfter}
+use Rattle.images.specs.declared.programs.Signs.the-variants.{Forward as ForwardAlone}
 use Rattle.loading.specs.Loading.{ProgramsDone}
 use Rattle.comparing.proofs.Comparing.{compare-refused, compare-runs, compare-means}
 use Rattle.cells.proofs.Rules.{blank-zeros}
@@ -28,14 +29,14 @@ compare-programs-requires : tie.Need-compare-programs-requires
 compare-programs-requires c κs =
     let a = c .before .before .before .before .before .before .before .before .before .before .before .before .args in
     let v = c .before .before .before .before .before .before .read-programs in
-    let t = subst (ProgramsDone (a .table .now) (a .first .now) (a .second .now) (v .last .1 .1 .1 .0)) (c .before .before .before .read2 .given .1) (v .ensures) in
-    t .forward
+    let t = subst (ProgramsDone (a .table .now) (a .first .now) (a .second .now) ForwardAlone (v .last .1 .1 .1 .1 .0)) (c .before .before .before .read2 .given .1) (v .ensures) in
+    (t .forward, t .weights)
 
 returns : tie.Need-returns
 returns c =
     let a = c .before .before .before .before .before .before .before .before .before .before .args in
     let v = c .before .before .before .before .read-programs in
-    let e = subst (ProgramsDone (a .table .now) (a .first .now) (a .second .now) (v .last .1 .1 .1 .0)) (c .before .read .given .1) (v .ensures) in
+    let e = subst (ProgramsDone (a .table .now) (a .first .now) (a .second .now) ForwardAlone (v .last .1 .1 .1 .1 .0)) (c .before .read .given .1) (v .ensures) in
     let o = compare-refused (a .table .now) (a .first .now) (a .second .now) (a .allowance) (length (a .workspace .now)) (c .before .read .given .0 .0) e in
     (o .stated, (o .workspace (a .workspace .now), compare-means (a .table .now) (a .first .now) (a .second .now) (a .allowance) (length (a .workspace .now)) _ (o .stated)))
 
@@ -46,7 +47,7 @@ returns-2 : tie.Need-returns-2
 returns-2 c =
     let a = c .before .before .before .before .before .before .before .before .before .before .before .before .before .before .before .args in
     let v = c .before .before .before .before .before .before .before .before .before .read-programs in
-    let t = subst (ProgramsDone (a .table .now) (a .first .now) (a .second .now) (v .last .1 .1 .1 .0)) (c .before .before .before .before .before .before .read2 .given .1) (v .ensures) in
+    let t = subst (ProgramsDone (a .table .now) (a .first .now) (a .second .now) ForwardAlone (v .last .1 .1 .1 .1 .0)) (c .before .before .before .before .before .before .read2 .given .1) (v .ensures) in
     let f = t .forward in
     let z = c .before .before .compare-programs in
     let j = z .ensures .judged (f .table) (f .of) (f .pair .one .word) (f .pair .two .word) (f .pair .one .read) (f .pair .two .read) in

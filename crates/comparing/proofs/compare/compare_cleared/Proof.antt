@@ -7,22 +7,16 @@ use borrow.Author.Needs.{needs}
 use Rattle.comparing.proofs.compare.compare_cleared.Statement.{statement}
 use Rattle.comparing.proofs.compare.compare_cleared.Tie as tie
 
-program-weight-requires : tie.Need-program-weight-requires
-program-weight-requires c κs = search needs
-
-program-weight-requires-2 : tie.Need-program-weight-requires-2
-program-weight-requires-2 c κs = search needs
-
 returns : tie.Need-returns
 returns c =
-    let s = c .before .before .before .before .before .before .before in
+    let s = c .before .before .before .before .before in
     record {
       workspace = refl;
-      decided = λ T o u v eu ev. unequal-verdict T u v (s .args .budget) (length (s .args .workspace .now)) (λ e. c .if1 .taken (c .before .before .program-weight .ensures T o u eu ∙ (e ∙ sym (c .before .program-weight2 .ensures T o v ev))));
+      decided = λ T o u v eu ev. unequal-verdict T u v (s .args .budget) (length (s .args .workspace .now)) (λ e. c .if1 .taken (s .pre .1 .1 .one T o u eu ∙ (e ∙ sym (s .pre .1 .1 .two T o v ev))));
     }
 
-run-programs-requires : tie.Need-run-programs-requires
-run-programs-requires c κs = search needs
+reverse-images-requires : tie.Need-reverse-images-requires
+reverse-images-requires c κs = search needs
 
 wipe-requires : tie.Need-wipe-requires
 wipe-requires c κs = search needs
@@ -35,14 +29,14 @@ same-length c = search needs
 
 returns-2 : tie.Need-returns-2
 returns-2 c =
-    let s = c .before .before .before .before .before .before .before .before .before .before .before .before .before .before .before .before in
-    let x = c .before .before .before .before .before .before .before .run-programs in
+    let s = c .before .before .before .before .before .before .before .before .before .before .before .before .before .before in
+    let x = c .before .before .before .before .before .before .before .reverse-images in
     record {
-      workspace = c .before .before .before .wipe .ensures ∙ (ap (λ i. replicate i 0) (x .ensures .0) ∙ sym (s .pre .1));
+      workspace = c .before .before .before .wipe .ensures ∙ (ap (λ i. replicate i 0) (x .ensures .0) ∙ sym (s .pre .1 .0));
       decided = λ T o u v eu ev.
           ap compared (c .judge .ensures)
           ∙ equal-verdict T u v (s .args .budget) (length (s .args .workspace .now))
-          (sym (c .before .before .before .before .before .before .before .before .before .before .before .program-weight .ensures T o u eu) ∙ (c .before .before .before .before .before .before .before .before .before .if1 .left ∙ c .before .before .before .before .before .before .before .before .before .before .program-weight2 .ensures T o v ev))
+          (sym (s .pre .1 .1 .one T o u eu) ∙ (c .before .before .before .before .before .before .before .before .before .if1 .left ∙ s .pre .1 .1 .two T o v ev))
           (x .last .1 .1 .1 .1 .1 .1 .1 .0) (x .ensures .0) (x .result) (x .ensures .1 T o u v eu ev);
     }
 
@@ -50,10 +44,8 @@ pub compare-cleared-spec : {M : Type 1} → statement M
 compare-cleared-spec =
     tie.close
     (tie.spec
-    program-weight-requires
-    program-weight-requires-2
     returns
-    run-programs-requires
+    reverse-images-requires
     wipe-requires
     judge-requires
     same-length

@@ -23,7 +23,7 @@ compare-cleared-requires : tie.Need-compare-cleared-requires
 compare-cleared-requires c κs =
     let s = c .before .before .before .before .before .before .before .before .before .before .before in
     let wiped = c .before .before .before .before .before .clear-cells .ensures .1 ∙ ap (λ r. workspaceAfter (clearedAs r) (s .args .workspace .now)) (c .before .enum-told .given .1) in
-    (search needs, wiped ∙ ap (λ k. replicate k 0) (sym (ap length wiped ∙ length-replicate (length (s .args .workspace .now)) 0)))
+    (s .pre .0, (wiped ∙ ap (λ k. replicate k 0) (sym (ap length wiped ∙ length-replicate (length (s .args .workspace .now)) 0)), s .pre .1))
 
 same-length : tie.Need-same-length
 same-length c = search needs
@@ -45,7 +45,7 @@ returns-2 c =
     let s = c .before .before .before .before .before .before .before .before .before .before .before .before .before .before in
     let z = c .before .before .before .before .before .before .before .before .clear-cells in
     let x = c .before .before .compare-cleared in
-    let f = s .pre in
+    let f = s .pre .0 in
     let wiped = z .ensures .1 ∙ ap (λ r. workspaceAfter (clearedAs r) (s .args .workspace .now)) (c .before .before .before .before .enum-told .given .1) in
     let long = ap length wiped ∙ length-replicate (length (s .args .workspace .now)) 0 in
     record {

@@ -3,6 +3,7 @@ use mathlib.Core.Path.{sym, ap, subst, _∙_}
 use lib.ListN.{length}
 use Rattle.model.specs.Reversing.{reversing}
 use Rattle.model.specs.Areas.{workspaceAfter}
+use Rattle.images.specs.declared.programs.Signs.the-variants.{Any}
 use Rattle.loading.specs.Loading.{TableProgramDone}
 use Rattle.enquiring.specs.Enquire.{EnquireMeaning}
 use Rattle.enquiring.proofs.Foretelling.{foretells}
@@ -31,7 +32,7 @@ enquire-program-requires : tie.Need-enquire-program-requires
 enquire-program-requires c κs =
     let s = c .before .before .before .before .before .before .before .before .before .before .before in
     let v = c .before .before .before .before .before .before .read-table-program in
-    let t = subst (TableProgramDone (s .args .table .now) (s .args .program .now) (v .last .1 .1 .0)) (c .before .before .before .read2 .given .1) (v .ensures) in
+    let t = subst (TableProgramDone (s .args .table .now) (s .args .program .now) Any (v .last .1 .1 .1 .0)) (c .before .before .before .read2 .given .1) (v .ensures) in
     t .runs
 
 returns : tie.Need-returns
@@ -39,7 +40,7 @@ returns c =
     let s = c .before .before .before .before .before .before .before .before .before in
     let v = c .before .before .before .before .read-table-program in
     let r = c .before .read .given .0 .0 in
-    let e = subst (TableProgramDone (s .args .table .now) (s .args .program .now) (v .last .1 .1 .0)) (c .before .read .given .1) (v .ensures) in
+    let e = subst (TableProgramDone (s .args .table .now) (s .args .program .now) Any (v .last .1 .1 .1 .0)) (c .before .read .given .1) (v .ensures) in
     let o = enquire-refused (s .args .table .now) (s .args .program .now) (s .args .allowance) (length (s .args .workspace .now)) r e in
     let stated = o .stated in (
       stated,
@@ -57,7 +58,7 @@ returns-2 : tie.Need-returns-2
 returns-2 c =
     let s = c .before .before .before .before .before .before .before .before .before .before .before .before .before .before in
     let v = c .before .before .before .before .before .before .before .before .before .read-table-program in
-    let t = subst (TableProgramDone (s .args .table .now) (s .args .program .now) (v .last .1 .1 .0)) (c .before .before .before .before .before .before .read2 .given .1) (v .ensures) in
+    let t = subst (TableProgramDone (s .args .table .now) (s .args .program .now) Any (v .last .1 .1 .1 .0)) (c .before .before .before .before .before .before .read2 .given .1) (v .ensures) in
     let p = t .runs in
     let q = p .accepted .program in
     let o = enquire-runs (s .args .table .now) (s .args .program .now) (s .args .allowance) (length (s .args .workspace .now)) (p .table) (t .table-read) (q .word) (t .program-read) in

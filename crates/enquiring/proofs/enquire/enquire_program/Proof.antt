@@ -10,8 +10,8 @@ use borrow.Author.Needs.{needs}
 use Rattle.enquiring.proofs.enquire.enquire_program.Statement.{statement}
 use Rattle.enquiring.proofs.enquire.enquire_program.Tie as tie
 
-run-program-requires : tie.Need-run-program-requires
-run-program-requires c κs = search needs
+reverse-image-requires : tie.Need-reverse-image-requires
+reverse-image-requires c κs = search needs
 
 wipe-requires : tie.Need-wipe-requires
 wipe-requires c κs = search needs
@@ -25,7 +25,7 @@ same-length c = search needs
 returns : tie.Need-returns
 returns c =
     let s = c .before .before .before .before .before .before .before .before .before .before .before .before in
-    let v = c .before .before .before .before .before .before .before .run-program in
+    let v = c .before .before .before .before .before .before .before .reverse-image in
     record {
       wiped = c .before .before .before .wipe .ensures ∙ ap (λ i. replicate i 0) (v .ensures .0);
       answers = λ T o w e. ap reversed (c .sizes-of .ensures)
@@ -35,4 +35,4 @@ returns c =
 
 pub enquire-program-spec : {M : Type 1} → statement M
 enquire-program-spec =
-    tie.close (tie.spec run-program-requires wipe-requires sizes-of-requires same-length returns)
+    tie.close (tie.spec reverse-image-requires wipe-requires sizes-of-requires same-length returns)

@@ -20,7 +20,7 @@ read-field-requires c κs = search needs
 returns-2 : tie.Need-returns-2
 returns-2 c =
     let s = c .before .before .before in
-    field-answered (s .args .image .now) (s .args .at) (s .args .width) (search needs) (c .read-field .result) (c .read-field .ensures)
+    field-answered (s .args .image .now) (s .args .at) (s .args .width) (omega arith) (c .read-field .result) (c .read-field .ensures)
 
 pub next-field-spec : {M : Type 1} → statement M
 next-field-spec = tie.close (tie.spec add-if1 add-if1-2 returns read-field-requires returns-2)

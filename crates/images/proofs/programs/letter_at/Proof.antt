@@ -1,30 +1,48 @@
 -- `images::letter_at` meets its contract.
-use mathlib.Core.Path.{subst}
+use mathlib.Core.Path.{_≡_, subst}
 use Prim.Native.Nat.{_+_, _*_, _≤_}
 use native.Mathlib.Omega.{arith}
+use Rattle.images.specs.BitReader.{place}
 use Rattle.images.specs.Programs.{SignedDone}
-use Rattle.images.proofs.Letters.{near, index-small, letter-before, letter-answer, letter-stands}
+use Rattle.images.specs.declared.programs.SignedField.{SignedField}
+use Rattle.images.proofs.Letters.{near, index-small, ends-inside, letter-answer, letter-stands}
 use borrow.Author.Needs.{needs}
 use Rattle.images.proofs.programs.letter_at.Statement.{statement}
 use Rattle.images.proofs.programs.letter_at.Tie as tie
 
+abbrev start : tie.After-next-signed → tie.Start
+start c = c .before .before .before
+
 bound : (c : tie.Start) → c .args .i * (1 + c .args .width) ≤ 20480
 bound c = near (c .args .i) (c .args .width) (index-small (c .args .image .now) (c .args .size) (c .args .width) (c .args .i) (c .pre)) (c .pre .narrow)
 
-add-next-signed : tie.Need-add-next-signed
-add-next-signed c = search needs
+-- what stands at the letter's place
+told : (c : tie.After-next-signed) → (r : SignedField) → c .next-signed .result ≡ r
+    → SignedDone (start c .args .image .now) (12 + start c .args .i * (1 + start c .args .width)) (start c .args .size) (start c .args .width) r
+told c r e =
+    let s = start c in
+    subst (λ n. SignedDone (s .args .image .now) n (s .args .size) (s .args .width) r) (c .before .reader-at .ensures .place-is)
+    (subst (SignedDone (s .args .image .now) (place (c .before .reader-at .result)) (s .args .size) (s .args .width)) e (c .next-signed .ensures))
 
-mul-next-signed : tie.Need-mul-next-signed
-mul-next-signed c = omega (arith, bound (c .before))
+add-reader-at : tie.Need-add-reader-at
+add-reader-at c = search needs
 
-add-next-signed-2 : tie.Need-add-next-signed-2
-add-next-signed-2 c = omega (arith, bound (c .before))
+mul-reader-at : tie.Need-mul-reader-at
+mul-reader-at c = omega (arith, bound (c .before))
+
+add-reader-at-2 : tie.Need-add-reader-at-2
+add-reader-at-2 c = omega (arith, bound (c .before))
+
+reader-at-requires : tie.Need-reader-at-requires
+reader-at-requires c κs =
+    let s = c .before in
+    omega (arith, ends-inside (s .args .image .now) (s .args .size) (s .args .width) (s .args .i) (s .pre))
 
 next-signed-requires : tie.Need-next-signed-requires
-next-signed-requires c κs = letter-before (c .before .args .image .now) (c .before .args .size) (c .before .args .width) (c .before .args .i) (c .before .pre)
+next-signed-requires c κs = search needs
 
-enum-known-x : tie.Need-enum-known-x
-enum-known-x c = search needs
+enum-known-byte : tie.Need-enum-known-byte
+enum-known-byte c = search needs
 
 enum-told : tie.Need-enum-told
 enum-told c = search needs
@@ -34,31 +52,32 @@ enum-told-2 c = search needs
 
 returns : tie.Need-returns
 returns c =
-    let s = c .before .before .before .before .before in
-    letter-answer (s .args .image .now) (s .args .size) (s .args .width) (s .args .i) (s .pre) (c .before .x .given .0 .0)
-    (subst (SignedDone (s .args .image .now) (12 + s .args .i * (1 + s .args .width)) (s .args .size) (s .args .width)) (c .before .x .given .1) (c .before .before .before .next-signed .ensures))
+    let k = c .before .before .before in
+    let s = start k in
+    letter-answer (s .args .image .now) (s .args .size) (s .args .width) (s .args .i) (s .pre) (c .before .byte .given .0 .0) (told k _ (c .before .byte .given .1) .signed)
 
 returns-2 : tie.Need-returns-2
 returns-2 c =
-    let s = c .before .before .before .before in
-    absurd (letter-stands (s .args .image .now) (s .args .size) (s .args .width) (s .args .i) (s .pre) 4
-    (subst (SignedDone (s .args .image .now) (12 + s .args .i * (1 + s .args .width)) (s .args .size) (s .args .width)) (c .enum-told .given .1) (c .before .before .next-signed .ensures)))
+    let k = c .before .before in
+    let s = start k in
+    absurd (letter-stands (s .args .image .now) (s .args .size) (s .args .width) (s .args .i) (s .pre) 4 (told k _ (c .enum-told .given .1)))
 
 returns-3 : tie.Need-returns-3
 returns-3 c =
-    let s = c .before .before .before .before in
-    absurd (letter-stands (s .args .image .now) (s .args .size) (s .args .width) (s .args .i) (s .pre) 5
-    (subst (SignedDone (s .args .image .now) (12 + s .args .i * (1 + s .args .width)) (s .args .size) (s .args .width)) (c .enum-told2 .given .1) (c .before .before .next-signed .ensures)))
+    let k = c .before .before in
+    let s = start k in
+    absurd (letter-stands (s .args .image .now) (s .args .size) (s .args .width) (s .args .i) (s .pre) 5 (told k _ (c .enum-told2 .given .1)))
 
 pub letter-at-spec : {M : Type 1} → statement M
 letter-at-spec =
     tie.close
     (tie.spec
-    add-next-signed
-    mul-next-signed
-    add-next-signed-2
+    add-reader-at
+    mul-reader-at
+    add-reader-at-2
+    reader-at-requires
     next-signed-requires
-    enum-known-x
+    enum-known-byte
     enum-told
     enum-told-2
     returns

@@ -1,9 +1,11 @@
 -- `images::next_signed` meets its contract.
-use mathlib.Core.Path.{subst}
+use mathlib.Core.Path.{_≡_, sym, ap, subst}
 use native.Mathlib.Omega.{arith}
-use Prim.Native.Nat.{_+_}
-use Rattle.images.specs.Fields.{FieldDone, FieldAt, LetterDone, LetterAt}
-use Rattle.images.proofs.Signed.{sign-ends, number-refused, signed-forward, signed-back}
+use Prim.Native.Nat.{ℕ, _+_, _*_, _/_, _%_, _^_, _<_}
+use Rattle.images.specs.BitReader.{place, TakenAt, TakenDone}
+use Rattle.images.specs.Programs.{SignedTaken}
+use Rattle.images.proofs.BitReader.{span, span-some, place-inside}
+use Rattle.images.proofs.Signed.{signed-ends, sign-small, number-small, signed-wrong, signed-taken}
 use borrow.Author.Needs.{needs}
 use Rattle.images.proofs.programs.next_signed.Statement.{statement}
 use Rattle.images.proofs.programs.next_signed.Tie as tie
@@ -11,88 +13,98 @@ use Rattle.images.proofs.programs.next_signed.Tie as tie
 abbrev start : tie.After-known-told → tie.Start
 start c = c .before .before .before .before .before
 
--- the sign, and the letter after it
-sign-at : (c : tie.After-known-told) → FieldAt (start c .args .image .now) (start c .args .at) 1 (c .before .sign .given .0 .0)
-sign-at c = subst (FieldDone (start c .args .image .now) (start c .args .at) 1) (c .before .sign .given .1) (c .before .before .before .next-field .ensures)
+abbrev at : tie.After-known-told → ℕ
+at c = place (start c .args .reader)
 
-letter-at : (c : tie.After-a)
-    → LetterAt (start (c .before .before .before) .args .image .now) (start (c .before .before .before) .args .at + 1) (start (c .before .before .before) .args .size) (start (c .before .before .before) .args .width) (c .a .given .0 .0)
-letter-at c =
-    let s = start (c .before .before .before) in
-    subst (LetterDone (s .args .image .now) (s .args .at + 1) (s .args .size) (s .args .width)) (c .a .given .1) (c .before .before .next-letter .ensures)
+-- the field that was taken
+abbrev value : tie.After-known-told → ℕ
+value c = c .before .value .given .0 .0
 
-next-field-requires : tie.Need-next-field-requires
-next-field-requires c κs = search needs
+taken : (c : tie.After-known-told) → TakenAt (start c .args .image .now) (at c) (1 + start c .args .width) (value c) (c .before .value .given .0 .1 .0)
+taken c = subst (TakenDone (start c .args .image .now) (start c .args .reader) (1 + start c .args .width)) (c .before .value .given .1) (c .before .before .before .take .ensures)
 
-enum-known-sign : tie.Need-enum-known-sign
-enum-known-sign c = search needs
+-- the number, as the code has it
+number-is : (c : tie.After-known-told) → value c % ((1 * 2 ^ start c .args .width) % 4294967296) ≡ value c % 2 ^ start c .args .width
+number-is c = ap (λ n. value c % n) (span (start c .args .width) (omega (arith, start c .pre .1 .narrow)))
+
+number-below : (c : tie.After-known-told) → value c % 2 ^ start c .args .width < 16
+number-below c = number-small (start c .args .image .now) (at c) (start c .args .size) (start c .args .width) (start c .pre .1) (value c) (c .before .value .given .0 .1 .0) (taken c)
+
+sign-below : (c : tie.After-known-told) → value c / 2 ^ start c .args .width < 2
+sign-below c = sign-small (start c .args .image .now) (at c) (start c .args .size) (start c .args .width) (start c .pre .1) (value c) (c .before .value .given .0 .1 .0) (taken c)
+
+add-take : tie.Need-add-take
+add-take c = search needs
+
+take-requires : tie.Need-take-requires
+take-requires c κs = search needs
 
 enum-told : tie.Need-enum-told
 enum-told c = search needs
 
+enum-known-value : tie.Need-enum-known-value
+enum-known-value c = search needs
+
+shr-sign : tie.Need-shr-sign
+shr-sign c = search needs
+
+cast-sign : tie.Need-cast-sign
+cast-sign c = omega (arith, sign-below c)
+
+shl-number : tie.Need-shl-number
+shl-number c = search needs
+
+rem-number : tie.Need-rem-number
+rem-number c = span-some (start c .args .width) (omega (arith, start c .pre .1 .narrow))
+
+cast-number : tie.Need-cast-number
+cast-number c = omega (arith, number-is c, number-below c)
+
 returns : tie.Need-returns
 returns c =
-    let s = c .before .before .before .before in
-    sign-ends (s .args .image .now) (s .args .at) (s .args .size) (s .args .width)
-    (subst (FieldDone (s .args .image .now) (s .args .at) 1) (c .enum-told .given .1) (c .before .before .next-field .ensures))
+    let k = c .before in
+    let s = start k in
+    signed-wrong (s .args .image .now) (at k) (s .args .size) (s .args .width) (s .pre .1) (value k) (k .before .value .given .0 .1 .0) (taken k) (omega (arith, number-is k, c .if1 .taken))
 
-add-next-letter : tie.Need-add-next-letter
-add-next-letter c = search needs
+mul-t15 : tie.Need-mul-t15
+mul-t15 c = omega (arith, sign-below (c .before))
 
-next-letter-requires : tie.Need-next-letter-requires
-next-letter-requires c κs =
-    let p = start c .pre in
-    (record { narrow = omega (arith, p .narrow); inside = sign-at c .inside; small = omega (arith, p .small, p .narrow) }, p .width-is, p .few)
+add-t16 : tie.Need-add-t16
+add-t16 c = omega (arith, sign-below (c .before), number-is (c .before), number-below (c .before))
 
-enum-told-2 : tie.Need-enum-told-2
-enum-told-2 c = search needs
-
-enum-told-3 : tie.Need-enum-told-3
-enum-told-3 c = search needs
-
-enum-known-a : tie.Need-enum-known-a
-enum-known-a c = search needs
+add-t17 : tie.Need-add-t17
+add-t17 c = omega (arith, sign-below (c .before), number-is (c .before), number-below (c .before))
 
 returns-2 : tie.Need-returns-2
 returns-2 c =
-    let s = start (c .before .before .before .before .before) in
-    signed-forward (s .args .image .now) (s .args .at) (s .args .size) (s .args .width) _ (sign-at (c .before .before .before .before .before)) _ (letter-at (c .before .before)) (c .if1 .taken)
-
-add-t12 : tie.Need-add-t12
-add-t12 c = omega (arith, letter-at (c .before .before) .small, start (c .before .before .before .before .before) .pre .few)
+    let s = c .before .before .before .before in
+    signed-ends (s .args .image .now) (place (s .args .reader)) (s .args .size) (s .args .width) (s .pre .1) (place-inside (s .args .image .now) (s .args .reader) (s .pre .0))
+    (subst (TakenDone (s .args .image .now) (s .args .reader) (1 + s .args .width)) (c .enum-told .given .1) (c .before .before .take .ensures))
 
 returns-3 : tie.Need-returns-3
 returns-3 c =
-    let s = start (c .before .before .before) in
-    number-refused (s .args .image .now) (s .args .at) (s .args .size) (s .args .width) _ (sign-at (c .before .before .before)) 4
-    (subst (LetterDone (s .args .image .now) (s .args .at + 1) (s .args .size) (s .args .width)) (c .enum-told2 .given .1) (c .before .before .next-letter .ensures) 4 5)
-
-returns-4 : tie.Need-returns-4
-returns-4 c =
-    let s = start (c .before .before .before) in
-    number-refused (s .args .image .now) (s .args .at) (s .args .size) (s .args .width) _ (sign-at (c .before .before .before)) 5
-    (subst (LetterDone (s .args .image .now) (s .args .at + 1) (s .args .size) (s .args .width)) (c .enum-told3 .given .1) (c .before .before .next-letter .ensures) 4 5)
-
-returns-5 : tie.Need-returns-5
-returns-5 c =
-    let s = start (c .before .before .before .before .before) in
-    signed-back (s .args .image .now) (s .args .at) (s .args .size) (s .args .width) _ (sign-at (c .before .before .before .before .before)) _ (letter-at (c .before .before)) (c .if1 .left)
+    let k = c .before in
+    let s = start k in
+    let r = k .before .value .given .0 .1 .0 in
+    subst (λ n. SignedTaken (s .args .image .now) (at k) (s .args .size) (s .args .width) (value k / 2 ^ s .args .width * 128 + n + 1) r) (sym (number-is k))
+    (signed-taken (s .args .image .now) (at k) (s .args .size) (s .args .width) (s .pre .1) (value k) r (taken k) (omega (arith, number-is k, c .if1 .left)))
 
 pub next-signed-spec : {M : Type 1} → statement M
 next-signed-spec =
     tie.close
     (tie.spec
-    next-field-requires
-    enum-known-sign
+    add-take
+    take-requires
     enum-told
+    enum-known-value
+    shr-sign
+    cast-sign
+    shl-number
+    rem-number
+    cast-number
     returns
-    add-next-letter
-    next-letter-requires
-    enum-told-2
-    enum-told-3
-    enum-known-a
+    mul-t15
+    add-t16
+    add-t17
     returns-2
-    add-t12
-    returns-3
-    returns-4
-    returns-5)
+    returns-3)

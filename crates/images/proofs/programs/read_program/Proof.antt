@@ -1,33 +1,71 @@
--- `images::read_program` meets its contract. The loop's invariant: what was read so far, and that the rest of the reading is left.
-use mathlib.Core.Path.{sym, subst, _∙_}
+-- `images::read_program` meets its contract. The loop's invariant: the letters before the reader are read, and their signs and weights counted.
+use mathlib.Core.Path.{_≡_, refl, sym, ap, subst, _∙_}
+use Prim.Native.Nat.{ℕ, suc, _+_, _-_, _*_, _/_, _%_, _≤_, _<_}
 use native.Mathlib.Omega.{arith}
-use borrow.Author.Needs.{needs}
-use Prim.Native.Nat.{_+_, _-_, _≤_}
+use lib.Dec.{eqb}
+use lib.ListN.{getD}
+use Rattle.model.specs.Outcome.{unplaced, refused}
+use Rattle.model.specs.Images.{signedField, readProgram}
 use Rattle.bits.proofs.Width.{width-small}
-use Rattle.images.specs.Fields.{FieldDone, FieldAt}
-use Rattle.model.specs.Images.{signedField}
-use Rattle.images.specs.Programs.{SignedDone, SignedAt}
-use Rattle.images.proofs.Validating.{Validated, count-ends, validated-none, validated-more, value-refused, whole-answered, whole-count, whole-tail, program-whole}
+use Rattle.cells.specs.Layout.{weightAt}
+use Rattle.cells.proofs.Rules.{of-size}
+use Rattle.images.specs.Fields.{FieldDone, FieldAt, from}
+use Rattle.images.specs.BitReader.{place}
+use Rattle.images.specs.Written.{WidthOf}
+use Rattle.images.specs.Programs.{SignedDone, SignedTaken}
+use Rattle.images.specs.declared.programs.SignedField.{SignedField}
+use Rattle.images.proofs.Validating.{count-ends, value-refused, whole-answered, whole-count, whole-tail, program-whole}
+use Rattle.images.proofs.Measuring.{Passed, passed-none, passed-named, passed-light, passed-more, sign-low, no-back}
+use borrow.Author.Needs.{needs}
 use Rattle.images.proofs.programs.read_program.Statement.{statement}
 use Rattle.images.proofs.programs.read_program.Tie as tie
 
 abbrev Inv-loop : tie.InvT-loop
-Inv-loop image size count width at₀ i₀ at i = Validated (signedField size) 12 image count at i
+Inv-loop image cells size count width reader₀ backs₀ weight₀ i₀ reader backs weight i = Passed image cells size count reader backs weight i
 
 abbrev μ-loop : tie.MeasureT-loop
-μ-loop image size count width at₀ i₀ at i = count - i
+μ-loop image cells size count width reader₀ backs₀ weight₀ i₀ reader backs weight i = count - i
 
 abbrev start : tie.After-known-told Inv-loop μ-loop → tie.Start Inv-loop μ-loop
-start c = c .before .before .before .before .before
+start c = c .before .before .before .before .before .before
 
 count-at : (c : tie.After-known-told Inv-loop μ-loop) → FieldAt (start c .args .image .now) 0 12 (c .before .count .given .0 .0)
 count-at c = subst (FieldDone (start c .args .image .now) 0 12) (c .before .count .given .1) (c .before .before .before .next-field .ensures)
 
-narrow : (c : tie.After-letter-width Inv-loop μ-loop) → c .letter-width .result ≤ 4
-narrow c = subst (λ n. n ≤ 4) (sym (c .letter-width .ensures)) (width-small (start (c .before) .args .size))
+width-of : (c : tie.After-letter-width Inv-loop μ-loop) → WidthOf (start (c .before) .args .size) (c .letter-width .result)
+width-of c =
+    let s = start (c .before) in
+    record {
+      few = of-size (s .pre .1) .1;
+      narrow = subst (λ n. n ≤ 4) (sym (c .letter-width .ensures)) (width-small (s .args .size));
+      width-is = c .letter-width .ensures;
+    }
 
-near : (c : tie.At-loop Inv-loop μ-loop) → c .loop .at ≤ 94200
-near c = omega (arith, c .loop .inv .near, c .loop .inv .some-left, count-at (c .before .before) .small)
+-- a turn of the loop: what stands at the reader's place
+abbrev loop : tie.After-next-signed Inv-loop μ-loop → tie.At-loop Inv-loop μ-loop
+loop c = c .before .before
+
+abbrev wide : tie.At-loop Inv-loop μ-loop → tie.After-letter-width Inv-loop μ-loop
+wide c = c .before .before
+
+abbrev count : tie.At-loop Inv-loop μ-loop → ℕ
+count c = wide c .before .before .count .given .0 .0
+
+told : (c : tie.After-next-signed Inv-loop μ-loop) → (r : SignedField) → c .next-signed .result ≡ r
+    → SignedDone (start (wide (loop c) .before) .args .image .now) (place (loop c .loop .reader)) (start (wide (loop c) .before) .args .size) (wide (loop c) .letter-width .result) r
+told c r e =
+    let s = start (wide (loop c) .before) in
+    subst (SignedDone (s .args .image .now) (place (loop c .loop .reader)) (s .args .size) (wide (loop c) .letter-width .result)) e (c .next-signed .ensures)
+
+refused-by : (c : tie.After-next-signed Inv-loop μ-loop) (n : ℕ)
+    → signedField (start (wide (loop c) .before) .args .size) (from (start (wide (loop c) .before) .args .image .now) (place (loop c .loop .reader))) ≡ refused n unplaced
+    → readProgram (start (wide (loop c) .before) .args .size) (start (wide (loop c) .before) .args .image .now) ≡ refused n unplaced
+refused-by c n e =
+    let l = loop c in
+    let s = start (wide l .before) in
+    program-whole (s .args .size) (s .args .image .now)
+    ∙ value-refused (signedField (s .args .size)) 12 (s .args .image .now) (count l) (count-at (wide l .before)) (place (l .loop .reader)) (l .loop .i) (l .loop .inv .validated) n
+    (c .before .loop-test .taken) e
 
 next-field-requires : tie.Need-next-field-requires Inv-loop μ-loop
 next-field-requires c κs = record { narrow = omega arith; inside = omega arith; small = omega arith }
@@ -40,94 +78,135 @@ enum-told c = search needs
 
 returns : tie.Need-returns Inv-loop μ-loop
 returns c =
-    let s = c .before .before .before .before in
+    let s = c .before .before .before .before .before in
     program-whole (s .args .size) (s .args .image .now) ∙ count-ends (signedField (s .args .size)) 12 (s .args .image .now) (subst (FieldDone (s .args .image .now) 0 12) (c .enum-told .given .1) (c .before .before .next-field .ensures))
 
 letter-width-requires : tie.Need-letter-width-requires Inv-loop μ-loop
-letter-width-requires c κs = start c .pre
+letter-width-requires c κs = of-size (start c .pre .1)
 
 cast-width : tie.Need-cast-width Inv-loop μ-loop
 cast-width c = search needs
 
+reader-at-requires : tie.Need-reader-at-requires Inv-loop μ-loop
+reader-at-requires c κs = omega (arith, count-at (c .before) .inside)
+
 loop-holds : tie.Need-loop-holds Inv-loop μ-loop
-loop-holds c = validated-none (signedField (start (c .before) .args .size)) 12 (start (c .before) .args .image .now) (c .before .before .count .given .0 .0) (count-at (c .before))
+loop-holds c =
+    let k = c .before .before in
+    let s = start k in
+    passed-none (s .args .image .now) (s .args .cells .now) (s .args .size) (k .before .count .given .0 .0) (c .reader-at .result) (count-at k) (c .reader-at .ensures .place-is) (c .reader-at .ensures .reads)
 
 next-signed-requires : tie.Need-next-signed-requires Inv-loop μ-loop
-next-signed-requires c κs =
-    let b = c .before .before in
-    let s = start (b .before) in
-    let v = c .before .loop .inv in
-    record {
-      inside = v .inside;
-      small = omega (arith, near (c .before));
-      some = s .pre .0;
-      few = s .pre .1;
-      narrow = narrow b;
-      width-is = b .letter-width .ensures;
-    }
+next-signed-requires c κs = (c .before .loop .inv .reads, width-of (wide (c .before)))
 
 enum-told-2 : tie.Need-enum-told-2 Inv-loop μ-loop
 enum-told-2 c = search needs
 
 returns-2 : tie.Need-returns-2 Inv-loop μ-loop
-returns-2 c =
-    let l = c .before .before .before .before in
-    let s = start (l .before .before) in
-    program-whole (s .args .size) (s .args .image .now) ∙ value-refused (signedField (s .args .size)) 12 (s .args .image .now) (l .before .before .before .count .given .0 .0) (count-at (l .before .before)) (l .loop .at) (l .loop .i) (l .loop .inv) 4 (c .before .before .before .loop-test .taken)
-    (subst (SignedDone (s .args .image .now) (l .loop .at) (s .args .size) (l .before .letter-width .result)) (c .enum-told2 .given .1) (c .before .before .next-signed .ensures))
+returns-2 c = refused-by (c .before .before) 4 (told (c .before .before) _ (c .enum-told2 .given .1))
 
 enum-told-3 : tie.Need-enum-told-3 Inv-loop μ-loop
 enum-told-3 c = search needs
 
 returns-3 : tie.Need-returns-3 Inv-loop μ-loop
-returns-3 c =
-    let l = c .before .before .before .before in
-    let s = start (l .before .before) in
-    program-whole (s .args .size) (s .args .image .now) ∙ value-refused (signedField (s .args .size)) 12 (s .args .image .now) (l .before .before .before .count .given .0 .0) (count-at (l .before .before)) (l .loop .at) (l .loop .i) (l .loop .inv) 5 (c .before .before .before .loop-test .taken)
-    (subst (SignedDone (s .args .image .now) (l .loop .at) (s .args .size) (l .before .letter-width .result)) (c .enum-told3 .given .1) (c .before .before .next-signed .ensures))
+returns-3 c = refused-by (c .before .before) 5 (told (c .before .before) _ (c .enum-told3 .given .1))
 
-enum-told-4 : tie.Need-enum-told-4 Inv-loop μ-loop
-enum-told-4 c = search needs
+enum-known-byte : tie.Need-enum-known-byte Inv-loop μ-loop
+enum-known-byte c = search needs
 
-add-at : tie.Need-add-at Inv-loop μ-loop
-add-at c = omega (arith, near (c .before .before .before .before))
+-- the letter that was taken
+abbrev turn : tie.After-known-told2 Inv-loop μ-loop → tie.After-next-signed Inv-loop μ-loop
+turn c = c .before .before .before
 
-add-at-2 : tie.Need-add-at-2 Inv-loop μ-loop
-add-at-2 c = omega (arith, near (c .before .before .before .before), narrow (c .before .before .before .before .before))
+abbrev began : tie.After-known-told2 Inv-loop μ-loop → tie.Start Inv-loop μ-loop
+began c = start (wide (loop (turn c)) .before)
+
+abbrev byte : tie.After-known-told2 Inv-loop μ-loop → ℕ
+byte c = c .before .byte .given .0 .0
+
+taken : (c : tie.After-known-told2 Inv-loop μ-loop)
+    → SignedTaken (began c .args .image .now) (place (loop (turn c) .loop .reader)) (began c .args .size) (wide (loop (turn c)) .letter-width .result) (byte c) (c .before .byte .given .0 .1 .0)
+taken c = told (turn c) _ (c .before .byte .given .1)
+
+low : (c : tie.After-known-told2 Inv-loop μ-loop) → byte c / 128 ≤ 1
+low c =
+    let s = began c in
+    let l = loop (turn c) in
+    sign-low (s .args .image .now) (s .args .cells .now) (s .args .size) (s .pre .0) (s .pre .1) (wide l .letter-width .result) (byte c) (place (l .loop .reader)) (c .before .byte .given .0 .1 .0) (taken c)
+
+light : (c : tie.After-known-told2 Inv-loop μ-loop) → suc (getD (began c .args .cells .now) (weightAt (byte c % 128)) 0) ≤ 8
+light c =
+    let s = began c in
+    let l = loop (turn c) in
+    passed-light (s .args .image .now) (s .args .cells .now) (s .args .size) (s .pre .0) (s .pre .1) (wide l .letter-width .result) (byte c) (place (l .loop .reader)) (c .before .byte .given .0 .1 .0) (taken c)
+
+few : (c : tie.After-known-told2 Inv-loop μ-loop) → loop (turn c) .loop .i < 4095
+few c = omega (arith, turn c .before .loop-test .taken, count-at (wide (loop (turn c)) .before) .small)
+
+cast-backs : tie.Need-cast-backs Inv-loop μ-loop
+cast-backs c = omega (arith, low c)
+
+add-backs : tie.Need-add-backs Inv-loop μ-loop
+add-backs c = omega (arith, low c, few c, loop (turn c) .loop .inv .some)
+
+letter-weight-requires : tie.Need-letter-weight-requires Inv-loop μ-loop
+letter-weight-requires c κs =
+    let s = began c in
+    let l = loop (turn c) in (
+      s .pre .1 .stands .full,
+      passed-named (s .args .image .now) (s .args .cells .now) (s .args .size) (s .pre .0) (s .pre .1) (wide l .letter-width .result) (byte c) (place (l .loop .reader)) (c .before .byte .given .0 .1 .0) (taken c),
+    )
+
+add-weight : tie.Need-add-weight Inv-loop μ-loop
+add-weight c = omega (arith, light (c .before), few (c .before), c .letter-weight .ensures, loop (turn (c .before)) .loop .inv .light)
 
 add-i : tie.Need-add-i Inv-loop μ-loop
-add-i c = omega (arith, c .before .before .before .loop-test .taken, count-at (c .before .before .before .before .before .before) .small)
+add-i c = omega (arith, few (c .before))
 
 loop-less : tie.Need-loop-less Inv-loop μ-loop
-loop-less c = omega (arith, c .before .before .before .loop-test .taken)
+loop-less c = omega (arith, turn (c .before) .before .loop-test .taken)
 
 loop-again : tie.Need-loop-again Inv-loop μ-loop
 loop-again c =
-    let l = c .before .before .before .before in
-    let s = start (l .before .before) in
-    let x : SignedAt (s .args .image .now) (l .loop .at) (s .args .size) (l .before .letter-width .result) (c .enum-told4 .given .0 .0) =
-    subst (SignedDone (s .args .image .now) (l .loop .at) (s .args .size) (l .before .letter-width .result)) (c .enum-told4 .given .1) (c .before .before .next-signed .ensures) in
-    validated-more (signedField (s .args .size)) 12 (s .args .image .now) (l .before .before .before .count .given .0 .0) (count-at (l .before .before)) (l .loop .at) (l .loop .i) (l .loop .inv) (x .letter) (l .loop .at + 1 + l .before .letter-width .result)
-    (omega (arith, narrow (l .before))) (x .inside) (c .before .before .before .loop-test .taken) (x .read)
+    let k = c .before in
+    let s = began k in
+    let l = loop (turn k) in
+    let r = k .before .byte .given .0 .1 .0 in
+    subst (λ n. Passed (s .args .image .now) (s .args .cells .now) (s .args .size) (count l) r (l .loop .backs + byte k / 128) (l .loop .weight + n) (l .loop .i + 1)) (sym (c .letter-weight .ensures))
+    (passed-more (s .args .image .now) (s .args .cells .now) (s .args .size) (s .pre .0) (s .pre .1) (wide l .letter-width .result) (byte k) (place (l .loop .reader)) r (taken k)
+    (count l) (count-at (wide l .before)) (l .loop .reader) refl (width-of (wide l) .narrow) (l .loop .backs) (l .loop .weight) (l .loop .i) (l .loop .inv) (turn k .before .loop-test .taken))
 
-is-filling-requires : tie.Need-is-filling-requires Inv-loop μ-loop
-is-filling-requires c κs = record { narrow = omega arith; inside = c .before .loop .inv .inside; small = omega (arith, near (c .before)) }
+is-end-requires : tie.Need-is-end-requires Inv-loop μ-loop
+is-end-requires c κs = c .before .loop .inv .reads
 
 returns-4 : tie.Need-returns-4 Inv-loop μ-loop
 returns-4 c =
     let l = c .before .before .before in
-    let s = start (l .before .before) in
+    let s = start (wide l .before) in
+    let v = l .loop .inv .validated in
     record {
-      word = l .loop .inv .done;
-      read = program-whole (s .args .size) (s .args .image .now) ∙ whole-answered (signedField (s .args .size)) 12 (s .args .image .now) (l .before .before .before .count .given .0 .0) (count-at (l .before .before)) (l .loop .at) (l .loop .i) (l .loop .inv) (c .before .before .loop-test .left) (sym (c .before .is-filling .ensures) ∙ c .if1 .taken);
-      count-is = whole-count (signedField (s .args .size)) 12 (s .args .image .now) (l .before .before .before .count .given .0 .0) (count-at (l .before .before)) (l .loop .at) (l .loop .i) (l .loop .inv) (c .before .before .loop-test .left);
+      program =
+          record {
+            word = v .done;
+            read =
+                program-whole (s .args .size) (s .args .image .now)
+                ∙ whole-answered (signedField (s .args .size)) 12 (s .args .image .now) (count l) (count-at (wide l .before)) (place (l .loop .reader)) (l .loop .i) v
+                (c .before .before .loop-test .left) (sym (c .before .is-end .ensures) ∙ c .if1 .taken);
+            count-is =
+                whole-count (signedField (s .args .size)) 12 (s .args .image .now) (count l) (count-at (wide l .before)) (place (l .loop .reader)) (l .loop .i) v
+                (c .before .before .loop-test .left);
+          };
+      forward-is = ap (λ n. eqb n 0) (l .loop .inv .signs) ∙ no-back (v .done);
+      weight-is = l .loop .inv .weighed;
     }
 
 returns-5 : tie.Need-returns-5 Inv-loop μ-loop
 returns-5 c =
     let l = c .before .before .before in
-    let s = start (l .before .before) in
-    program-whole (s .args .size) (s .args .image .now) ∙ whole-tail (signedField (s .args .size)) 12 (s .args .image .now) (l .before .before .before .count .given .0 .0) (count-at (l .before .before)) (l .loop .at) (l .loop .i) (l .loop .inv) (c .before .before .loop-test .left) (sym (c .before .is-filling .ensures) ∙ c .if1 .left)
+    let s = start (wide l .before) in
+    program-whole (s .args .size) (s .args .image .now)
+    ∙ whole-tail (signedField (s .args .size)) 12 (s .args .image .now) (count l) (count-at (wide l .before)) (place (l .loop .reader)) (l .loop .i) (l .loop .inv .validated)
+    (c .before .before .loop-test .left) (sym (c .before .is-end .ensures) ∙ c .if1 .left)
 
 pub read-program-spec : {M : Type 1} → statement M
 read-program-spec =
@@ -141,18 +220,21 @@ read-program-spec =
     returns
     letter-width-requires
     cast-width
+    reader-at-requires
     loop-holds
     next-signed-requires
     enum-told-2
     returns-2
     enum-told-3
     returns-3
-    enum-told-4
-    add-at
-    add-at-2
+    enum-known-byte
+    cast-backs
+    add-backs
+    letter-weight-requires
+    add-weight
     add-i
     loop-less
     loop-again
-    is-filling-requires
+    is-end-requires
     returns-4
     returns-5)

@@ -6,6 +6,7 @@ use Rattle.model.specs.Services.{remainder}
 use Rattle.model.specs.Areas.{remainderBytes, outputAfter, workspaceAfter}
 use Rattle.model.specs.Stated.{counted}
 use Rattle.cells.proofs.Rules.{blank-zeros}
+use Rattle.images.specs.declared.programs.Signs.the-variants.{Forward as ForwardAlone}
 use Rattle.loading.specs.Loading.{ProgramsDone}
 use Rattle.loading.proofs.Outcomes.{refused-stated, refused-output}
 use Rattle.remainders.proofs.Service.{counted-workspace, remainder-refused, remainder-runs, remainder-says}
@@ -33,15 +34,15 @@ remainder-programs-requires : tie.Need-remainder-programs-requires
 remainder-programs-requires c κs =
     let a = c .before .before .before .before .before .before .before .before .before .before .before .before .before .before .args in
     let v = c .before .before .before .before .before .before .before .read-programs in
-    let t = subst (ProgramsDone (a .table .now) (a .done .now) (a .pattern .now) (v .last .1 .1 .1 .0)) (c .before .before .before .before .read2 .given .1) (v .ensures) in
-    t .forward
+    let t = subst (ProgramsDone (a .table .now) (a .done .now) (a .pattern .now) ForwardAlone (v .last .1 .1 .1 .1 .0)) (c .before .before .before .before .read2 .given .1) (v .ensures) in
+    (t .forward, t .weights)
 
 returns : tie.Need-returns
 returns c =
     let a = c .before .before .before .before .before .before .before .before .before .before .before .args in
     let v = c .before .before .before .before .read-programs in
     let r = c .before .read .given .0 .0 in
-    let e = subst (ProgramsDone (a .table .now) (a .done .now) (a .pattern .now) (v .last .1 .1 .1 .0)) (c .before .read .given .1) (v .ensures) in
+    let e = subst (ProgramsDone (a .table .now) (a .done .now) (a .pattern .now) ForwardAlone (v .last .1 .1 .1 .1 .0)) (c .before .read .given .1) (v .ensures) in
     let o = remainder-refused (a .table .now) (a .done .now) (a .pattern .now) (a .allowance) (length (a .workspace .now)) (length (a .answer .now)) r e in
     let told = refused-stated _ r (sym (o .stated)) counted in
     let written = refused-output _ r (sym (o .stated)) remainderBytes (a .answer .now) in
@@ -57,7 +58,7 @@ returns-2 : tie.Need-returns-2
 returns-2 c =
     let a = c .before .before .before .before .before .before .before .before .before .before .before .before .before .before .before .before .before .before .before .args in
     let v = c .before .before .before .before .before .before .before .before .before .before .before .before .read-programs in
-    let t = subst (ProgramsDone (a .table .now) (a .done .now) (a .pattern .now) (v .last .1 .1 .1 .0)) (c .before .before .before .before .before .before .before .before .before .read2 .given .1) (v .ensures) in
+    let t = subst (ProgramsDone (a .table .now) (a .done .now) (a .pattern .now) ForwardAlone (v .last .1 .1 .1 .1 .0)) (c .before .before .before .before .before .before .before .before .before .read2 .given .1) (v .ensures) in
     let f = t .forward in
     let z = c .before .before .before .before .remainder-programs in
     let q = z .ensures .states (f .table) (f .of) (f .pair .one .word) (f .pair .two .word) (f .pair .one .read) (f .pair .two .read) in

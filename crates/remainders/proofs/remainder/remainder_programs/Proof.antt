@@ -26,35 +26,29 @@ enum-known-clear c = search needs
 enum-told : tie.Need-enum-told
 enum-told c = search needs
 
-program-weight-requires : tie.Need-program-weight-requires
-program-weight-requires c κs = search needs
-
-program-weight-requires-2 : tie.Need-program-weight-requires-2
-program-weight-requires-2 c κs = search needs
-
 same-length : tie.Need-same-length
 same-length c = search needs
 
 returns : tie.Need-returns
 returns c =
-    let s = (c .before .before .before .before .before .before .before .before .before .before .before .before .before .before) in
-    let z = c .before .before .before .before .before .before .before .clear-cells in
+    let s = (c .before .before .before .before .before .before .before .before .before .before .before .before) in
+    let z = c .before .before .before .before .before .clear-cells in
     record {
-      workspace-after = z .ensures .1 ∙ ap (λ r. workspaceAfter (clearedAs r) (s .args .workspace .now)) (c .before .before .before .enum-told .given .1);
-      states = λ T o u v eu ev. pattern-light T u v (s .args .budget) (length (s .args .workspace .now)) (s .args .answer .now) (subst (λ r. clearedAs r ≡ cleared T (s .args .budget) (length (s .args .workspace .now))) (c .before .before .before .enum-told .given .1) (z .ensures .0 T o))
-          (omega (arith, c .if1 .taken, c .before .before .program-weight .ensures T o v ev, c .before .program-weight2 .ensures T o u eu));
+      workspace-after = z .ensures .1 ∙ ap (λ r. workspaceAfter (clearedAs r) (s .args .workspace .now)) (c .before .enum-told .given .1);
+      states = λ T o u v eu ev. pattern-light T u v (s .args .budget) (length (s .args .workspace .now)) (s .args .answer .now) (subst (λ r. clearedAs r ≡ cleared T (s .args .budget) (length (s .args .workspace .now))) (c .before .enum-told .given .1) (z .ensures .0 T o))
+          (omega (arith, c .if1 .taken, s .pre .1 .two T o v ev, s .pre .1 .one T o u eu));
     }
 
-run-programs-requires : tie.Need-run-programs-requires
-run-programs-requires c κs = search needs
+reverse-images-requires : tie.Need-reverse-images-requires
+reverse-images-requires c κs = search needs
 
 answer-ending-requires : tie.Need-answer-ending-requires
 answer-ending-requires c κs =
-    let s = (c .before .before .before .before .before .before .before .before .before .before .before .before .before .before .before .before .before .before .before .before) in
-    let x = c .before .before .before .before .run-programs in
-    let p = s .pre .pair in
-    finishable (s .pre .table) (negative (p .one .word) ++ positive (p .two .word)) (s .args .budget) (x .last .1 .1 .1 .1 .1 .1 .1 .0) (x .result)
-    (x .ensures .1 (s .pre .table) (s .pre .of) (p .one .word) (p .two .word) (p .one .read) (p .two .read))
+    let s = (c .before .before .before .before .before .before .before .before .before .before .before .before .before .before .before .before .before .before) in
+    let x = c .before .before .before .before .reverse-images in
+    let p = s .pre .0 .pair in
+    finishable (s .pre .0 .table) (negative (p .one .word) ++ positive (p .two .word)) (s .args .budget) (x .last .1 .1 .1 .1 .1 .1 .1 .0) (x .result)
+    (x .ensures .1 (s .pre .0 .table) (s .pre .0 .of) (p .one .word) (p .two .word) (p .one .read) (p .two .read))
 
 wipe-requires : tie.Need-wipe-requires
 wipe-requires c κs = search needs
@@ -79,23 +73,23 @@ same-length-4 c = search needs
 
 returns-3 : tie.Need-returns-3
 returns-3 c =
-    let s = (c .before .before .before .before .before .before .before .before .before .before .before .before .before .before .before .before .before .before .before .before .before .before .before .before .before .before .before) in
-    let z = c .before .before .before .before .before .before .before .before .before .before .before .before .before .before .before .before .before .before .before .before .clear-cells in
-    let p = s .pre .pair in
-    let x = c .before .before .before .before .before .before .before .before .before .before .before .run-programs in
+    let s = (c .before .before .before .before .before .before .before .before .before .before .before .before .before .before .before .before .before .before .before .before .before .before .before .before .before) in
+    let z = c .before .before .before .before .before .before .before .before .before .before .before .before .before .before .before .before .before .before .clear-cells in
+    let p = s .pre .0 .pair in
+    let x = c .before .before .before .before .before .before .before .before .before .before .before .reverse-images in
     let a = c .before .before .before .before .before .before .answer-ending in
     let w = c .before .before .wipe in
     let bytes = x .last .1 .1 .1 .1 .1 .1 .1 .0 in
-    let kept : length (z .last .1 .1 .1 .0) ≡ length (s .args .workspace .now) = ap length (z .ensures .1 ∙ ap (λ r. workspaceAfter (clearedAs r) (s .args .workspace .now)) (c .before .before .before .before .before .before .before .before .before .before .before .before .before .before .before .before .enum-told .given .1)) ∙ length-replicate (length (s .args .workspace .now)) 0 in
+    let kept : length (z .last .1 .1 .1 .0) ≡ length (s .args .workspace .now) = ap length (z .ensures .1 ∙ ap (λ r. workspaceAfter (clearedAs r) (s .args .workspace .now)) (c .before .before .before .before .before .before .before .before .before .before .before .before .before .before .enum-told .given .1)) ∙ length-replicate (length (s .args .workspace .now)) 0 in
     let word = negative (p .one .word) ++ positive (p .two .word) in
-    let own = a .ensures (s .pre .table) word (s .args .budget) (x .ensures .1 (s .pre .table) (s .pre .of) (p .one .word) (p .two .word) (p .one .read) (p .two .read)) in
+    let own = a .ensures (s .pre .0 .table) word (s .args .budget) (x .ensures .1 (s .pre .0 .table) (s .pre .0 .of) (p .one .word) (p .two .word) (p .one .read) (p .two .read)) in
     record {
       workspace-after =
           w .ensures
           ∙ (ap (λ i. replicate i 0) (x .ensures .0 ∙ kept)
-          ∙ sym (ap (λ o. workspaceAfter o (s .args .workspace .now)) (own .result) ∙ zero-after (length (s .args .answer .now)) (reversing (s .pre .table) (s .args .budget) (length bytes) word) (s .args .workspace .now)));
-      states = λ T o u v eu ev. pattern-heavy T u v (s .args .budget) (length (s .args .workspace .now)) (s .args .answer .now) (subst (λ r. clearedAs r ≡ cleared T (s .args .budget) (length (s .args .workspace .now))) (c .before .before .before .before .before .before .before .before .before .before .before .before .before .before .before .before .enum-told .given .1) (z .ensures .0 T o))
-          (omega (arith, c .before .before .before .before .before .before .before .before .before .before .before .before .before .if1 .left, c .before .before .before .before .before .before .before .before .before .before .before .before .before .before .before .program-weight .ensures T o v ev, c .before .before .before .before .before .before .before .before .before .before .before .before .before .before .program-weight2 .ensures T o u eu))
+          ∙ sym (ap (λ o. workspaceAfter o (s .args .workspace .now)) (own .result) ∙ zero-after (length (s .args .answer .now)) (reversing (s .pre .0 .table) (s .args .budget) (length bytes) word) (s .args .workspace .now)));
+      states = λ T o u v eu ev. pattern-heavy T u v (s .args .budget) (length (s .args .workspace .now)) (s .args .answer .now) (subst (λ r. clearedAs r ≡ cleared T (s .args .budget) (length (s .args .workspace .now))) (c .before .before .before .before .before .before .before .before .before .before .before .before .before .before .enum-told .given .1) (z .ensures .0 T o))
+          (omega (arith, c .before .before .before .before .before .before .before .before .before .before .before .before .before .if1 .left, s .pre .1 .two T o v ev, s .pre .1 .one T o u eu))
           (subst (λ i. States (remainderOf (length (s .args .answer .now)) (reversing T (s .args .budget) i (negative u ++ positive v))) (s .args .answer .now) (a .last .1 .1 .0) (a .result)) (x .ensures .0 ∙ kept)
           (a .ensures T (negative u ++ positive v) (s .args .budget) (x .ensures .1 T o u v eu ev)));
     }
@@ -107,11 +101,9 @@ remainder-programs-spec =
     clear-cells-requires
     enum-known-clear
     enum-told
-    program-weight-requires
-    program-weight-requires-2
     same-length
     returns
-    run-programs-requires
+    reverse-images-requires
     answer-ending-requires
     wipe-requires
     same-length-2

@@ -5,6 +5,7 @@ use Rattle.model.specs.Services.{sizes}
 use Rattle.model.specs.Reversing.{reversing}
 use Rattle.model.specs.Outcome.{mapped}
 use Rattle.model.specs.Areas.{fractionBytes, outputAfter, workspaceAfter}
+use Rattle.images.specs.declared.programs.Signs.the-variants.{Any}
 use Rattle.loading.specs.Loading.{TableProgramDone}
 use Rattle.loading.proofs.Outcomes.{refused-stated, refused-output}
 use Rattle.reversal.proofs.Answers.{zero-after}
@@ -33,7 +34,7 @@ reverse-program-requires : tie.Need-reverse-program-requires
 reverse-program-requires c κs =
     let s = c .before .before .before .before .before .before .before .before .before .before .before .before .before in
     let v = c .before .before .before .before .before .before .before .read-table-program in
-    let t = subst (TableProgramDone (s .args .table .now) (s .args .program .now) (v .last .1 .1 .0)) (c .before .before .before .before .read2 .given .1) (v .ensures) in
+    let t = subst (TableProgramDone (s .args .table .now) (s .args .program .now) Any (v .last .1 .1 .1 .0)) (c .before .before .before .before .read2 .given .1) (v .ensures) in
     t .runs
 
 returns : tie.Need-returns
@@ -41,7 +42,7 @@ returns c =
     let s = c .before .before .before .before .before .before .before .before .before .before in
     let v = c .before .before .before .before .read-table-program in
     let r = c .before .read .given .0 .0 in
-    let e = subst (TableProgramDone (s .args .table .now) (s .args .program .now) (v .last .1 .1 .0)) (c .before .read .given .1) (v .ensures) in
+    let e = subst (TableProgramDone (s .args .table .now) (s .args .program .now) Any (v .last .1 .1 .1 .0)) (c .before .read .given .1) (v .ensures) in
     let o = reverse-refused (s .args .table .now) (s .args .program .now) (s .args .allowance) (length (s .args .workspace .now)) (length (s .args .answer .now)) r e in
     let told = refused-stated _ r (sym (o .stated)) sizes in
     let written = refused-output _ r (sym (o .stated)) fractionBytes (s .args .answer .now) in
@@ -57,7 +58,7 @@ returns-2 : tie.Need-returns-2
 returns-2 c =
     let s = c .before .before .before .before .before .before .before .before .before .before .before .before .before .before .before .before .before .before in
     let v = c .before .before .before .before .before .before .before .before .before .before .before .before .read-table-program in
-    let t = subst (TableProgramDone (s .args .table .now) (s .args .program .now) (v .last .1 .1 .0)) (c .before .before .before .before .before .before .before .before .before .read2 .given .1) (v .ensures) in
+    let t = subst (TableProgramDone (s .args .table .now) (s .args .program .now) Any (v .last .1 .1 .1 .0)) (c .before .before .before .before .before .before .before .before .before .read2 .given .1) (v .ensures) in
     let p = t .runs in
     let q = p .accepted .program in
     let o = reverse-runs (s .args .table .now) (s .args .program .now) (s .args .allowance) (length (s .args .workspace .now)) (length (s .args .answer .now)) (p .table) (t .table-read) (q .word) (t .program-read) in

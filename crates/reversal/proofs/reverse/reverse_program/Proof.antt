@@ -7,13 +7,13 @@ use borrow.Author.Needs.{needs}
 use Rattle.reversal.proofs.reverse.reverse_program.Statement.{statement}
 use Rattle.reversal.proofs.reverse.reverse_program.Tie as tie
 
-run-program-requires : tie.Need-run-program-requires
-run-program-requires c κs = search needs
+reverse-image-requires : tie.Need-reverse-image-requires
+reverse-image-requires c κs = search needs
 
 answer-ending-requires : tie.Need-answer-ending-requires
 answer-ending-requires c κs =
     let s = c .before .before .before .before .before .before .before .before .before .before in
-    let v = c .before .before .before .before .run-program in
+    let v = c .before .before .before .before .reverse-image in
     let q = s .pre .accepted .program in
     finishable (s .pre .table) (q .word) (s .args .budget) (v .last .1 .1 .1 .1 .1 .0) (v .result) (v .ensures .1 (s .pre .table) (s .pre .of) (q .word) (q .read))
 
@@ -29,7 +29,7 @@ same-length-2 c = search needs
 returns : tie.Need-returns
 returns c =
     let s = c .before .before .before .before .before .before .before .before .before .before .before .before .before .before .before .before .before in
-    let v = c .before .before .before .before .before .before .before .before .before .before .before .run-program in
+    let v = c .before .before .before .before .before .before .before .before .before .before .before .reverse-image in
     let a = c .before .before .before .before .before .before .answer-ending in
     let z = c .before .before .wipe in
     record {
@@ -42,7 +42,7 @@ pub reverse-program-spec : {M : Type 1} → statement M
 reverse-program-spec =
     tie.close
     (tie.spec
-    run-program-requires
+    reverse-image-requires
     answer-ending-requires
     wipe-requires
     same-length

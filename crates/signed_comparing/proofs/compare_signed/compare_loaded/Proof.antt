@@ -28,7 +28,7 @@ settle-requires c κs =
       stands = p .of .stands;
       word = inverse (one .word) ++ two .word;
       steps = s .args .budget;
-      reverses = c .before .before .before .run-signed .ensures .1 (p .table) (p .of) (one .word) (two .word) (one .read) (two .read);
+      reverses = c .before .before .before .reverse-signed .ensures .1 (p .table) (p .of) (one .word) (two .word) (one .read) (two .read);
     }
 
 returns : tie.Need-returns
@@ -43,12 +43,12 @@ returns c =
     }
 
 -- the workspace is as long when the programs have been reversed
-long : (c : tie.After-run-signed) → length (c .run-signed .last .1 .1 .1 .1 .1 .1 .1 .0) ≡ length (c .before .before .before .before .before .before .before .before .before .before .before .before .args .workspace .now)
+long : (c : tie.After-reverse-signed) → length (c .reverse-signed .last .1 .1 .1 .1 .1 .1 .1 .0) ≡ length (c .before .before .before .before .before .before .before .before .before .before .before .before .args .workspace .now)
 long c =
     let s = c .before .before .before .before .before .before .before .before .before .before .before .before in
     let z = c .before .before .before .before .before .before .prepare in
     let area = s .args .workspace .now in
-    c .run-signed .ensures .0 ∙ ap length (z .ensures .1 ∙ ap (λ x. workspaceAfter (clearedAs x) area) (c .before .before .enum-told .given .1)) ∙ length-replicate (length area) 0
+    c .reverse-signed .ensures .0 ∙ ap length (z .ensures .1 ∙ ap (λ x. workspaceAfter (clearedAs x) area) (c .before .before .enum-told .given .1)) ∙ length-replicate (length area) 0
 
 -- what the reversings come to
 verdict : (c : tie.After-settle) → (T : Presentation) → Of (c .before .before .before .before .before .before .before .before .before .before .before .before .before .before .before .before .args .cells .now) (c .before .before .before .before .before .before .before .before .before .before .before .before .before .before .before .before .args .size) T → (w v : Word) → readProgram (c .before .before .before .before .before .before .before .before .before .before .before .before .before .before .before .before .args .size) (c .before .before .before .before .before .before .before .before .before .before .before .before .before .before .before .before .args .first .now) ≡ answered w
@@ -56,7 +56,7 @@ verdict : (c : tie.After-settle) → (T : Presentation) → Of (c .before .befor
     → comparedSigned (c .settle .result) ≡ signedOf T (c .before .before .before .before .before .before .before .before .before .before .before .before .before .before .before .before .args .budget) (length (c .before .before .before .before .before .before .before .before .before .before .before .before .before .before .before .before .args .workspace .now)) (reversing T (c .before .before .before .before .before .before .before .before .before .before .before .before .before .before .before .before .args .budget) (length (c .before .before .before .before .before .before .before .before .before .before .before .before .before .before .before .before .args .workspace .now)) (inverse w ++ v))
 verdict c T o w v ew ev =
     let s = c .before .before .before .before .before .before .before .before .before .before .before .before .before .before .before .before in
-    c .settle .ensures .1 T (o .stands) (inverse w ++ v) (c .before .before .before .before .run-signed .ensures .1 T o w v ew ev)
+    c .settle .ensures .1 T (o .stands) (inverse w ++ v) (c .before .before .before .before .reverse-signed .ensures .1 T o w v ew ev)
     ∙ ap (λ n. signedOf T (s .args .budget) n (reversing T (s .args .budget) n (inverse w ++ v))) (long (c .before .before .before .before))
 
 returns-2 : tie.Need-returns-2

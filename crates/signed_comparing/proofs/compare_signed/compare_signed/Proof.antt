@@ -4,7 +4,8 @@ use lib.ListN.{length}
 use Rattle.model.specs.Areas.{workspaceAfter}
 use Rattle.model.specs.Images.{readProgram}
 use Rattle.cells.proofs.Rules.{blank-zeros}
-use Rattle.signed_comparing.specs.Running.{SignedDone}
+use Rattle.images.specs.declared.programs.Signs.the-variants.{Any}
+use Rattle.loading.specs.Loading.{ProgramsDone}
 use Rattle.signed_comparing.proofs.Service.{read-refused, compare-runs, says}
 use borrow.Author.Needs.{needs}
 use Rattle.signed_comparing.proofs.compare_signed.compare_signed.Statement.{statement}
@@ -13,22 +14,22 @@ use Rattle.signed_comparing.proofs.compare_signed.compare_signed.Tie as
 compare-loaded-requires : tie.Need-compare-loaded-requires
 compare-loaded-requires c κs =
     let a = c .before .before .before .before .before .before .before .before .before .before .before .before .args in
-    let v = c .before .before .before .before .before .before .read-signed in
-    subst (SignedDone (a .table .now) (a .first .now) (a .second .now) (v .last .1 .1 .1 .0)) (c .before .before .before .read2 .given .1) (v .ensures) .runs
+    let v = c .before .before .before .before .before .before .read-programs in
+    subst (ProgramsDone (a .table .now) (a .first .now) (a .second .now) Any (v .last .1 .1 .1 .1 .0)) (c .before .before .before .read2 .given .1) (v .ensures) .runs
 
 returns : tie.Need-returns
 returns c =
     let a = c .before .before .before .before .before .before .before .before .before .before .args in
-    let v = c .before .before .before .before .read-signed in
-    let e = subst (SignedDone (a .table .now) (a .first .now) (a .second .now) (v .last .1 .1 .1 .0)) (c .before .read .given .1) (v .ensures) in
+    let v = c .before .before .before .before .read-programs in
+    let e = subst (ProgramsDone (a .table .now) (a .first .now) (a .second .now) Any (v .last .1 .1 .1 .1 .0)) (c .before .read .given .1) (v .ensures) in
     let o = read-refused (a .table .now) (a .first .now) (a .second .now) (a .allowance) (length (a .workspace .now)) (c .before .read .given .0 .0) e in
     (o .stated, (o .workspace (a .workspace .now), says (a .table .now) (a .first .now) (a .second .now) (a .allowance) (length (a .workspace .now)) _ (o .stated)))
 
 returns-2 : tie.Need-returns-2
 returns-2 c =
     let a = c .before .before .before .before .before .before .before .before .before .before .before .before .before .before .before .args in
-    let v = c .before .before .before .before .before .before .before .before .before .read-signed in
-    let t = subst (SignedDone (a .table .now) (a .first .now) (a .second .now) (v .last .1 .1 .1 .0)) (c .before .before .before .before .before .before .read2 .given .1) (v .ensures) in
+    let v = c .before .before .before .before .before .before .before .before .before .read-programs in
+    let t = subst (ProgramsDone (a .table .now) (a .first .now) (a .second .now) Any (v .last .1 .1 .1 .1 .0)) (c .before .before .before .before .before .before .read2 .given .1) (v .ensures) in
     let T = t .runs .table in
     let one = t .runs .programs .one .program in
     let two = t .runs .programs .two .program in

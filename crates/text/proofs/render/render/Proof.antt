@@ -1,15 +1,30 @@
 -- `text::render::render` meets its contract.
 use mathlib.Core.Path.{subst}
+use mathlib.Core.List.{List}
+use Prim.Native.Nat.{ℕ}
 use native.Mathlib.Omega.{arith}
-use Rattle.images.specs.Tables.{SizeDone}
-use Rattle.text.proofs.Reports.{no-table}
-use Rattle.text.proofs.Rendering.{reported}
+use Rattle.cells.proofs.Rules.{blank-zeros}
+use Rattle.images.specs.declared.programs.Signs.the-variants.{Any}
+use Rattle.loading.specs.Loading.{TableProgramDone}
+use Rattle.loading.specs.declared.loading.TableProgram.{TableProgram}
+use Rattle.text.proofs.Reports.{not-read}
+use Rattle.text.proofs.Rendering.{reported, readable}
 use borrow.Author.Needs.{needs}
 use Rattle.text.proofs.render.render.Statement.{statement}
 use Rattle.text.proofs.render.render.Tie as tie
 
-table-size-requires : tie.Need-table-size-requires
-table-size-requires c κs = search needs
+abbrev start : tie.After-read-table-program → tie.Start
+start c = c .before .before .before .before .before .before .before
+
+-- what reading came to
+abbrev Done : tie.After-read-table-program → TableProgram → Type 0
+Done c r = TableProgramDone (start c .args .table .now) (start c .args .program .now) Any (c .read-table-program .last .1 .1 .1 .0) r
+
+slice-aggregate-read-table-program : tie.Need-slice-aggregate-read-table-program
+slice-aggregate-read-table-program c = search needs
+
+read-table-program-requires : tie.Need-read-table-program-requires
+read-table-program-requires c κs = blank-zeros
 
 enum-known-read : tie.Need-enum-known-read
 enum-known-read c = search needs
@@ -20,20 +35,23 @@ put-refusal-requires c κs = search needs
 enum-known-read-2 : tie.Need-enum-known-read-2
 enum-known-read-2 c = search needs
 
-render-program-requires : tie.Need-render-program-requires
-render-program-requires c κs =
-    let s = c .before .before .before .before .before .before .before .before .before .before .before .before in
-    (s .pre, subst (SizeDone (s .args .table .now)) (c .before .before .before .before .read2 .given .1) (c .before .before .before .before .before .before .table-size .ensures))
+render-accepted-requires : tie.Need-render-accepted-requires
+render-accepted-requires c κs =
+    let k = c .before .before .before in
+    let v = k .before .before .before .before in
+    (start v .pre, readable (subst (Done v) (k .before .read2 .given .1) (v .read-table-program .ensures)))
 
 same-length : tie.Need-same-length
 same-length c = search needs
 
 returns : tie.Need-returns
 returns c =
-    let s = c .before .before .before .before .before .before .before .before .before .before .before .before .before in
-    let e = subst (SizeDone (s .args .table .now)) (c .before .before .before .before .before .read .given .1) (c .before .before .before .before .before .before .before .table-size .ensures) in
-    reported (c .before .before .put-refusal .ensures) (omega (arith, s .pre .room))
-    (no-table (s .args .table .now) (s .args .program .now) (c .before .before .before .before .before .read .given .0 .0) e)
+    let p = c .before .before in
+    let k = p .before .before in
+    let v = k .before .before .before .before in
+    let s = start v in
+    reported (p .put-refusal .ensures) (omega (arith, s .pre .room))
+    (not-read (s .args .table .now) (s .args .program .now) (k .before .read .given .0 .0) (subst (Done v) (k .before .read .given .1) (v .read-table-program .ensures)))
 
 same-length-2 : tie.Need-same-length-2
 same-length-2 c = search needs
@@ -51,11 +69,12 @@ pub render-spec : {M : Type 1} → statement M
 render-spec =
     tie.close
     (tie.spec
-    table-size-requires
+    slice-aggregate-read-table-program
+    read-table-program-requires
     enum-known-read
     put-refusal-requires
     enum-known-read-2
-    render-program-requires
+    render-accepted-requires
     same-length
     returns
     same-length-2

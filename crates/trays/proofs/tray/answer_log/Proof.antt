@@ -38,7 +38,7 @@ write-answer-requires : tie.Need-write-answer-requires
 write-answer-requires c κs = search needs
 
 same-length : tie.Need-same-length
-same-length c = c .before .before .before .before .before .before .compare-log .kept .1 .1 .1 .1 .1 .1 .0
+same-length c = c .before .before .before .before .before .before .compare-log .kept .1 .1 .1 .1 .1 .1 .1 .0
 
 same-length-2 : tie.Need-same-length-2
 same-length-2 c = c .before .before .write-answer .kept .0

@@ -12,11 +12,11 @@ use Rattle.trays.proofs.tray.answer_logs.Statement.{statement}
 use Rattle.trays.proofs.tray.answer_logs.Tie as tie
 
 abbrev Inv-loop : tie.InvT-loop
-Inv-loop cells size tray logs pattern n budget workspace₀ answer₀ at₀ place₀ left₀ workspace answer at place left =
+Inv-loop cells size tray logs pattern n weight budget workspace₀ answer₀ at₀ place₀ left₀ workspace answer at place left =
     (workspace ≡ workspace₀) × ((l : LogsOf tray logs) → Answered cells size tray pattern budget (length workspace₀) (l .images) answer₀ answer at place left)
 
 abbrev μ-loop : tie.MeasureT-loop
-μ-loop cells size tray logs pattern n budget workspace₀ answer₀ at₀ place₀ left₀ workspace answer at place left = left
+μ-loop cells size tray logs pattern n weight budget workspace₀ answer₀ at₀ place₀ left₀ workspace answer at place left = left
 
 loop-holds : tie.Need-loop-holds Inv-loop μ-loop
 loop-holds c =
@@ -55,8 +55,8 @@ loop-again c =
     let width = length (s .args .workspace .now) in (
       x .ensures .workspace ∙ l .inv .0,
       λ logs.
-          subst (λ k. Answered (s .args .cells .now) (s .args .size) (s .args .tray .now) (s .args .pattern .now) (s .args .budget) width (logs .images) (s .args .answer .now) (x .last .1 .1 .1 .1 .1 .1 .1 .1 .0) k (l .place + 3) (l .left - 1)) (sym (x .ensures .ends))
-          (one-answered (s .args .cells .now) (s .args .size) (s .args .tray .now) (s .args .pattern .now) (s .args .budget) width (s .args .answer .now) (logs .images) (l .answer) (l .at) (l .place) (l .left) (l .inv .1 logs) (c .before .before .before .before .before .before .before .loop-test .taken) (x .last .1 .1 .1 .1 .1 .1 .1 .1 .0) (x .ensures .same-length)
+          subst (λ k. Answered (s .args .cells .now) (s .args .size) (s .args .tray .now) (s .args .pattern .now) (s .args .budget) width (logs .images) (s .args .answer .now) (x .last .1 .1 .1 .1 .1 .1 .1 .1 .1 .0) k (l .place + 3) (l .left - 1)) (sym (x .ensures .ends))
+          (one-answered (s .args .cells .now) (s .args .size) (s .args .tray .now) (s .args .pattern .now) (s .args .budget) width (s .args .answer .now) (logs .images) (l .answer) (l .at) (l .place) (l .left) (l .inv .1 logs) (c .before .before .before .before .before .before .before .loop-test .taken) (x .last .1 .1 .1 .1 .1 .1 .1 .1 .1 .0) (x .ensures .same-length)
           (λ T o v e. x .ensures .answer T o v e ∙ ap (λ w. written (l .answer) (l .place) (logBytes (logVerdict (s .args .size) T v (s .args .budget) (length w) (imageAt (s .args .tray .now) (l .at))))) (l .inv .0))),
     )
 

@@ -3,14 +3,18 @@ use mathlib.Core.Path.{refl, sym, subst, _∙_}
 use lib.ListN.{length}
 use Rattle.model.specs.Services.{readForward, forwardVerdict}
 use Rattle.model.proofs.Outcomes.{still-refused, goes-on}
-use Rattle.images.specs.Programs.{ForwardDone}
+use Rattle.images.specs.Programs.{ReadDone}
+use Rattle.images.specs.declared.programs.Signs.the-variants.{Forward as ForwardAlone}
 use Rattle.cells.proofs.Rules.{of-some, of-few}
+use Rattle.loading.proofs.Weights.{measured-weighs}
 use borrow.Author.Needs.{needs}
 use Rattle.trays.proofs.tray.compare_log.Statement.{statement}
 use Rattle.trays.proofs.tray.compare_log.Tie as tie
 
-read-forward-requires : tie.Need-read-forward-requires
-read-forward-requires c κs = search needs
+read-as-requires : tie.Need-read-as-requires
+read-as-requires c κs =
+    let p = c .before .before .before .before .pre .0 in
+    (p .table, p .of)
 
 enum-known-read : tie.Need-enum-known-read
 enum-known-read c = search needs
@@ -22,44 +26,44 @@ compare-cleared-requires : tie.Need-compare-cleared-requires
 compare-cleared-requires c κs =
     let s = c .before .before .before .before .before .before .before .before .before in
     let p = s .pre .0 in
-    let f = subst (ForwardDone (s .args .log .now) (s .args .size)) (c .before .before .read2 .given .1) (c .before .before .before .before .read-forward .ensures) in (
+    let f = subst (ReadDone (s .args .log .now) (s .args .cells .now) (s .args .size) ForwardAlone) (c .before .before .read2 .given .1) (c .before .before .before .before .read-as .ensures) in (
       record {
         table = p .table;
         of = p .of;
-        pair = record { some = of-some (p .of); few = of-few (p .of); one = f; two = p .forward };
+        pair = record { some = of-some (p .of); few = of-few (p .of); one = f .forward; two = p .forward };
       },
-      s .pre .1,
+      (s .pre .1, record { one = measured-weighs (s .args .cells .now) (s .args .size) (s .args .log .now) _ _ f; two = p .weighs }),
     )
 
 returns : tie.Need-returns
 returns c =
     let s = c .before .before .before .before .before .before .before .before in
-    let e = subst (ForwardDone (s .args .log .now) (s .args .size)) (c .before .read .given .1) (c .before .before .before .read-forward .ensures) in
+    let e = subst (ReadDone (s .args .log .now) (s .args .cells .now) (s .args .size) ForwardAlone) (c .before .read .given .1) (c .before .before .before .read-as .ensures) in
     record {
       workspace = refl;
       verdict = λ T o v ev. sym (still-refused (readForward (s .args .size) (s .args .log .now)) (c .before .read .given .0 .0) e _);
     }
 
 same-length : tie.Need-same-length
-same-length c = c .before .before .compare-cleared .kept .1 .1 .1 .1 .1 .1 .1 .0
+same-length c = c .before .before .compare-cleared .kept .1 .1 .1 .1 .1 .1 .1 .1 .1 .0
 
 returns-2 : tie.Need-returns-2
 returns-2 c =
     let s = c .before .before .before .before .before .before .before .before .before .before .before .before in
-    let f = subst (ForwardDone (s .args .log .now) (s .args .size)) (c .before .before .before .before .before .read2 .given .1) (c .before .before .before .before .before .before .before .read-forward .ensures) in
+    let f = subst (ReadDone (s .args .log .now) (s .args .cells .now) (s .args .size) ForwardAlone) (c .before .before .before .before .before .read2 .given .1) (c .before .before .before .before .before .before .before .read-as .ensures) in
     let x = c .before .before .compare-cleared in
     record {
       workspace = x .ensures .workspace;
       verdict = λ T o v ev.
-          x .ensures .decided T o (f .word) v (f .read) ev
-          ∙ sym (goes-on (readForward (s .args .size) (s .args .log .now)) (f .word) (f .read) (λ u. forwardVerdict T u v (s .args .budget) (length (s .args .workspace .now))));
+          x .ensures .decided T o (f .forward .word) v (f .forward .read) ev
+          ∙ sym (goes-on (readForward (s .args .size) (s .args .log .now)) (f .forward .word) (f .forward .read) (λ u. forwardVerdict T u v (s .args .budget) (length (s .args .workspace .now))));
     }
 
 pub compare-log-spec : {M : Type 1} → statement M
 compare-log-spec =
     tie.close
     (tie.spec
-    read-forward-requires
+    read-as-requires
     enum-known-read
     enum-known-read-2
     compare-cleared-requires

@@ -75,11 +75,11 @@ returns-2 c =
 
 same-length-3 : tie.Need-same-length-3
 same-length-3 c =
-    c .before .before .before .before .answer-logs .kept .1 .1 .1 .1 .1 .1 .1 .0 ∙
+    c .before .before .before .before .answer-logs .kept .1 .1 .1 .1 .1 .1 .1 .1 .0 ∙
     c .before .before .before .before .before .before .before .before .before .before .before .before .clear-cells .kept .1 .1 .1 .0
 
 same-length-4 : tie.Need-same-length-4
-same-length-4 c = c .before .before .before .before .answer-logs .kept .1 .1 .1 .1 .1 .1 .1 .1 .0
+same-length-4 c = c .before .before .before .before .answer-logs .kept .1 .1 .1 .1 .1 .1 .1 .1 .1 .0
 
 returns-3 : tie.Need-returns-3
 returns-3 c =

@@ -4,7 +4,8 @@ use native.Mathlib.Omega.{arith}
 use lib.ListN.{length}
 use Rattle.model.specs.Services.{readForward}
 use Rattle.cells.proofs.Rules.{blank-zeros}
-use Rattle.loading.specs.Loading.{readTableWith, TableForwardDone}
+use Rattle.images.specs.declared.programs.Signs.the-variants.{Forward as ForwardAlone}
+use Rattle.loading.specs.Loading.{readTableWith, TableProgramDone}
 use Rattle.loading.proofs.Early.{forward-early}
 use Rattle.loading.proofs.Reading.{table-with-early}
 use Rattle.trays.specs.Tray.{States}
@@ -16,8 +17,8 @@ use Rattle.trays.proofs.tray.tray_under.Tie as tie
 compare-tray-requires : tie.Need-compare-tray-requires
 compare-tray-requires c κs =
     let s = c .before .before .before .before .before .before .before .before .before .before .before .before .before .before in
-    let v = c .before .before .before .before .before .before .before .read-table-forward in
-    let l = subst (TableForwardDone (s .args .table .now) (s .args .pattern .now) (v .last .1 .1 .0)) (c .before .before .before .before .read2 .given .1) (v .ensures) in
+    let v = c .before .before .before .before .before .before .before .read-table-program in
+    let l = subst (TableProgramDone (s .args .table .now) (s .args .pattern .now) ForwardAlone (v .last .1 .1 .1 .0)) (c .before .before .before .before .read2 .given .1) (v .ensures) in
     (l .runs, s .pre .all)
 
 returns : tie.Need-returns
@@ -25,9 +26,9 @@ returns c =
     let s = c .before .before .before .before .before .before .before .before .before .before .before in
     let table = s .args .table .now in
     let pattern = s .args .pattern .now in
-    let v = c .before .before .before .before .read-table-forward in
+    let v = c .before .before .before .before .read-table-program in
     let r = c .before .read .given .0 .0 in
-    let e = subst (TableForwardDone table pattern (v .last .1 .1 .0)) (c .before .read .given .1) (v .ensures) in
+    let e = subst (TableProgramDone table pattern ForwardAlone (v .last .1 .1 .1 .0)) (c .before .read .given .1) (v .ensures) in
     tray-refused table (s .args .tray .now) pattern (s .args .budget) (s .args .workspace .now) (s .args .answer .now) r
     (unread table (s .args .tray .now) pattern (s .args .budget) (length (s .args .workspace .now)) (length (s .args .answer .now)) (s .pre .all .images) (s .pre .read) r e)
     (readTableWith readForward table pattern) 7 e (table-with-early readForward table pattern forward-early) (omega arith)
@@ -37,12 +38,12 @@ returns-2 c =
     let s = c .before .before .before .before .before .before .before .before .before .before .before .before .before .before .before .before .before .before .before in
     let table = s .args .table .now in
     let pattern = s .args .pattern .now in
-    let v = c .before .before .before .before .before .before .before .before .before .before .before .before .read-table-forward in
+    let v = c .before .before .before .before .before .before .before .before .before .before .before .before .read-table-program in
     let size = c .before .before .before .before .before .before .before .before .before .read2 .given .0 .0 in
-    let l = subst (TableForwardDone table pattern (v .last .1 .1 .0)) (c .before .before .before .before .before .before .before .before .before .read2 .given .1) (v .ensures) in
+    let l = subst (TableProgramDone table pattern ForwardAlone (v .last .1 .1 .1 .0)) (c .before .before .before .before .before .before .before .before .before .read2 .given .1) (v .ensures) in
     let t = l .runs in
     let x = c .before .before .before .before .compare-tray in
-    subst (λ o. States o (s .args .workspace .now) (x .last .1 .1 .1 .1 .1 .1 .1 .0) (s .args .answer .now) (x .last .1 .1 .1 .1 .1 .1 .1 .1 .0) (x .result))
+    subst (λ o. States o (s .args .workspace .now) (x .last .1 .1 .1 .1 .1 .1 .1 .1 .0) (s .args .answer .now) (x .last .1 .1 .1 .1 .1 .1 .1 .1 .1 .0) (x .result))
     (sym (sized-runs table (s .args .tray .now) pattern (s .args .budget) (length (s .args .workspace .now)) (length (s .args .answer .now)) (s .pre .all .images) (s .pre .read) (t .table) (l .table-read) (t .forward .word) (l .program-read) size (t .of .sized)))
     (x .ensures (s .pre .all) (t .table) (t .of) (t .forward .word) (t .forward .read))
 

@@ -10,7 +10,8 @@ use Rattle.images.proofs.RoundTrip.{table-in-range}
 use Rattle.cells.proofs.Rules.{blank-zeros}
 use Rattle.checks.specs.declared.table.Weights.the-variants.{Equal, Unequal}
 use Rattle.checks.specs.Table.{WeightsMean}
-use Rattle.loading.specs.Loading.{readTableWith, TableForwardDone}
+use Rattle.images.specs.declared.programs.Signs.the-variants.{Forward as ForwardAlone}
+use Rattle.loading.specs.Loading.{readTableWith, TableProgramDone}
 use Rattle.loading.proofs.Early.{forward-early}
 use Rattle.loading.proofs.Reading.{table-with-early}
 use Rattle.ways.specs.Service.{Answers, Passed}
@@ -21,18 +22,18 @@ use Rattle.ways.proofs.ways.ways.Tie as tie
 check-weights-requires : tie.Need-check-weights-requires
 check-weights-requires c κs =
     let s = c .before .before .before .before .before .before .before .before .before .before in
-    let v = c .before .before .before .before .before .read-table-forward in
-    let l = subst (TableForwardDone (s .args .table .now) (s .args .program .now) (v .last .1 .1 .0)) (c .before .before .read2 .given .1) (v .ensures) in
+    let v = c .before .before .before .before .before .read-table-program in
+    let l = subst (TableProgramDone (s .args .table .now) (s .args .program .now) ForwardAlone (v .last .1 .1 .1 .0)) (c .before .before .read2 .given .1) (v .ensures) in
     (l .runs .table, l .runs .of)
 
 list-program-requires : tie.Need-list-program-requires
 list-program-requires c κs =
     let s = c .before .before .before .before .before .before .before .before .before .before .before .before .before .before .before in
     let table = s .args .table .now in
-    let v = c .before .before .before .before .before .before .before .before .before .before .read-table-forward in
-    let cells = v .last .1 .1 .0 in
+    let v = c .before .before .before .before .before .before .before .before .before .before .read-table-program in
+    let cells = v .last .1 .1 .1 .0 in
     let size = c .before .before .before .before .before .before .before .read2 .given .0 .0 in
-    let l = subst (TableForwardDone table (s .args .program .now) cells) (c .before .before .before .before .before .before .before .read2 .given .1) (v .ensures) in
+    let l = subst (TableProgramDone table (s .args .program .now) ForwardAlone cells) (c .before .before .before .before .before .before .before .read2 .given .1) (v .ensures) in
     let t = l .runs in
     let even = weights-told cells size (t .table) (t .of) Equal (subst (WeightsMean cells size) (c .before .before .enum-told .given .1) (c .before .before .before .before .check-weights .ensures)) in
     let passed : Passed cells size (t .table) = record { of = t .of; in-range = table-in-range table (t .table) (l .table-read); even = even } in
@@ -44,9 +45,9 @@ returns c =
     let table = s .args .table .now in
     let program = s .args .program .now in
     let before = s .args .answer .now in
-    let v = c .before .before .before .before .read-table-forward in
+    let v = c .before .before .before .before .read-table-program in
     let r = c .before .read .given .0 .0 in
-    let e = subst (TableForwardDone table program (v .last .1 .1 .0)) (c .before .read .given .1) (v .ensures) in
+    let e = subst (TableProgramDone table program ForwardAlone (v .last .1 .1 .1 .0)) (c .before .read .given .1) (v .ensures) in
     promised table program before before (Refused r)
     (refused-answers _ before r (ways-unread table program (length before) r e)
     (early-other 7 (readTableWith readForward table program) r (omega arith) e (table-with-early readForward table program forward-early)))
@@ -57,10 +58,10 @@ returns-2 c =
     let table = s .args .table .now in
     let program = s .args .program .now in
     let before = s .args .answer .now in
-    let v = c .before .before .before .before .before .before .before .before .before .read-table-forward in
-    let cells = v .last .1 .1 .0 in
+    let v = c .before .before .before .before .before .before .before .before .before .read-table-program in
+    let cells = v .last .1 .1 .1 .0 in
     let size = c .before .before .before .before .before .before .read2 .given .0 .0 in
-    let l = subst (TableForwardDone table program cells) (c .before .before .before .before .before .before .read2 .given .1) (v .ensures) in
+    let l = subst (TableProgramDone table program ForwardAlone cells) (c .before .before .before .before .before .before .read2 .given .1) (v .ensures) in
     let t = l .runs in
     let pair = c .before .weights .given .0 .0 in
     let e = weights-told cells size (t .table) (t .of) (Unequal pair) (subst (WeightsMean cells size) (c .before .weights .given .1) (c .before .before .before .check-weights .ensures)) in
@@ -74,10 +75,10 @@ returns-3 c =
     let table = s .args .table .now in
     let program = s .args .program .now in
     let before = s .args .answer .now in
-    let v = c .before .before .before .before .before .before .before .before .before .before .before .before .before .read-table-forward in
-    let cells = v .last .1 .1 .0 in
+    let v = c .before .before .before .before .before .before .before .before .before .before .before .before .before .read-table-program in
+    let cells = v .last .1 .1 .1 .0 in
     let size = c .before .before .before .before .before .before .before .before .before .before .read2 .given .0 .0 in
-    let l = subst (TableForwardDone table program cells) (c .before .before .before .before .before .before .before .before .before .before .read2 .given .1) (v .ensures) in
+    let l = subst (TableProgramDone table program ForwardAlone cells) (c .before .before .before .before .before .before .before .before .before .before .read2 .given .1) (v .ensures) in
     let t = l .runs in
     let even = weights-told cells size (t .table) (t .of) Equal (subst (WeightsMean cells size) (c .before .before .before .before .before .enum-told .given .1) (c .before .before .before .before .before .before .before .check-weights .ensures)) in
     let passed : Passed cells size (t .table) = record { of = t .of; in-range = table-in-range table (t .table) (l .table-read); even = even } in

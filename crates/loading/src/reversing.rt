@@ -1,15 +1,38 @@
-// Two programs loaded for a comparison, and their reversing.
+// Accepted programs laid into the workspace, one or two of forward moves, and their reversing.
 ghost use mathlib.Core.Path.{_≡_};
 ghost use Prim.Native.Nat.{_+_, _≤_};
 ghost use lib.ListN.{length};
-ghost use Rattle.loading.specs.Loading.{TwoForward, Forward};
-ghost use Rattle.loading.specs.Comparison.{Loads, ProgramsReverse};
+ghost use Rattle.loading.specs.Loading.{TwoForward, Forward, ProgramRuns};
+ghost use Rattle.loading.specs.Reversing.{Loads, ProgramReverses, ProgramsReverse};
 use engine::gap::Gap;
 use engine::run::reversing;
 use engine::words::invert;
 use images::programs::unpack_letters;
 use model::answers::Ending;
 use model::answers::Stop;
+
+// Reverses an accepted program, loaded at the workspace's end.
+pub fn reverse_image(
+    cells: &[u8],
+    size: u8,
+    program: &[u8],
+    count: u16,
+    budget: u16,
+    workspace: &mut [u8],
+) -> Ending
+    requires { ⌜ ProgramRuns (now cells) size (now program) count ⌝ }
+    ensures length { λ r. ⌜ length (now (workspace .exit)) ≡ length (now (workspace .entry)) ⌝ }
+    ensures runs { λ r. ⌜ ProgramReverses (now (cells .entry)) size (now (program .entry)) budget (now (workspace .exit)) r ⌝ }
+{
+    let end = workspace.len();
+    let letters = count as usize;
+    if end < letters {
+        return Ending::Stopped(Stop::Room);
+    }
+    let right = end - letters;
+    unpack_letters(program, size, count, workspace, right);
+    reversing(cells, workspace, Gap { left: 0, right }, budget)
+}
 
 // The inverse of the first program, of m letters, at the workspace's start, and the second, of n letters, at its end.
 pub fn load_programs(size: u8, first: &[u8], m: u16, second: &[u8], n: u16, workspace: &mut [u8])
@@ -25,7 +48,7 @@ pub fn load_programs(size: u8, first: &[u8], m: u16, second: &[u8], n: u16, work
 }
 
 // Reverses the first program's inverse, then the second program.
-pub fn run_programs(
+pub fn reverse_images(
     cells: &[u8],
     size: u8,
     first: &[u8],

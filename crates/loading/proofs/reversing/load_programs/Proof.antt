@@ -1,4 +1,4 @@
--- `loading::comparison::load_programs` meets its contract.
+-- `loading::reversing::load_programs` meets its contract.
 use mathlib.Core.Path.{_≡_, sym, _∙_}
 use native.Mathlib.Omega.{arith}
 use Rattle.model.specs.Word.{positive}
@@ -6,8 +6,8 @@ use Rattle.model.proofs.Impossible.{same-answer}
 use Rattle.engine.proofs.Lettering.{length-positive}
 use Rattle.loading.proofs.LoadedPrograms.{loads-pair}
 use borrow.Author.Needs.{needs}
-use Rattle.loading.proofs.comparison.load_programs.Statement.{statement}
-use Rattle.loading.proofs.comparison.load_programs.Tie as tie
+use Rattle.loading.proofs.reversing.load_programs.Statement.{statement}
+use Rattle.loading.proofs.reversing.load_programs.Tie as tie
 
 sub-right : tie.Need-sub-right
 sub-right c = search needs

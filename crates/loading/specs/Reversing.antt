@@ -1,16 +1,22 @@
--- Two programs loaded for a comparison, and their reversing.
+-- Programs laid into the workspace, and their reversing.
 use mathlib.Core.List.{List, _++_}
 use mathlib.Core.Path.{_≡_}
 use Prim.Native.Nat.{ℕ, _-_}
 use lib.ListN.{length}
-use Rattle.model.specs.Word.{Positive, positive, negative}
+use Rattle.model.specs.Word.{Word, Positive, positive, negative}
 use Rattle.model.specs.Presentation.{Presentation}
 use Rattle.model.specs.Outcome.{answered}
+use Rattle.model.specs.Images.{readProgram}
 use Rattle.model.specs.Services.{readForward}
 use Rattle.model.specs.declared.answers.Ending.{Ending}
 use Rattle.engine.specs.Gap.{wordAt, Searched}
 use Rattle.cells.specs.Stands.{Serves, Of}
 use Rattle.engine.specs.Run.{Reverses}
+
+-- the reversing of a program, under every table that the cells stand for
+abbrev pub ProgramReverses : List ℕ → ℕ → List ℕ → ℕ → List ℕ → Ending → Type 0
+ProgramReverses cells size program budget workspace r =
+    (T : Presentation) → Of cells size T → (w : Word) → readProgram size program ≡ answered w → Reverses T w budget workspace r
 
 -- the inverse of the first word and the second word stand in the workspace
 pub record LoadedPrograms (cells : List ℕ) (T : Presentation) (u v : Positive) (bytes : List ℕ) (left right : ℕ) : Type 0 where

@@ -1,4 +1,4 @@
--- `loading::loading::run_program` meets its contract.
+-- `loading::loading::reverse_image` meets its contract.
 use mathlib.Core.Path.{_≡_, refl, sym, ap, subst, _∙_}
 use Prim.Native.Nat.{_+_, _-_}
 use native.Mathlib.Omega.{arith}
@@ -11,8 +11,8 @@ use Rattle.cells.specs.Stands.{Serves}
 use Rattle.engine.specs.Run.{Reverses}
 use Rattle.loading.proofs.Programs.{too-long, word-searched, word-served, word-reverses}
 use borrow.Author.Needs.{needs}
-use Rattle.loading.proofs.loading.run_program.Statement.{statement}
-use Rattle.loading.proofs.loading.run_program.Tie as tie
+use Rattle.loading.proofs.reversing.reverse_image.Statement.{statement}
+use Rattle.loading.proofs.reversing.reverse_image.Tie as tie
 
 returns : tie.Need-returns
 returns c =
@@ -57,6 +57,6 @@ returns-2 c =
           (v .ensures .1 T (subst (λ l. Serves (s .args .cells .now) (wordAt l 0 (length (s .args .workspace .now) - s .args .count)) T) (sym z) (word-served (s .args .cells .now) (s .args .size) T o w p (s .args .workspace .now) (length (s .args .workspace .now) - s .args .count) fit)))),
     )
 
-pub run-program-spec : {M : Type 1} → statement M
-run-program-spec =
+pub reverse-image-spec : {M : Type 1} → statement M
+reverse-image-spec =
     tie.close (tie.spec returns unpack-letters-requires reversing-requires same-length returns-2)

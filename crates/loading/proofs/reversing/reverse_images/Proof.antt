@@ -1,4 +1,4 @@
--- `loading::comparison::run_programs` meets its contract.
+-- `loading::reversing::reverse_images` meets its contract.
 use mathlib.Core.Path.{_≡_, refl, sym, ap, subst, _∙_}
 use native.Mathlib.Omega.{arith}
 use lib.ListN.{length}
@@ -6,8 +6,8 @@ use Rattle.model.proofs.Impossible.{same-answer}
 use Rattle.engine.specs.Run.{Reverses}
 use Rattle.loading.proofs.LoadedPrograms.{pair-too-long}
 use borrow.Author.Needs.{needs}
-use Rattle.loading.proofs.comparison.run_programs.Statement.{statement}
-use Rattle.loading.proofs.comparison.run_programs.Tie as tie
+use Rattle.loading.proofs.reversing.reverse_images.Statement.{statement}
+use Rattle.loading.proofs.reversing.reverse_images.Tie as tie
 
 add-if1 : tie.Need-add-if1
 add-if1 c = search needs
@@ -49,8 +49,8 @@ returns-2 c =
           subst (λ w. Reverses T w (s .args .budget) (v .last .1 .0) (v .result)) (d .word) (v .ensures .1 T (d .serves)),
     )
 
-pub run-programs-spec : {M : Type 1} → statement M
-run-programs-spec =
+pub reverse-images-spec : {M : Type 1} → statement M
+reverse-images-spec =
     tie.close
     (tie.spec
     add-if1

@@ -1,4 +1,4 @@
--- `signed_comparing::running::run_signed` meets its contract.
+-- `signed_comparing::running::reverse_signed` meets its contract.
 use mathlib.Core.Path.{_≡_, refl, sym, ap, subst, _∙_}
 use mathlib.Core.List.{_++_}
 use Prim.Native.Nat.{_+_, _-_, _≤_}
@@ -12,8 +12,8 @@ use Rattle.engine.proofs.Inverting.{length-inverse}
 use Rattle.loading.proofs.Programs.{too-long}
 use Rattle.signed_comparing.proofs.Loading.{word-is, word-searched, word-served}
 use borrow.Author.Needs.{needs}
-use Rattle.signed_comparing.proofs.running.run_signed.Statement.{statement}
-use Rattle.signed_comparing.proofs.running.run_signed.Tie as tie
+use Rattle.signed_comparing.proofs.running.reverse_signed.Statement.{statement}
+use Rattle.signed_comparing.proofs.running.reverse_signed.Tie as tie
 
 returns : tie.Need-returns
 returns c =
@@ -63,8 +63,8 @@ returns-2 c =
           (r .ensures .1 T (word-served (s .args .cells .now) size T o w v pw pv (l .last .1 .1 .1 .1 .1 .1 .0) right inside loaded)),
     )
 
-pub run-signed-spec : {M : Type 1} → statement M
-run-signed-spec =
+pub reverse-signed-spec : {M : Type 1} → statement M
+reverse-signed-spec =
     tie.close
     (tie.spec
     (λ c. search needs)
