@@ -5,7 +5,7 @@ use braid::raw;
 pub type Told = (u8, [u64; 4]);
 
 /// Calls with room for four values between two that may not change. They start as a number that no call gives.
-fn told(call: impl FnOnce(&mut [u64; 4]) -> u8) -> Told {
+pub fn told(call: impl FnOnce(&mut [u64; 4]) -> u8) -> Told {
     let mut values = [u64::MAX; 6];
     let inner: &mut [u64; 4] = (&mut values[1..5]).try_into().expect("four values");
     let result = call(inner);

@@ -1,123 +1,14 @@
 //! The firmware's gap algorithm in plain Rust, for the measures of speed: the same cells, the same workspace, the same order of work. A
 //! refusal is only its number, and only what the measures call is here.
+mod cells;
+mod images;
+mod packing;
+#[cfg(test)]
+mod tests;
 
-const OPEN: u8 = 255;
-
-type Cells = [u8; 4096];
-
-fn cell(a: u8, b: u8) -> usize {
-    ((a as usize - 1) * 16 + (b as usize - 1)) * 16
-}
-
-/// Where the weight of a move stands, less 1: behind the length, 0, of C(a,a).
-fn weight_place(a: u8) -> usize {
-    cell(a, a) + 1
-}
-
-fn weight(cells: &Cells, a: u8) -> u32 {
-    u32::from(cells[weight_place(a)]) + 1
-}
-
-/// A field of at most 16 bits, from the three bytes that it may touch.
-fn field(image: &[u8], at: usize, width: usize) -> Option<u16> {
-    if at + width > 8 * image.len() {
-        return None;
-    }
-    let byte = |k: usize| u32::from(image.get(at / 8 + k).copied().unwrap_or(0));
-    let window = byte(0) << 16 | byte(1) << 8 | byte(2);
-    Some((window >> (24 - at % 8 - width) & ((1 << width) - 1)) as u16)
-}
-
-fn letter(image: &[u8], at: usize, moves: u8, width: usize, ends: u8) -> Result<u8, u8> {
-    let number = field(image, at, width).ok_or(ends)? + 1;
-    if number > u16::from(moves) {
-        return Err(ends + 1);
-    }
-    Ok(number as u8)
-}
-
-fn filled(image: &[u8], at: usize) -> bool {
-    let left = 8 * image.len() - at;
-    left < 8 && field(image, at, left) == Some(0)
-}
-
-fn width_of(moves: u8) -> usize {
-    8 - (moves - 1).leading_zeros() as usize
-}
-
-fn read_word(image: &[u8], at: &mut usize, moves: u8, width: usize, cell: &mut [u8]) -> Result<(), u8> {
-    let count = field(image, *at, 4).ok_or(1)?;
-    *at += 4;
-    cell[0] = count as u8;
-    for k in 0..count as usize {
-        cell[1 + k] = letter(image, *at, moves, width, 1)?;
-        *at += width;
-    }
-    Ok(())
-}
-
-fn read_table(image: &[u8], cells: &mut Cells) -> Result<u8, u8> {
-    let moves = field(image, 0, 4).ok_or(1)? as u8 + 1;
-    let width = width_of(moves);
-    let mut at = 4;
-    for a in 1..=moves {
-        cells[weight_place(a)] = field(image, at, 3).ok_or(1)? as u8;
-        at += 3;
-    }
-    for a in 1..=moves {
-        for b in a + 1..=moves {
-            let given = field(image, at, 1).ok_or(1)?;
-            at += 1;
-            if given == 0 {
-                cells[cell(a, b)] = OPEN;
-                cells[cell(b, a)] = OPEN;
-                continue;
-            }
-            read_word(image, &mut at, moves, width, &mut cells[cell(a, b)..][..16])?;
-            read_word(image, &mut at, moves, width, &mut cells[cell(b, a)..][..16])?;
-        }
-    }
-    if filled(image, at) {
-        Ok(moves)
-    } else {
-        Err(3)
-    }
-}
-
-fn signed(image: &[u8], at: usize, moves: u8, width: usize) -> Result<u8, u8> {
-    let back = field(image, at, 1).ok_or(4)? as u8;
-    Ok(128 * back + letter(image, at + 1, moves, width, 4)?)
-}
-
-/// Refusals 4 to 6; 7 too where the program must be forward. The number of moves.
-fn read_program(image: &[u8], moves: u8, forward: bool) -> Result<usize, u8> {
-    let count = field(image, 0, 12).ok_or(4)? as usize;
-    let width = width_of(moves);
-    let mut backs = false;
-    for k in 0..count {
-        backs |= signed(image, 12 + k * (1 + width), moves, width)? >= 128;
-    }
-    if !filled(image, 12 + count * (1 + width)) {
-        return Err(6);
-    }
-    if forward && backs {
-        return Err(7);
-    }
-    Ok(count)
-}
-
-/// The weight of a program of forward moves, which was read before.
-fn program_weight(cells: &Cells, image: &[u8], moves: u8, count: usize) -> u32 {
-    let width = width_of(moves);
-    (0..count).map(|k| weight(cells, signed(image, 12 + k * (1 + width), moves, width).unwrap())).sum()
-}
-
-fn unpack(image: &[u8], moves: u8, area: &mut [u8]) {
-    let width = width_of(moves);
-    for (k, byte) in area.iter_mut().enumerate() {
-        *byte = signed(image, 12 + k * (1 + width), moves, width).unwrap();
-    }
-}
+use cells::{cell, weight, Cells, OPEN};
+use images::{lay, read_forward, read_program, read_table, Program};
+pub use packing::{pack_program, pack_table, unpack_program, unpack_table};
 
 enum Ending {
     Finished { numerator: usize, denominator: usize, steps: u16 },
@@ -271,27 +162,32 @@ fn clear_cells(cells: &Cells, moves: u8, allowance: u16, workspace: &mut [u8]) -
     Ok(())
 }
 
-pub fn clear(table: &[u8], allowance: u16, workspace: &mut [u8]) -> Result<(), u8> {
-    let mut cells = [0; 4096];
-    let moves = read_table(table, &mut cells)?;
-    let cleared = clear_cells(&cells, moves, allowance, workspace);
+/// Clears a table that was read. The workspace is wiped, unless the weight check refused.
+fn clear_wiped(cells: &Cells, moves: u8, allowance: u16, workspace: &mut [u8]) -> Result<(), u8> {
+    let cleared = clear_cells(cells, moves, allowance, workspace);
     if cleared != Err(8) {
         workspace.fill(0);
     }
     cleared
 }
 
+pub fn clear(table: &[u8], allowance: u16, workspace: &mut [u8]) -> Result<(), u8> {
+    let mut cells = [0; 4096];
+    let moves = read_table(table, &mut cells)?;
+    clear_wiped(&cells, moves, allowance, workspace)
+}
+
 /// The lengths of the numerator and the denominator, and the steps.
 pub fn reverse(table: &[u8], program: &[u8], allowance: u16, workspace: &mut [u8], answer: &mut [u8]) -> Result<(usize, usize, u16), u8> {
     let mut cells = [0; 4096];
     let moves = read_table(table, &mut cells)?;
-    let count = read_program(program, moves, false)?;
+    let count = read_program(program, &cells, moves)?.count;
     let end = workspace.len();
     if count > end {
         workspace.fill(0);
         return Err(12);
     }
-    unpack(program, moves, &mut workspace[end - count..]);
+    lay(program, moves, &mut workspace[end - count..]);
     let result = match reversing(&cells, workspace, 0, end - count, allowance) {
         Ending::Finished { numerator, denominator, steps } => {
             let length = numerator + denominator;
@@ -311,29 +207,31 @@ pub fn reverse(table: &[u8], program: &[u8], allowance: u16, workspace: &mut [u8
     result
 }
 
-/// Whether the programs are the same, and the steps.
-pub fn compare(table: &[u8], first: &[u8], second: &[u8], allowance: u16, workspace: &mut [u8]) -> Result<(bool, u16), u8> {
-    let mut cells = [0; 4096];
-    let moves = read_table(table, &mut cells)?;
-    let m = read_program(first, moves, true)?;
-    let n = read_program(second, moves, true)?;
-    let cleared = clear_cells(&cells, moves, allowance, workspace);
-    if cleared == Err(8) {
-        return Err(8);
-    }
-    workspace.fill(0);
-    cleared?;
-    if program_weight(&cells, first, moves, m) != program_weight(&cells, second, moves, n) {
+/// A forward program that was read, and how its letters are laid into an area of as many bytes.
+struct Laid<F: Fn(&mut [u8])> {
+    program: Program,
+    lay: F,
+}
+
+/// Compares two programs under a table that has cleared. The workspace is all zero before and after, also between the logs of a tray, as the firmware has it.
+fn compare_cleared(
+    cells: &Cells,
+    first: &Laid<impl Fn(&mut [u8])>,
+    second: &Laid<impl Fn(&mut [u8])>,
+    allowance: u16,
+    workspace: &mut [u8],
+) -> Result<(bool, u16), u8> {
+    if first.program.weight != second.program.weight {
         return Ok((false, 0));
     }
-    let end = workspace.len();
+    let (m, n, end) = (first.program.count, second.program.count, workspace.len());
     if end < m + n {
         return Err(12);
     }
-    unpack(first, moves, &mut workspace[..m]);
+    (first.lay)(&mut workspace[..m]);
     invert(&mut workspace[..m]);
-    unpack(second, moves, &mut workspace[end - n..]);
-    let ending = reversing(&cells, workspace, m, end - n, allowance);
+    (second.lay)(&mut workspace[end - n..]);
+    let ending = reversing(cells, workspace, m, end - n, allowance);
     workspace.fill(0);
     match ending {
         Ending::Finished { numerator, denominator, steps } => Ok((numerator == 0 && denominator == 0, steps)),
@@ -343,148 +241,66 @@ pub fn compare(table: &[u8], first: &[u8], second: &[u8], allowance: u16, worksp
     }
 }
 
-/// Bits gathered into the bytes of an area.
-struct Writer<'a> {
-    area: &'a mut [u8],
-    next: usize,
-    bits: u32,
-    held: usize,
-}
-
-impl Writer<'_> {
-    fn field(&mut self, width: usize, value: u32) {
-        self.bits = self.bits << width | value;
-        self.held += width;
-        while self.held >= 8 {
-            self.held -= 8;
-            self.area[self.next] = (self.bits >> self.held) as u8;
-            self.next += 1;
-        }
-        self.bits &= (1 << self.held) - 1;
-    }
-
-    /// Fills the last byte; the bytes written.
-    fn filled(mut self) -> usize {
-        if self.held > 0 {
-            self.field(8 - self.held, 0);
-        }
-        self.next
-    }
-}
-
-/// The image of a plain program; its length.
-pub fn pack_program(table: &[u8], plain: &[u8], answer: &mut [u8]) -> Result<usize, u8> {
-    let moves = read_table(table, &mut [0; 4096])?;
-    if plain.len() > 4095 {
-        return Err(4);
-    }
-    if plain.iter().any(|x| x & 127 == 0 || x & 127 > moves) {
-        return Err(5);
-    }
-    let width = width_of(moves);
-    if answer.len() < (12 + plain.len() * (1 + width)).div_ceil(8) {
-        return Err(13);
-    }
-    let mut writer = Writer { area: answer, next: 0, bits: 0, held: 0 };
-    writer.field(12, plain.len() as u32);
-    for x in plain {
-        writer.field(1 + width, u32::from(x >> 7) << width | (u32::from(x & 127) - 1));
-    }
-    Ok(writer.filled())
-}
-
-/// The bytes of a program's moves; their number.
-pub fn unpack_program(table: &[u8], program: &[u8], answer: &mut [u8]) -> Result<usize, u8> {
-    let moves = read_table(table, &mut [0; 4096])?;
-    let count = read_program(program, moves, false)?;
-    if answer.len() < count {
-        return Err(13);
-    }
-    unpack(program, moves, &mut answer[..count]);
-    Ok(count)
-}
-
-/// Writes a word of a plain table as fields; the bytes after it.
-fn pack_word<'a>(plain: &'a [u8], moves: u8, width: usize, writer: &mut Writer) -> Result<&'a [u8], u8> {
-    let (length, rest) = plain.split_first().ok_or(1)?;
-    if *length > 15 {
-        return Err(2);
-    }
-    writer.field(4, u32::from(*length));
-    for k in 0..*length as usize {
-        let number = *rest.get(k).ok_or(1)?;
-        if number < 1 || number > moves {
-            return Err(2);
-        }
-        writer.field(width, u32::from(number) - 1);
-    }
-    Ok(&rest[*length as usize..])
-}
-
-fn fitting(image: &[u8], answer: &mut [u8]) -> Result<usize, u8> {
-    answer.get_mut(..image.len()).ok_or(13)?.copy_from_slice(image);
-    Ok(image.len())
-}
-
-/// The image of a plain table; its length.
-pub fn pack_table(plain: &[u8], answer: &mut [u8]) -> Result<usize, u8> {
-    let (moves, mut rest) = plain.split_first().ok_or(1)?;
-    if !(1..=16).contains(moves) {
-        return Err(2);
-    }
-    let mut image = [0; 8192];
-    let mut writer = Writer { area: &mut image, next: 0, bits: 0, held: 0 };
-    let width = width_of(*moves);
-    writer.field(4, u32::from(*moves) - 1);
-    for _ in 0..*moves {
-        let (weight, behind) = rest.split_first().ok_or(1)?;
-        if !(1..=8).contains(weight) {
-            return Err(2);
-        }
-        writer.field(3, u32::from(*weight) - 1);
-        rest = behind;
-    }
-    for _ in 0..usize::from(*moves) * (usize::from(*moves) - 1) / 2 {
-        if *rest.first().ok_or(1)? == OPEN {
-            writer.field(1, 0);
-            rest = &rest[1..];
-            continue;
-        }
-        writer.field(1, 1);
-        rest = pack_word(rest, *moves, width, &mut writer)?;
-        rest = pack_word(rest, *moves, width, &mut writer)?;
-    }
-    if !rest.is_empty() {
-        return Err(3);
-    }
-    let length = writer.filled();
-    fitting(&image[..length], answer)
-}
-
-/// The plain form of a table; its length.
-pub fn unpack_table(table: &[u8], answer: &mut [u8]) -> Result<usize, u8> {
+/// Whether the programs are the same, and the steps.
+pub fn compare(table: &[u8], first: &[u8], second: &[u8], allowance: u16, workspace: &mut [u8]) -> Result<(bool, u16), u8> {
     let mut cells = [0; 4096];
     let moves = read_table(table, &mut cells)?;
-    let mut plain = [0; 8192];
-    plain[0] = moves;
-    let mut next = 1;
-    for a in 1..=moves {
-        plain[next] = weight(&cells, a) as u8;
-        next += 1;
+    let one = Laid { program: read_forward(first, &cells, moves)?, lay: |area: &mut [u8]| lay(first, moves, area) };
+    let two = Laid { program: read_forward(second, &cells, moves)?, lay: |area: &mut [u8]| lay(second, moves, area) };
+    clear_wiped(&cells, moves, allowance, workspace)?;
+    compare_cleared(&cells, &one, &two, allowance, workspace)
+}
+
+/// A log that stands at the start of these bytes of a tray, and the bytes behind it.
+fn first_log(tray: &[u8]) -> Option<(&[u8], &[u8])> {
+    let (length, rest) = tray.split_first_chunk()?;
+    rest.split_at_checked(u16::from_be_bytes(*length).into())
+}
+
+/// Refusals 23 and 24. The number of logs.
+fn read_tray(tray: &[u8]) -> Result<u8, u8> {
+    let (count, mut rest) = tray.split_first().ok_or(24)?;
+    if *count > 64 {
+        return Err(23);
     }
-    for a in 1..=moves {
-        for b in a + 1..=moves {
-            for at in [cell(a, b), cell(b, a)] {
-                let length = cells[at] as usize;
-                plain[next] = cells[at];
-                next += 1;
-                if cells[at] == OPEN {
-                    break;
-                }
-                plain[next..next + length].copy_from_slice(&cells[at + 1..at + 1 + length]);
-                next += length;
-            }
-        }
+    for _ in 0..*count {
+        (_, rest) = first_log(rest).ok_or(24)?;
     }
-    fitting(&plain[..next], answer)
+    if rest.is_empty() {
+        Ok(*count)
+    } else {
+        Err(24)
+    }
+}
+
+/// The three bytes of a log: the verdict or the number of its refusal, then the steps.
+fn told_of(compared: Result<(bool, u16), u8>) -> [u8; 3] {
+    let (said, steps) = compared.map_or_else(|number| (number, 0), |(same, steps)| (u8::from(!same), steps));
+    let [high, low] = steps.to_be_bytes();
+    [said, high, low]
+}
+
+/// The number of logs; what is told of each stands in the answer area. The table is cleared and the pattern decoded once.
+pub fn tray(table: &[u8], tray: &[u8], pattern: &[u8], allowance: u16, workspace: &mut [u8], answer: &mut [u8]) -> Result<u8, u8> {
+    let logs = read_tray(tray)?;
+    let mut cells = [0; 4096];
+    let moves = read_table(table, &mut cells)?;
+    let program = read_forward(pattern, &cells, moves)?;
+    clear_wiped(&cells, moves, allowance, workspace)?;
+    let answers = answer.get_mut(..3 * usize::from(logs)).ok_or(13)?;
+    let mut letters = [0; 4095];
+    let letters = &mut letters[..program.count];
+    lay(pattern, moves, letters);
+    let two = Laid { program, lay: |area: &mut [u8]| area.copy_from_slice(letters) };
+    let mut rest = &tray[1..];
+    for three in answers.chunks_exact_mut(3) {
+        let (log, behind) = first_log(rest).ok_or(24)?;
+        let compared = read_forward(log, &cells, moves).and_then(|program| {
+            let one = Laid { program, lay: |area: &mut [u8]| lay(log, moves, area) };
+            compare_cleared(&cells, &one, &two, allowance, workspace)
+        });
+        three.copy_from_slice(&told_of(compared));
+        rest = behind;
+    }
+    Ok(logs)
 }

@@ -5,3 +5,5 @@ pub mod firmware;
 pub mod gap;
 pub mod guarded;
 pub mod judge;
+pub mod library;
+pub mod measures;

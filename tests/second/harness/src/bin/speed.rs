@@ -1,13 +1,17 @@
-//! The firmware's time beside that of the same gap algorithm in Rust, both in this process, turn by turn.
+//! The firmware's time beside that of the same gap algorithm in Rust, and beside the library before where one is linked, all in this process, turn by turn.
 //!
-//!     speed [--milliseconds M] [--steps S] [--words W]
+//!     speed [--milliseconds M] [--steps S] [--words W] [--row TEXT]
 //!
 //! M is how long each side of a measure runs, in slices; the time shown is that of the fastest slice, which other work on the machine
 //! disturbs least. The words of one length that are run in turn have S steps together, 100,000 without the flag: the last word's allowance
-//! is what is left of them. W is the most words of one length. Every measure first looks that both sides give the same result. The closing
-//! lines hold the times against the targets.
-use harness::gap;
-use harness::{firmware, firmware::Told};
+//! is what is left of them. W is the most words of one length. With TEXT only the rows are measured whose names have it. Every measure first looks that all
+//! sides give the same result. Each row says its target and whether it is met; a missed one is no failure of the measure, different results are.
+
+// Cargo knows no flag of this name. tests/speed.sh sets it for this program alone, with the archive that it then needs.
+#![allow(unexpected_cfgs)]
+use harness::firmware::{self, Told};
+use harness::library::{Library, FIRMWARE, RUST};
+use harness::measures::{Areas, Call, Measures, Times, AREA};
 use second::image::{program_image, table_image};
 use second::plain::plain_table;
 use second::random::Random;
@@ -16,15 +20,23 @@ use second::table::Table;
 use second::tables::{braid, forward_word, walk};
 use second::tray::{laid, MOST_LOGS};
 use second::word::{bytes, undoing, Word};
-use std::cell::Cell;
 use std::hint::black_box;
 use std::process::ExitCode;
-use std::time::{Duration, Instant};
+use std::time::Instant;
 
-const AREA: usize = 32_768;
-const SLICES: u32 = 40;
-/// The firmware's time may be that many times the time in Rust.
-const BESIDE_RUST: f64 = 1.25;
+#[cfg(before)]
+#[path = "speed/before.rs"]
+mod before;
+
+/// The firmware's time may be that many times the time in Rust, in every row of these calls.
+const BESIDE_RUST: f64 = 1.1;
+const HELD_TO_RUST: [&str; 4] = ["reverse", "compare", "pack", "unpack"];
+/// The firmware's time may be that many times the time of the library before, in these rows.
+const BESIDE_BEFORE: [(&str, f64); 2] = [(EQUAL, 0.6), (CLEAR, 0.7)];
+const EQUAL: &str = "compare, equal programs of 4,000 moves: the call";
+const CLEAR: &str = "clear the braid table of 16 moves: the call";
+/// The moves of the words that reverse and compare are measured on step by step.
+const LENGTHS: [usize; 3] = [50, 500, 4_000];
 /// A listing in an area of 32,768 bytes, and one that does not fit there, may take that many milliseconds.
 const LISTING: f64 = 500.0;
 /// A tray of 64 equal logs may take that many times the time of 64 single compares of that log.
@@ -32,91 +44,83 @@ const TRAY: f64 = 0.2;
 /// A step's cost at 4,000 moves may be that many times the cost at 50.
 const FLAT: f64 = 1.3;
 
-struct Areas {
-    workspace: Vec<u8>,
-    answer: Vec<u8>,
+/// A target and whether it is met. A time below nothing meets none.
+fn verdict(found: f64, most: f64) -> String {
+    let met = found > 0.0 && found <= most;
+    format!("{most}: {}", if met { "met" } else { "MISSED" })
 }
 
-type Side<'a> = &'a dyn Fn(&mut Areas) -> Told;
-
-/// Times of the firmware and of Rust, in nanoseconds.
-#[derive(Clone, Copy)]
-struct Times {
-    firmware: f64,
-    rust: f64,
+/// Prints a target and whether it is met.
+fn target(what: &str, found: f64, most: f64) {
+    println!("{what}: {found:.3}, target {}", verdict(found, most));
 }
 
-impl Times {
-    /// What each of `units` costs beyond the fixed part.
-    fn beyond(self, fixed: Times, units: f64) -> Times {
-        let each = |whole: f64, fixed: f64| (whole - fixed) / units;
-        Times { firmware: each(self.firmware, fixed.firmware), rust: each(self.rust, fixed.rust) }
+struct Row {
+    name: String,
+    times: Times,
+}
+
+impl Row {
+    /// The call that the row is of: its first word.
+    fn call(&self) -> &str {
+        self.name.split([' ', ',']).next().unwrap_or_default()
     }
 
-    fn ratio(self) -> f64 {
-        self.firmware / self.rust
+    fn ratio(&self) -> f64 {
+        self.times.firmware() / self.times.rust()
     }
 
-    fn show(self, name: &str) {
-        println!("| {name} | {:.1} | {:.1} | {:.2} |", self.firmware, self.rust, self.ratio());
+    fn line(name: &str, firmware: f64, other: f64, most: Option<f64>) {
+        let said = most.map_or("none".to_string(), |most| verdict(firmware / other, most));
+        println!("| {name} | {firmware:.1} | {other:.1} | {:.3} | {said} |", firmware / other);
+    }
+
+    fn show(&self) {
+        let most = HELD_TO_RUST.contains(&self.call()).then_some(BESIDE_RUST);
+        Row::line(&self.name, self.times.firmware(), self.times.rust(), most);
+    }
+
+    fn show_before(&self, before: f64) {
+        let most = BESIDE_BEFORE.iter().find(|(name, _)| *name == self.name).map(|(_, most)| *most);
+        Row::line(&format!("{}, beside the library before", self.name), self.times.firmware(), before, most);
     }
 }
 
-struct Measures {
-    areas: Areas,
-    slice: Duration,
+struct Speed {
+    measures: Measures,
     steps: u64,
     words: usize,
-    differences: usize,
+    /// What the name of a row must have to be measured.
+    row: String,
+    rows: Vec<Row>,
 }
 
-impl Measures {
-    /// Nanoseconds of one call, over whole rounds of the cases.
-    fn nanoseconds(&mut self, cases: usize, side: Side) -> f64 {
-        let (began, mut calls) = (Instant::now(), 0);
-        while began.elapsed() < self.slice {
-            for _ in 0..cases {
-                black_box(side(&mut self.areas));
-            }
-            calls += cases;
-        }
-        began.elapsed().as_nanos() as f64 / calls as f64
+impl Speed {
+    fn wanted(&self, name: &str) -> bool {
+        name.contains(&self.row)
     }
 
-    /// The times of one call of each kind on each side, where so many calls go through all cases. The kinds take turns as the sides do.
-    fn calls<const KINDS: usize>(&mut self, name: &str, cases: usize, kinds: [(Side, Side); KINDS]) -> [Times; KINDS] {
-        for (one, two) in kinds {
-            for _ in 0..cases {
-                let (told, rust) = (one(&mut self.areas), two(&mut self.areas));
-                if told != rust {
-                    println!("{name}: the firmware gives {told:?}, Rust {rust:?}");
-                    self.differences += 1;
-                }
-            }
-        }
-        let mut times = [Times { firmware: f64::INFINITY, rust: f64::INFINITY }; KINDS];
-        for _ in 0..SLICES {
-            for ((one, two), fastest) in kinds.into_iter().zip(&mut times) {
-                fastest.firmware = fastest.firmware.min(self.nanoseconds(cases, one));
-                fastest.rust = fastest.rust.min(self.nanoseconds(cases, two));
-            }
-        }
-        times
+    fn add(&mut self, name: String, times: Times) {
+        let row = Row { name, times };
+        row.show();
+        self.rows.push(row);
     }
 
-    fn call(&mut self, name: &str, one: Side, two: Side) -> Times {
-        let [times] = self.calls(name, 1, [(one, two)]);
-        times
+    /// Measures a call of one case.
+    fn call(&mut self, name: &str, call: Call) {
+        if self.wanted(name) {
+            let times = self.measures.call(name, call);
+            self.add(name.to_string(), times);
+        }
     }
-}
 
-/// A result of the Rust side as the firmware tells it; of a refusal only the number is compared.
-fn told<T>(result: Result<T, u8>, values: impl FnOnce(T) -> [u64; 4]) -> Told {
-    result.map_or_else(|number| (number, [0; 4]), |answer| (0, values(answer)))
+    /// The time of a step of the firmware in the row of this name.
+    fn step(&self, name: &str) -> Option<f64> {
+        self.rows.iter().find(|row| row.name == name).map(|row| row.times.firmware())
+    }
 }
 
 /// Images, and the allowance that their call gets.
-#[derive(Clone)]
 struct Case<T> {
     images: T,
     allowance: u16,
@@ -124,82 +128,62 @@ struct Case<T> {
 
 /// The cases that are run in turn. `steps` are those of all together, and `fixed` is the allowance under which the fixed part of a call is
 /// measured: a call with it reads the same images and begins the same reversing.
-#[derive(Clone)]
 struct Cases<T> {
     cases: Vec<Case<T>>,
     steps: u64,
     fixed: u16,
-    next: Cell<usize>,
 }
 
 impl<T> Cases<T> {
     /// As many as have the measure's steps together, unless fewer words are asked for. `steps` are those of one case, unless its allowance
     /// is used up.
-    fn new(
-        measures: &mut Measures,
-        fixed: u16,
-        mut images: impl FnMut() -> T,
-        steps: impl Fn(&mut Areas, &T, u16) -> Option<u64>,
-    ) -> Cases<T> {
-        let mut all = Cases { cases: Vec::new(), steps: 0, fixed, next: Cell::new(0) };
-        while all.steps + u64::from(fixed) < measures.steps && all.cases.len() < measures.words {
-            let allowance = (measures.steps - all.steps).min(65_535) as u16;
+    fn new(speed: &mut Speed, fixed: u16, mut images: impl FnMut() -> T, steps: impl Fn(&mut Areas, &T, u16) -> Option<u64>) -> Cases<T> {
+        let mut all = Cases { cases: Vec::new(), steps: 0, fixed };
+        while all.steps + u64::from(fixed) < speed.steps && all.cases.len() < speed.words {
+            let allowance = (speed.steps - all.steps).min(65_535) as u16;
             let images = images();
-            all.steps += steps(&mut measures.areas, &images, allowance).unwrap_or(allowance.into());
+            all.steps += steps(&mut speed.measures.areas, &images, allowance).unwrap_or(allowance.into());
             all.cases.push(Case { images, allowance });
         }
         all
     }
 
-    fn next(&self) -> &Case<T> {
-        let at = self.next.get();
-        self.next.set((at + 1) % self.cases.len());
-        &self.cases[at]
+    /// Measures a call, and a step: what a call costs beyond its fixed part.
+    fn measure(&self, speed: &mut Speed, name: &str, call: impl Fn(&Library, &mut Areas, &T, u16) -> Told) {
+        let of = |most: u16| {
+            let call = &call;
+            move |library: &Library, areas: &mut Areas, at: usize| {
+                let case = &self.cases[at];
+                call(library, areas, &case.images, case.allowance.min(most))
+            }
+        };
+        let [whole, fixed] = speed.measures.calls(name, self.cases.len(), [&of(65_535), &of(self.fixed)]);
+        let each = self.steps as f64 / self.cases.len() as f64;
+        let step = whole.beyond(&fixed, each - f64::from(self.fixed));
+        speed.add(format!("{name}, {each:.0} steps: the call"), whole);
+        speed.add(format!("{name}: a step"), step);
     }
 }
 
-/// Shows the time of a call and of a step, from the times of a whole call and of its fixed part.
-fn show_steps<T>(name: &str, cases: &Cases<T>, [whole, fixed]: [Times; 2]) -> (Times, Times) {
-    let each = cases.steps as f64 / cases.cases.len() as f64;
-    whole.show(&format!("{name}, {each:.0} steps: the call"));
-    let step = whole.beyond(fixed, each - f64::from(cases.fixed));
-    step.show(&format!("{name}: a step"));
-    (whole, step)
-}
-
-/// Reverse of words of that many moves, half of them back. The time of the call, and of a step.
-fn reverse(measures: &mut Measures, length: usize) -> (Times, Times) {
+/// Reverse of words of that many moves, half of them back.
+fn reverse(speed: &mut Speed, length: usize) {
+    let name = format!("reverse, {length} moves");
+    if !speed.wanted(&name) {
+        return;
+    }
     let mut random = Random::new(length as u64);
     let image = table_image(&braid(4));
     let program = || {
         let (u, v) = (forward_word(&mut random, 4, length / 2), forward_word(&mut random, 4, length / 2));
         program_image(4, &[undoing(&u), v].concat())
     };
-    let ours = Cases::new(measures, 0, program, |areas, program, allowance| {
+    let cases = Cases::new(speed, 0, program, |areas, program, allowance| {
         let (result, values) = firmware::reverse(&image, program, allowance, &mut areas.workspace, &mut areas.answer);
         (result == 0).then_some(values[2])
     });
-    let other = ours.clone();
-    let firmware = |most: u16| {
-        let (image, ours) = (&image, &ours);
-        move |areas: &mut Areas| {
-            let case = ours.next();
-            firmware::reverse(image, &case.images, case.allowance.min(most), &mut areas.workspace, &mut areas.answer)
-        }
-    };
-    let rust = |most: u16| {
-        let (image, other) = (&image, &other);
-        move |areas: &mut Areas| {
-            let case = other.next();
-            told(gap::reverse(image, &case.images, case.allowance.min(most), &mut areas.workspace, &mut areas.answer), |(n, d, steps)| {
-                [n as u64, d as u64, steps.into(), 0]
-            })
-        }
-    };
-    let name = format!("reverse, {length} moves");
-    let kinds: [(Side, Side); 2] = [(&firmware(65_535), &rust(65_535)), (&firmware(ours.fixed), &rust(ours.fixed))];
-    let times = measures.calls(&name, ours.cases.len(), kinds);
-    show_steps(&name, &ours, times)
+    cases.measure(speed, &name, |library, areas, program, allowance| {
+        (library.reverse)(&image, program, allowance, &mut areas.workspace, &mut areas.answer)
+    });
 }
 
 /// The least allowance that clears a table.
@@ -226,77 +210,113 @@ fn joined(random: &mut Random, table: &Table, length: usize) -> [Word; 2] {
     longest.map(|word| [word, tail.clone()].concat())
 }
 
-/// Compare of joined programs of that many moves. The time of the call, and of a step.
-fn compare(measures: &mut Measures, length: usize) -> (Times, Times) {
+/// Compare of joined programs of that many moves.
+fn compare(speed: &mut Speed, length: usize) {
+    let name = format!("compare, {length} moves each");
+    if !speed.wanted(&name) {
+        return;
+    }
     let mut random = Random::new(length as u64);
     let table = braid(4);
     let image = table_image(&table);
     let programs = || joined(&mut random, &table, length).map(|word| program_image(4, &word));
-    let least = least_clearing(&mut measures.areas, &image);
-    let ours = Cases::new(measures, least, programs, |areas, [first, second], allowance| {
+    let least = least_clearing(&mut speed.measures.areas, &image);
+    let cases = Cases::new(speed, least, programs, |areas, [first, second], allowance| {
         let (result, values) = firmware::compare(&image, first, second, allowance, &mut areas.workspace);
         (result == 0).then_some(values[1])
     });
-    let other = ours.clone();
-    let firmware = |most: u16| {
-        let (image, ours) = (&image, &ours);
-        move |areas: &mut Areas| {
-            let case = ours.next();
-            firmware::compare(image, &case.images[0], &case.images[1], case.allowance.min(most), &mut areas.workspace)
-        }
-    };
-    let rust = |most: u16| {
-        let (image, other) = (&image, &other);
-        move |areas: &mut Areas| {
-            let case = other.next();
-            told(gap::compare(image, &case.images[0], &case.images[1], case.allowance.min(most), &mut areas.workspace), |(same, steps)| {
-                [u64::from(!same), steps.into(), 0, 0]
-            })
-        }
-    };
-    let name = format!("compare, {length} moves each");
-    let kinds: [(Side, Side); 2] = [(&firmware(65_535), &rust(65_535)), (&firmware(ours.fixed), &rust(ours.fixed))];
-    let times = measures.calls(&name, ours.cases.len(), kinds);
-    show_steps(&name, &ours, times)
-}
-
-fn clear(measures: &mut Measures) {
-    let image = table_image(&braid(16));
-    let times = measures.call("clear", &|areas| firmware::clear(&image, 65_535, &mut areas.workspace), &|areas| {
-        told(gap::clear(&image, 65_535, &mut areas.workspace), |()| [0; 4])
+    cases.measure(speed, &name, |library, areas, [first, second], allowance| {
+        (library.compare)(&image, first, second, allowance, &mut areas.workspace)
     });
-    times.show("clear the braid table of 16 moves: the call");
 }
 
-fn packing(measures: &mut Measures) {
-    let length = |bytes: usize| [bytes as u64, 0, 0, 0];
+/// The word that stands so many swaps from another.
+fn swapped(random: &mut Random, table: &Table, word: &[i8], swaps: usize) -> Word {
+    let (entries, end) = walk(random, table, word, swaps);
+    assert_eq!(entries.len(), swaps, "a word with too few swaps");
+    end
+}
+
+/// Compare of a log with a pattern that is equal to it or nearly so, under the braid table of 3 moves: the commonest call.
+fn compare_near(speed: &mut Speed) {
+    let (mut random, table) = (Random::new(3), braid(3));
+    let image = table_image(&table);
+    let pattern = forward_word(&mut random, 3, 4_000);
+    let near = swapped(&mut random, &table, &pattern, 20);
+    let second = program_image(3, &pattern);
+    for (name, log) in [(EQUAL, &pattern), ("compare, programs of 4,000 moves with 20 swaps between them: the call", &near)] {
+        let first = program_image(3, log);
+        speed.call(name, &|library, areas, _| (library.compare)(&image, &first, &second, 65_535, &mut areas.workspace));
+    }
+}
+
+/// A tray under the braid table of 3 moves. Every second log is equal to the pattern, and each of the others stands 20 swaps of its own from it.
+fn tray(speed: &mut Speed) {
+    let (mut random, table) = (Random::new(64), braid(3));
+    let image = table_image(&table);
+    let word = forward_word(&mut random, 3, 400);
+    let logs: Vec<Vec<u8>> = (0..MOST_LOGS).map(|log| program_image(3, &swapped(&mut random, &table, &word, log % 2 * 20))).collect();
+    let (tray, pattern) = (laid(&logs), program_image(3, &word));
+    speed.call("tray of 64 logs of 400 moves: the call", &|library, areas, _| {
+        (library.tray)(&image, &tray, &pattern, 65_535, &mut areas.workspace, &mut areas.answer)
+    });
+}
+
+fn clear(speed: &mut Speed) {
+    let image = table_image(&braid(16));
+    speed.call(CLEAR, &|library, areas, _| (library.clear)(&image, 65_535, &mut areas.workspace));
+}
+
+fn packing(speed: &mut Speed) {
     let table = braid(16);
     let (image, plain) = (table_image(&table), plain_table(&table));
-    let times = measures.call("pack table", &|areas| firmware::pack_table(&plain, &mut areas.answer), &|areas| {
-        told(gap::pack_table(&plain, &mut areas.answer), length)
-    });
-    times.show("pack the braid table of 16 moves: the call");
-    let times = measures.call("unpack table", &|areas| firmware::unpack_table(&image, &mut areas.answer), &|areas| {
-        told(gap::unpack_table(&image, &mut areas.answer), length)
-    });
-    times.show("unpack it: the call");
+    speed.call("pack the braid table of 16 moves: the call", &|library, areas, _| (library.pack_table)(&plain, &mut areas.answer));
+    speed.call("unpack the braid table of 16 moves: the call", &|library, areas, _| (library.unpack_table)(&image, &mut areas.answer));
     let word = forward_word(&mut Random::new(1), 16, 4_000);
     let (program, moves) = (program_image(16, &word), bytes(&word));
-    let times = measures.call("pack program", &|areas| firmware::pack_program(&image, &moves, &mut areas.answer), &|areas| {
-        told(gap::pack_program(&image, &moves, &mut areas.answer), length)
+    speed.call("pack a program of 4,000 moves under it: the call", &|library, areas, _| {
+        (library.pack_program)(&image, &moves, &mut areas.answer)
     });
-    times.show("pack a program of 4,000 moves under it: the call");
-    let times = measures.call("unpack program", &|areas| firmware::unpack_program(&image, &program, &mut areas.answer), &|areas| {
-        told(gap::unpack_program(&image, &program, &mut areas.answer), length)
+    speed.call("unpack a program of 4,000 moves under it: the call", &|library, areas, _| {
+        (library.unpack_program)(&image, &program, &mut areas.answer)
     });
-    times.show("unpack it: the call");
 }
 
-/// Prints a target and whether it is met.
-fn target(what: &str, found: f64, most: f64) -> bool {
-    let met = found > 0.0 && found <= most;
-    println!("{what}: {found:.2}, target {most}: {}", if met { "met" } else { "MISSED" });
-    met
+/// The worst row of each call beside Rust; of reverse and compare also how many steps a second, and whether their cost grows with the length.
+fn close(speed: &Speed) {
+    for call in HELD_TO_RUST {
+        let rows: Vec<&Row> = speed.rows.iter().filter(|row| row.call() == call).collect();
+        let Some(slowest) = rows.iter().map(|row| row.ratio()).max_by(f64::total_cmp) else {
+            continue;
+        };
+        target(&format!("{call}, the firmware's time beside Rust's, at most"), slowest, BESIDE_RUST);
+        for row in rows.iter().filter(|row| !row.times.measured()) {
+            println!("{}: a call took less time than its fixed part; run longer, by --milliseconds", row.name);
+        }
+        let steps = rows.iter().filter(|row| row.name.ends_with(": a step")).map(|row| 1_000.0 / row.times.firmware());
+        if let Some(rate) = steps.min_by(f64::total_cmp) {
+            println!("{call}: at least {rate:.0} million steps a second");
+        }
+    }
+    for (call, short, long) in [
+        ("reverse", "reverse, 50 moves: a step", "reverse, 4000 moves: a step"),
+        ("compare", "compare, 50 moves each: a step", "compare, 4000 moves each: a step"),
+    ] {
+        if let (Some(short), Some(long)) = (speed.step(short), speed.step(long)) {
+            target(&format!("{call}, a step at 4,000 moves beside one at 50"), long / short, FLAT);
+        }
+    }
+}
+
+/// All rows beside the library before, where one is linked.
+fn beside_before(speed: &Speed) {
+    if speed.rows.iter().all(|row| row.times.before().is_none()) {
+        return;
+    }
+    println!("\n| measure | firmware, ns | before, ns | ratio | target |\n|---|---|---|---|---|");
+    for row in &speed.rows {
+        row.times.before().into_iter().for_each(|before| row.show_before(before));
+    }
 }
 
 /// The middle of three times of a call of ways, in milliseconds, under four moves that all commute; what it told must be as said.
@@ -315,12 +335,14 @@ fn listing(areas: &mut Areas, program: &[i8], told: Told) -> f64 {
 }
 
 /// Every way to lay 1 1 2 2 3 3 4 4, and one move more, which is too long for the area.
-fn ways(measures: &mut Measures) -> bool {
-    let whole = listing(&mut measures.areas, &[1, 1, 2, 2, 3, 3, 4, 4], (0, [2_520, 22_680, 0, 0]));
-    let refused = listing(&mut measures.areas, &[1, 1, 2, 2, 3, 3, 4, 4, 4], (13, [0; 4]));
-    target("ways, 2,520 words in 22,680 bytes, milliseconds", whole, LISTING)
-        & target("ways, refused with 13 in 32,768 bytes, milliseconds", refused, LISTING)
+fn ways(areas: &mut Areas) {
+    let whole = listing(areas, &[1, 1, 2, 2, 3, 3, 4, 4], (0, [2_520, 22_680, 0, 0]));
+    let refused = listing(areas, &[1, 1, 2, 2, 3, 3, 4, 4, 4], (13, [0; 4]));
+    target("ways, 2,520 words in 22,680 bytes, milliseconds", whole, LISTING);
+    target("ways, refused with 13 in 32,768 bytes, milliseconds", refused, LISTING);
 }
+
+type Side<'a> = &'a dyn Fn(&mut Areas) -> Told;
 
 /// The times of a tray of 64 times this log, and of 64 single compares of it with the pattern, both by the firmware, in milliseconds. The two take turns, three
 /// turns of 20 rounds each, and the middle one counts. Each call reads its images and wipes the workspace of 32,768 bytes; that the tray says of each
@@ -357,57 +379,64 @@ fn tray_beside_compares(areas: &mut Areas, table: &Table, log: &[i8], pattern: &
 /// 64 equal logs of 100 moves under the braid table of 15, beside as many single compares. Two logs, both the same as the pattern: one after 100 random swaps,
 /// as of a machine that lays the pattern in another order, with few steps more than moves; and one with as many steps between as joined words of that length
 /// have, the dearest for the tray, since it saves the clearing alone.
-fn tray(measures: &mut Measures) -> bool {
+fn equal_tray(areas: &mut Areas) {
     let (mut random, table) = (Random::new(15), braid(15));
     let pattern = forward_word(&mut random, table.moves, 100);
     let (_, swapped) = walk(&mut random, &table, &pattern, 100);
     let [far, other] = joined(&mut random, &table, 100);
-    let mut met = true;
     for (name, log, pattern) in [("after 100 swaps", &swapped, &pattern), ("far from it", &far, &other)] {
-        let [tray, compares] = tray_beside_compares(&mut measures.areas, &table, log, pattern);
-        met &= target(&format!("tray, 64 equal logs of the pattern {name}, beside 64 compares"), tray / compares, TRAY);
+        let [tray, compares] = tray_beside_compares(areas, &table, log, pattern);
+        target(&format!("tray, 64 equal logs of the pattern {name}, beside 64 compares"), tray / compares, TRAY);
     }
-    met
+}
+
+/// The libraries that are measured: the firmware, Rust, and the library before where it is linked.
+fn libraries() -> Vec<Library> {
+    vec![
+        FIRMWARE,
+        RUST,
+        #[cfg(before)]
+        before::BEFORE,
+    ]
+}
+
+/// What the flags ask for; nothing where one of them is wrong.
+fn asked() -> Option<Speed> {
+    let (mut milliseconds, mut steps, mut words, mut row) = (1_000, 100_000, usize::MAX, String::new());
+    let mut arguments = std::env::args().skip(1);
+    while let Some(flag) = arguments.next() {
+        let value = arguments.next()?;
+        match (flag.as_str(), value.parse::<u64>()) {
+            ("--row", _) => row = value,
+            ("--milliseconds", Ok(number)) => milliseconds = number,
+            ("--steps", Ok(number)) if number >= 100 => steps = number,
+            ("--words", Ok(number)) if number > 0 => words = number as usize,
+            _ => return None,
+        }
+    }
+    Some(Speed { measures: Measures::new(milliseconds, libraries()), steps, words, row, rows: Vec::new() })
 }
 
 fn main() -> ExitCode {
-    let (mut milliseconds, mut steps, mut words) = (1_000, 100_000, usize::MAX);
-    let mut arguments = std::env::args().skip(1);
-    while let Some(flag) = arguments.next() {
-        match (flag.as_str(), arguments.next().map(|value| value.parse::<u64>())) {
-            ("--milliseconds", Some(Ok(number))) => milliseconds = number,
-            ("--steps", Some(Ok(number))) if number >= 100 => steps = number,
-            ("--words", Some(Ok(number))) if number > 0 => words = number as usize,
-            _ => {
-                eprintln!("speed [--milliseconds M] [--steps S, 100 or more] [--words W]");
-                return ExitCode::from(2);
-            }
-        }
-    }
-    let areas = Areas { workspace: vec![0; AREA], answer: vec![0; AREA] };
-    let mut measures = Measures { areas, slice: Duration::from_millis(milliseconds) / SLICES, steps, words, differences: 0 };
-    println!("| measure | firmware, ns | Rust, ns | ratio |\n|---|---|---|---|");
-    let reversed = [50, 500, 4_000].map(|length| reverse(&mut measures, length));
-    let compared = [50, 500, 4_000].map(|length| compare(&mut measures, length));
-    clear(&mut measures);
-    packing(&mut measures);
+    let Some(mut speed) = asked() else {
+        eprintln!("speed [--milliseconds M] [--steps S, 100 or more] [--words W] [--row TEXT]");
+        return ExitCode::from(2);
+    };
+    println!("| measure | firmware, ns | Rust, ns | ratio | target |\n|---|---|---|---|---|");
+    LENGTHS.into_iter().for_each(|length| reverse(&mut speed, length));
+    LENGTHS.into_iter().for_each(|length| compare(&mut speed, length));
+    compare_near(&mut speed);
+    tray(&mut speed);
+    clear(&mut speed);
+    packing(&mut speed);
+    beside_before(&speed);
     println!();
-    let mut met = measures.differences == 0;
-    for (name, rows) in [("reverse", reversed), ("compare", compared)] {
-        let rate = rows.iter().map(|(_, step)| 1_000.0 / step.firmware).fold(f64::INFINITY, f64::min);
-        println!("{name}: at least {rate:.0} million steps a second");
-        let slowest = rows.iter().flat_map(|(whole, step)| [whole.ratio(), step.ratio()]).fold(0.0, f64::max);
-        met &= target(&format!("{name}, the firmware's time beside Rust's, at most"), slowest, BESIDE_RUST);
-        if rows.iter().any(|(_, step)| !(step.firmware > 0.0 && step.rust > 0.0)) {
-            println!("{name}: a call took less time than its fixed part; run longer, by --milliseconds");
-            met = false;
-        }
-        let flat = rows[2].1.firmware / rows[0].1.firmware;
-        met &= target(&format!("{name}, a step at 4,000 moves beside one at 50"), flat, FLAT);
+    close(&speed);
+    if speed.row.is_empty() {
+        ways(&mut speed.measures.areas);
+        equal_tray(&mut speed.measures.areas);
     }
-    met &= ways(&mut measures);
-    met &= tray(&mut measures);
-    if met {
+    if speed.measures.differences == 0 {
         ExitCode::SUCCESS
     } else {
         ExitCode::FAILURE
