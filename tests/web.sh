@@ -28,6 +28,11 @@ part() {
 }
 part node web/test.mjs
 part sh web/browser.sh
-[ "$(wc -c < target/web/braid.html)" -le 400000 ] || { failed=$((failed + 1)); echo "failed: the page has more than 400,000 bytes"; }
+if [ "$(wc -c < target/web/braid.html)" -le 400000 ]; then
+    passed=$((passed + 1))
+else
+    failed=$((failed + 1))
+    echo "failed: the page has more than 400,000 bytes"
+fi
 echo "$passed passed, $failed failed"
 [ "$failed" -eq 0 ]

@@ -16,8 +16,8 @@ joined() {
     for module; do sed -e '/^import /d' -e 's/^export //' "web/$module.mjs"; done
     echo '})();'
 }
-joined braid worker > $out/worker.js
-joined braid cases drawing reversing sha256 tables page > $out/page.js
+joined braid tables explaining worker > $out/worker.js
+joined braid beds cases drawing reversing sha256 tables page > $out/page.js
 base64 -w 0 $out/braid.wasm > $out/wasm.base64
 # Each mark in the page stands alone on its line or in its element.
 awk -v out=$out '

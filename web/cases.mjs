@@ -4,7 +4,8 @@
 
 const IMAGES = /** @type {const} */ (['table', 'first', 'second']);
 const NUMBERS = /** @type {const} */ (['allowance', 'workspace']);
-const LARGEST = { allowance: 65535, workspace: 2 ** 30 };
+/** No reversing of 65,535 steps needs a workspace as long: each step adds 28 moves at most. */
+export const LARGEST = { allowance: 65535, workspace: 2 ** 24 };
 
 /** @param {Uint8Array} bytes */
 const digits = (bytes) => Array.from(bytes, (byte) => byte.toString(16).padStart(2, '0')).join('');
@@ -34,11 +35,16 @@ export function readCase(text) {
         } else if (key === 'allowance' || key === 'workspace') {
             if (!/^[0-9]{1,10}$/.test(value) || Number(value) > LARGEST[key]) return wrong(`${key} is a number from 0 to ${LARGEST[key]}`);
             found[key] = Number(value);
-        } else return wrong(`'${key}' is no part of a case: the parts are ${[...IMAGES, ...NUMBERS].join(', ')}`);
+        } else return wrong(`'${key.length > 20 ? `${key.slice(0, 20)}..` : key}' is no part of a case: the parts are ${[...IMAGES, ...NUMBERS].join(', ')}`);
     }
     const missing = [...IMAGES, ...NUMBERS].filter((key) => !(key in found));
     if (missing.length > 0) return { case: undefined, fault: `missing: ${missing.join(', ')}` };
     return { case: /** @type {Case} */ (found), fault: undefined };
+}
+
+/** A case that went through a field of one line, which takes line ends away. @param {string} text */
+export function readPasted(text) {
+    return readCase(text.trim().includes('\n') ? text : text.replace(/\s*(table|first|second|allowance|workspace)/g, '\n$1'));
 }
 
 /** The part of an address behind its #. @param {Case} given */

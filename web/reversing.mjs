@@ -24,6 +24,16 @@ function before(table, a, b) {
 /** @param {number[]} word */
 export const undoing = (word) => word.map((move) => -move).reverse();
 
+/** Where the next step is taken: the first site, or the last one from the finished end. @param {number[]} word @param {boolean} left */
+function site(word, left) {
+    if (!left) {
+        for (let k = 0; k + 1 < word.length; k++) if (word[k] < 0 && word[k + 1] > 0) return k;
+    } else {
+        for (let k = word.length - 2; k >= 0; k--) if (word[k] > 0 && word[k + 1] < 0) return k;
+    }
+    return undefined;
+}
+
 /**
  * The words from a program on, up to so many steps; the last one is finished, meets an open pair, or is where the steps end.
  * @param {ReturnType<tableParts>} table
@@ -36,8 +46,7 @@ export function steps(table, program, left, most) {
     const shown = [];
     let word = program;
     for (;;) {
-        const sites = [...word.keys()].filter((k) => (left ? word[k] > 0 && word[k + 1] < 0 : word[k] < 0 && word[k + 1] > 0));
-        const at = left ? sites[sites.length - 1] : sites[0];
+        const at = site(word, left);
         shown.push({ word, at });
         if (at === undefined || shown.length > most) return shown;
         const [x, y] = [Math.abs(word[at]), Math.abs(word[at + 1])];

@@ -175,3 +175,13 @@ export function braidTable(moves) {
     }
     return Uint8Array.from(plain);
 }
+
+/** The tables that the page has: the braid tables, and those of samples/, which each name begins with. */
+export const BUILTINS = [
+    ...Array.from({ length: 16 }, (_, k) => ({ name: `braid table of ${k + 1} ${k === 0 ? 'move' : 'moves'}`, text: tableText(braidTable(k + 1)) })),
+    { name: 'heavy2: 1 2 1 = 2 2, weights 1 and 2', text: 'moves 2\nweights 1 2\n1 2 1 = 2 2\n' },
+    { name: 'open2: two moves, the pair open', text: 'moves 2\nweights 1 1\n' },
+    { name: 'open16: 16 moves, all pairs open', text: `moves 16\nweights${' 1'.repeat(16)}\n` },
+    { name: 'endless3: a reversing never ends', text: 'moves 3\nweights 1 1 1\n1 2 1 = 2 1 2\n1 3 1 = 3 1 3\n2 3 2 = 3 2 3\n' },
+    { name: 'one that breaks the cube rule', text: 'moves 3\nweights 1 1 1\n1 2 = 2 1\n1 3 = 3 1\n2 1 = 3 1\n' },
+];

@@ -5,11 +5,13 @@
  */
 import { readFileSync, readdirSync } from 'node:fs';
 import { CALLS, TEXTS, load, trayOf } from '../target/web/braid.mjs';
-import { caseAddress, caseText, csv, readAddress, readCase } from './cases.mjs';
-import { drawing, follow } from './drawing.mjs';
+import { bedDifferences, readBed } from './beds.mjs';
+import { caseAddress, caseText, csv, readAddress, readCase, readPasted } from './cases.mjs';
+import { colour, drawing, follow, luminance } from './drawing.mjs';
+import { explain, explainText } from './explaining.mjs';
 import { entriesOf, steps, swapped, undoing } from './reversing.mjs';
 import { sha256 } from './sha256.mjs';
-import { braidTable, readTable, tableParts, tableText } from './tables.mjs';
+import { BUILTINS, braidTable, readTable, tableParts, tableText } from './tables.mjs';
 
 const top = new URL('..', import.meta.url);
 const encode = (/** @type {string} */ text) => new TextEncoder().encode(text);
@@ -185,6 +187,73 @@ for (let n = 1; n <= 16; n++) {
     }
 }
 
+// The tables that the page has are the samples'.
+for (const name of readdirSync(new URL('samples', top)).filter((name) => name.endsWith('.table'))) {
+    const named = name === 'braid3.table' ? 'braid table of 3 moves' : name.replace('.table', ':');
+    const plain = readTable(encode(BUILTINS.find((builtin) => builtin.name.startsWith(named))?.text ?? '')).plain;
+    const packed = plain && braid.packTable(plain);
+    hold(`the page's table ${named}`, !!packed?.answered && same(packed.bytes, read(`samples/${name}`)));
+}
+hold('each of them is read', BUILTINS.length === 21 && BUILTINS.every(({ text }) => readTable(encode(text)).plain));
+
+// WHAT HELPS BESIDE A REFUSAL
+
+/** @param {string} text @param {string} told */
+const textTold = (text, told) => {
+    const imported = braid.import(B, encode(text));
+    const said = imported.answered ? 'answered' : explainText(braid, B, encode(text), imported);
+    hold(`what is told of ${text.slice(0, 40)}: ${said}`, said === told);
+};
+textTold('1  2', 'line 1, column 3: a space cannot stand here');
+textTold('1 2\n', 'line 1, column 4: the byte 10 cannot stand here');
+textTold('(1 2', 'line 1, column 5: the text ends before the pattern does');
+textTold('1 x', "line 1, column 3: 'x' cannot stand here");
+textTold('1 2^9 (3 4)^0', 'line 1, column 10: the table has 3 moves, and 4 is none');
+textTold('1^99 '.repeat(41) + '(2 3)^99', 'line 1, column 213: with what stands here they are passed');
+/** @param {string} text @param {any} refusal @param {string} told @param {any} [reversing] */
+const refusalTold = (text, refusal, told, reversing) => {
+    const packed = braid.packTable(readTable(encode(text)).plain ?? new Uint8Array());
+    const said = packed.answered && explain(braid, packed.bytes, {}, refusal(packed.bytes), reversing);
+    hold(`what is told of ${text.replace(/\n/g, '; ')}: ${said}`, said === told);
+};
+const cleared = (/** @type {any} */ limits = {}) => (/** @type {Uint8Array} */ table) => braid.clear(table, limits);
+refusalTold('moves 2\n1 2 1 = 2 2\n', cleared(), '1 2 1 weighs 3, 2 2 weighs 2');
+refusalTold('moves 3\n1 2 = 2 1\n1 3 = 3 1\n2 1 = 3 1\n', cleared(), 'the triple 1 2 3: (1\\2)\\(1\\3) is 1, (2\\1)\\(2\\3) is the empty word');
+refusalTold('moves 2\n1 2 = 2 2\n', (/** @type {Uint8Array} */ table) => braid.mirrorClear(table), 'the relation 1 2 = 2 2 offends');
+refusalTold(
+    tableText(braidTable(3)),
+    cleared({ allowance: 4 }),
+    'while the triple 1 2 3 of the table was checked; with a larger allowance the outcome may be another',
+);
+const open2 = 'moves 2\n';
+/** @type {[string, 'reverse' | 'leftReverse', number[], string][]} */
+const opened = [
+    ['reverse', 'reverse', [-1, -1, 1, 2], '-1 2 is met after 1 step, and the pair 1, 2 has no relation'],
+    ['leftReverse', 'leftReverse', [1, 2, -2, -2], '1 -2 is met after 1 step, and no relation has sides that end in 2 and 1'],
+];
+for (const [, call, word, told] of opened) {
+    const packed = braid.packProgram(bytes('10 00'), Uint8Array.from(word, (move) => (move < 0 ? 128 - move : move)));
+    const program = packed.answered ? packed.bytes : new Uint8Array();
+    refusalTold(open2, (/** @type {Uint8Array} */ table) => braid[call](table, program), told, { call, program });
+}
+const nothing = bytes('00 00');
+refusalTold(open2, (/** @type {Uint8Array} */ table) => braid.compareSigned(table, nothing, nothing), 'the pair 1, 2 has no relation');
+
+// BEDS, AND WHERE THEY DIFFER
+
+const bedOf = (/** @type {string} */ text) => {
+    const packed = braid.import(B, encode(text));
+    const program = packed.answered ? braid.packProgram(B, packed.bytes) : packed;
+    const bed = program.answered ? braid.bed(B, program.bytes) : program;
+    return readBed(bed.answered ? bed.bytes : new Uint8Array());
+};
+const after = bedOf('-3 1 -2 1 2');
+hold('the bed of specification 6.11', after.places.join() === '4,1,2,3' && after.totals.map(({ total }) => total).join() === '2,0,-1,0,1,-1');
+hold('its pairs', after.totals.map(({ pair }) => pair.join(' ')).join() === '1 2,1 3,1 4,2 3,2 4,3 4');
+hold('beds that are equal', bedDifferences(bedOf('1 1 2 2'), bedOf('2 2 1 1')).length === 0);
+const apart = [['bobbin at place 1', 2, 1], ['bobbin at place 2', 1, 2], ['total of bobbins 1 and 2', 1, 0]];
+gives('where beds differ', bedDifferences(bedOf('1'), bedOf('')), apart);
+
 // DRAWINGS: the bobbins at the end are those of the library's bed
 
 for (const word of [[], [1], [-3, 1, -2, 1, 2], Array.from({ length: 400 }, (_, k) => ((k * 7) % 3) + 1)]) {
@@ -196,6 +265,15 @@ for (const word of [[], [1], [-3, 1, -2, 1, 2], Array.from({ length: 400 }, (_, 
     const curves = svg.match(/C/g)?.length ?? 0;
     // Each crossing has a curve under and one over, which is drawn twice.
     hold(`the drawing of ${word.length} moves: ${curves} curves`, curves === 3 * word.length && svg.includes('a &lt; b &amp; c') && !svg.includes('NaN'));
+    // The bobbins' numbers stand on their strands at the start, every 20 moves and at the end.
+    const circles = svg.match(/<circle /g)?.length;
+    hold(`its ${circles} numbers`, circles === 4 * (Math.ceil(Math.max(word.length, 1) / 20) + 1));
+}
+const light = (/** @type {string} */ hex) => luminance([1, 3, 5].map((at) => parseInt(hex.slice(at, at + 2), 16) / 255));
+for (const [dark, ground] of /** @type {[boolean, string][]} */ ([[false, '#ffffff'], [true, '#16181b']])) {
+    const colours = Array.from({ length: 17 }, (_, bobbin) => colour(bobbin, dark));
+    const contrast = (/** @type {string} */ hex) => (Math.max(light(hex), light(ground)) + 0.05) / (Math.min(light(hex), light(ground)) + 0.05);
+    hold(`17 colours that can be read on ${ground}`, new Set(colours).size === 17 && colours.every((hex) => contrast(hex) >= 4.5));
 }
 
 // REVERSINGS WORD BY WORD: the last word and the steps are the library's
@@ -234,6 +312,12 @@ for (const [text, what] of [
 ]) {
     hold(`a case with a fault: ${readCase(text).fault}`, readCase(text).fault === what);
 }
+for (const line of [caseText(given).replace(/\n/g, ' '), caseText(given).replace(/\n/g, '')]) {
+    const back = readPasted(line);
+    hold('a case from a field of one line', !!back.case && caseText(back.case) === caseText(given));
+}
+hold('a case of many lines, pasted', readPasted(caseText(given)).case !== undefined);
+hold('a long fault is cut', (readCase('x'.repeat(1e6)).fault ?? '').length < 200);
 hold('CSV', csv([['log', 'steps'], ['a "b", c\n', 5]]) === 'log,steps\r\n"a ""b"", c\n",5\r\n');
 
 console.log(`${passed} passed, ${failed} failed`);
