@@ -14,7 +14,4 @@ pub mod Pairs
 pub mod Rows
 pub mod Entries
 pub mod Forward
-pub mod Appending
 pub mod Weights
-pub mod Parts
-pub mod Packwise

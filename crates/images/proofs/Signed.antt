@@ -15,7 +15,7 @@ use Rattle.model.specs.Images.{letterField, signedField, signed}
 use Rattle.images.specs.Fields.{FieldAt, LetterAt, from}
 use Rattle.images.specs.BitReader.{ReadsFrom, TakenAt}
 use Rattle.images.specs.declared.bit_reader.BitReader.{BitReader}
-use Rattle.images.specs.Written.{WidthOf}
+use Rattle.images.specs.Widths.{WidthOf}
 use Rattle.images.specs.Programs.{SignedAt, SignedTaken}
 use Rattle.model.proofs.Numbers.{below-or}
 use Rattle.images.proofs.Reading.{field-answered, field-ends, letter-answered, letter-wrong, letter-ends}

@@ -1,24 +1,18 @@
--- Reading the weights of a table into their places, and writing them from there: those read or written so far, and what is left. The laws are for
--- any reader of a weight.
-use mathlib.Core.Path.{_≡_, refl, sym, ap, subst, _∙_}
-use mathlib.Core.List.{List, [], _∷_, _++_, append-nil}
+-- Reading the weights of a table into their places: those read so far, and what is left. The laws are for any reader of a weight.
+use mathlib.Core.Path.{_≡_, refl, sym, ap, _∙_}
+use mathlib.Core.List.{List, [], _∷_, _++_}
 use Prim.Native.Nat.{ℕ, suc, _+_, _-_, _*_, _^_, _≤_, _<_}
 use native.Mathlib.Omega.{arith}
 use native.Mathlib.Nat.{mul-one, mul-suc, mul-add, mul-le-mul-left}
-use lib.ListN.{length, take, getD, set, length-append, length-set}
-use lib.Seq.{getD-set-same, getD-set-other, take-suc, take-all}
-use Rattle.model.specs.Presentation.{Presentation}
-use Rattle.model.specs.Enumeration.{concatMap}
+use lib.ListN.{length, getD, set, length-append, length-set}
+use lib.Seq.{getD-set-same, getD-set-other}
 use Rattle.model.specs.Outcome.{unplaced, Outcome, answered, refused}
 use Rattle.model.specs.Bits.{Read}
 use Rattle.model.specs.Images.{weightWidth, several}
 use Rattle.model.specs.Range.{InRange}
-use Rattle.model.proofs.Lists.{concat-append}
 use Rattle.cells.specs.Layout.{cellAt, weightAt}
 use Rattle.cells.specs.Stands.{HoldsWeights}
-use Rattle.cells.proofs.Rules.{of-some, of-few}
-use Rattle.images.specs.Tables.{WeightsFrom, Loaded}
-use Rattle.images.specs.Held.{HoldsSomeTable}
+use Rattle.images.specs.Tables.{WeightsFrom}
 use Rattle.images.proofs.Several.{after, after-none, several-step, several-refused, several-done}
 use Rattle.images.proofs.Rows.{one-more}
 
@@ -105,38 +99,3 @@ module _ (reader : List ℕ → Outcome (Read ℕ)) (source : ℕ → List ℕ) 
           holds = record { many = omega (arith, f .done-length); holds = f .holds; light = f .light };
           kept = f .kept;
         }
-
--- WRITING, whatever a weight is written as
-
-module _ (size : ℕ) (cells excess : List ℕ) (h : HoldsWeights size cells excess) where
-  pub weight-there : (a : ℕ) → 1 ≤ a → a ≤ size → getD cells (weightAt a) 0 ≡ getD excess (a - 1) 0
-  weight-there a low high =
-      let e : 1 + (a - 1) ≡ a = omega arith in
-      subst (λ i. getD cells (weightAt i) 0 ≡ getD excess (a - 1) 0) e (h .holds (a - 1) (omega (arith, h .many)))
-
-  pub weight-more : (write : ℕ → List ℕ) (a : ℕ) → 1 ≤ a → a ≤ size
-      → concatMap write (take (a - 1) excess) ++ write (getD cells (weightAt a) 0) ≡ concatMap write (take (a + 1 - 1) excess)
-  weight-more write a low high =
-      let e : suc (a - 1) ≡ a + 1 - 1 = omega arith in
-      ap (λ v. concatMap write (take (a - 1) excess) ++ write v) (weight-there a low high)
-      ∙ (ap (λ l. concatMap write (take (a - 1) excess) ++ l) (sym (append-nil (write (getD excess (a - 1) 0))))
-      ∙ (sym (concat-append write (take (a - 1) excess) (getD excess (a - 1) 0 ∷ []))
-      ∙ ap (concatMap write) (sym (take-suc excess (a - 1) 0 (omega (arith, h .many))) ∙ ap (λ k. take k excess) e)))
-
-  pub weights-all : (write : ℕ → List ℕ) (a : ℕ) → size < a → concatMap write (take (a - 1) excess) ≡ concatMap write excess
-  weights-all write a g = ap (concatMap write) (take-all (a - 1) excess (omega (arith, h .many)))
-
--- what a loaded table holds, to be written out
-pub loaded-weights : {o : Outcome Presentation} {cells : List ℕ} {size : ℕ} (t : Loaded o cells size) → HoldsWeights size cells (t .table .excess)
-loaded-weights {cells} t = subst (λ n. HoldsWeights n cells (t .table .excess)) (t .of .sized) (t .of .stands .weights)
-
-pub loaded-table : {o : Outcome Presentation} {cells : List ℕ} {size : ℕ} → Loaded o cells size → HoldsSomeTable size cells
-loaded-table t =
-    record {
-      some = of-some (t .of);
-      few = of-few (t .of);
-      excess = t .table .excess;
-      weights = loaded-weights t;
-      rows = t .table .rows;
-      listed = t .listed;
-    }

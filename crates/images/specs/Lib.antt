@@ -3,6 +3,4 @@ pub mod BitReader
 pub mod Programs
 pub mod Tables
 pub mod Chains
-pub mod Held
-pub mod Written
-pub mod Bitwise
+pub mod Widths

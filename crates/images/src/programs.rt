@@ -20,7 +20,7 @@ ghost use Rattle.model.specs.Plain.{plainProgram};
 ghost use Rattle.model.specs.Areas.{written};
 ghost use Rattle.cells.specs.Stands.{Sized};
 ghost use Rattle.images.specs.BitReader.{place, Reads};
-ghost use Rattle.images.specs.Written.{WidthOf};
+ghost use Rattle.images.specs.Widths.{WidthOf};
 ghost use Rattle.images.specs.Programs.{SignedDone, ProgramDone, Accepted, HasLetter, ReadDone};
 
 // The bits of a program's count, and of a letter's sign.

@@ -1,12 +1,12 @@
 -- The two equations of a packing service's promise, from its outcome. Then the outcome of each service, from those of the readers.
 use mathlib.Core.Path.{_≡_, sym, ap, _∙_}
-use mathlib.Core.List.{List, _∷_, _++_, map}
-use Prim.Native.Nat.{ℕ, suc, _+_}
-use native.Mathlib.Omega.{arith}
+use mathlib.Core.List.{List}
+use Prim.Native.Nat.{ℕ}
 use lib.ListN.{length, take, drop}
 use lib.Seq.{take-at}
-use Rattle.plain_forms.specs.Writing.{Wrote}
+use Rattle.writers.specs.Filling.{Fills}
 use Rattle.model.specs.declared.answers.Refusal.{Refusal}
+use Rattle.model.specs.declared.answers.Refusal.the-variants.{AnswerShort}
 use Rattle.model.specs.declared.answers.Packed.{Packed}
 use Rattle.model.specs.declared.answers.Packed.the-variants.{Written, Refused}
 use Rattle.model.specs.Presentation.{Presentation}
@@ -15,8 +15,7 @@ use Rattle.model.specs.Outcome.{Outcome, answered, _>>=_, mapped}
 use Rattle.model.specs.Areas.{begins, outputAfter, ReadsBack}
 use Rattle.model.specs.Stated.{refusal, packedAs}
 use Rattle.model.specs.Images.{readTable, readProgram, programImage, tableImage}
-use Rattle.model.specs.Plain.{plainProgram, readPlainProgram, readPlainTable, plainPair, plainTable}
-use Rattle.model.specs.Enumeration.{concatMap}
+use Rattle.model.specs.Plain.{plainProgram, readPlainProgram, readPlainTable, plainTable}
 use Rattle.model.specs.Services.{fitted, unpackProgram, packProgram, packTable, unpackTable}
 use Rattle.model.proofs.Outcomes.{still-refused}
 pub use Rattle.model.proofs.Fitted.{short-area, long-area}
@@ -39,6 +38,12 @@ module _ {A : Type 0} (subject : Outcome A) (read : List ℕ → Outcome A) (out
     ap answered (sym n) ∙ ap (mapped length) (sym e),
     (w ∙ ap (λ o. outputAfter (λ b. b) o area) (sym e), ap read (ap (take k) w ∙ take-at bytes (drop (length bytes) area) k n) ∙ back),
   )
+
+  -- of what a writer leaves
+  pub fills-keeps : (bytes : List ℕ) → outcome ≡ fitted (length area) bytes → read bytes ≡ subject → (r : Packed) (after : List ℕ) → Fills area bytes r after
+      → Kept subject read outcome area r after
+  fills-keeps bytes e back (Written k) after f = answered-writes bytes after k (e ∙ long-area (length area) bytes (f .1)) (sym (f .0)) (f .2) back
+  fills-keeps bytes e back (Refused r) after f = rw (f .0, f .2) (refused-keeps AnswerShort (e ∙ short-area (length area) bytes (f .1)))
 
 -- UNPACK A PROGRAM
 module _ (table program : List ℕ) (area : ℕ) where
@@ -97,13 +102,3 @@ module _ (table : List ℕ) (area : ℕ) where
   pub plain-read : (T : Presentation) → readPlainTable table ≡ answered T → packTable table area ≡ fitted area (tableImage T)
   unfolding packTable
   plain-read T e = ap (λ o. o >>= λ T. fitted area (tableImage T)) e
-
--- the bytes of a plain table, as they are written
-pub plain-bytes : (T : Presentation) (size : ℕ) → T .size ≡ size → size ∷ (map suc (T .excess) ++ concatMap (concatMap plainPair) (T .rows)) ≡ plainTable T
-unfolding plainTable
-plain-bytes T size e = ap (λ n. n ∷ (map suc (T .excess) ++ concatMap (concatMap plainPair) (T .rows))) (sym e)
-
--- what was written first is taken first
-pub taken-first : (old bytes after : List ℕ) (next : ℕ) → Wrote old 0 bytes after next → take next after ≡ bytes
-taken-first old bytes after next w =
-    ap (take next) (w .area) ∙ take-at bytes (drop (0 + length bytes) old) next (omega (arith, w .next-is))

@@ -1,14 +1,11 @@
 // Pack a program: its image in the answer area.
 
-use images::programs::COUNT_BITS;
-use images::programs::SIGN_BITS;
 use images::tables;
 use images::tables::TableRead;
-use images::writing;
 use model::answers::Packed;
-use model::answers::Refusal;
 use plain_forms::reading::PlainRead;
 use plain_forms::reading::read_plain_program;
+use writers::programs::write_program;
 ghost use mathlib.Core.Path.{_≡_};
 ghost use lib.ListN.{length};
 ghost use Rattle.model.specs.Outcome.{mapped};
@@ -27,16 +24,7 @@ pub fn pack(table: &[u8], plain: &[u8], answer: &mut [u8]) -> Packed
         TableRead::Refused(refusal) => Packed::Refused(refusal),
         TableRead::Table { size } => match read_plain_program(plain, size) {
             PlainRead::Refused(refusal) => Packed::Refused(refusal),
-            PlainRead::Accepted => {
-                let width = bits::letter_width(size) as usize;
-                let bytes = (COUNT_BITS + plain.len() * (SIGN_BITS + width) + 7) / 8;
-                if answer.len() < bytes {
-                    return Packed::Refused(Refusal::AnswerShort);
-                }
-                answer[bytes - 1] = 0;
-                writing::write_program(plain, size, answer);
-                Packed::Written { bytes }
-            }
+            PlainRead::Accepted => write_program(plain, size, answer),
         },
     }
 }

@@ -1,12 +1,11 @@
 // Pack a table: its image in the answer area.
 
-use areas::bytes::copy_bytes;
 use cells::layout::CELLS;
-use images::packing;
 use images::tables::TableRead;
 use model::answers::Packed;
-use model::answers::Refusal;
 use plain_forms::reading::read_plain_table;
+use writers::forms::image_form;
+use writers::tables::write_table;
 ghost use mathlib.Core.Path.{_≡_};
 ghost use lib.ListN.{length};
 ghost use Rattle.model.specs.Outcome.{mapped};
@@ -17,7 +16,6 @@ ghost use Rattle.model.specs.Plain.{readPlainTable};
 ghost use Rattle.model.specs.Services.{packTable, unpackTable};
 ghost use Rattle.packing.specs.RoundTrips.{Undone};
 
-// The image is made in a local area first, so that its length is known before anything is written.
 pub fn pack(plain: &[u8], answer: &mut [u8]) -> Packed
     ensures stated { λ r. ⌜ packedAs r ≡ mapped length (packTable (now (plain .entry)) (length (now (answer .entry)))) ⌝ }
     ensures answer { λ r. ⌜ now (answer .exit) ≡ outputAfter (λ b. b) (packTable (now (plain .entry)) (length (now (answer .entry)))) (now (answer .entry)) ⌝ }
@@ -27,15 +25,6 @@ pub fn pack(plain: &[u8], answer: &mut [u8]) -> Packed
     let mut cells = [0u8; CELLS];
     match read_plain_table(plain, &mut cells) {
         TableRead::Refused(refusal) => Packed::Refused(refusal),
-        TableRead::Table { size } => {
-            let mut out = [0u8; 8192];
-            let fields = packing::pack_cells(&cells, size, &mut out);
-            let bytes = (fields + 7) / 8;
-            if answer.len() < bytes {
-                return Packed::Refused(Refusal::AnswerShort);
-            }
-            copy_bytes(&out, bytes, answer);
-            Packed::Written { bytes }
-        }
+        TableRead::Table { size } => write_table(&cells, size, image_form(size), answer),
     }
 }

@@ -1,12 +1,11 @@
 // Unpack a table: its plain form in the answer area.
 
-use areas::bytes::copy_bytes;
 use cells::layout::CELLS;
 use images::tables;
 use images::tables::TableRead;
 use model::answers::Packed;
-use model::answers::Refusal;
-use plain_forms::writing::write_plain_table;
+use writers::forms::plain_form;
+use writers::tables::write_table;
 ghost use mathlib.Core.Path.{_≡_};
 ghost use lib.ListN.{length};
 ghost use Rattle.model.specs.Outcome.{mapped};
@@ -17,7 +16,6 @@ ghost use Rattle.model.specs.Plain.{readPlainTable};
 ghost use Rattle.model.specs.Services.{unpackTable, packTable};
 ghost use Rattle.packing.specs.RoundTrips.{Undone};
 
-// The plain form is made in a local area first, so that its length is known before anything is written.
 pub fn unpack(table: &[u8], answer: &mut [u8]) -> Packed
     ensures stated { λ r. ⌜ packedAs r ≡ mapped length (unpackTable (now (table .entry)) (length (now (answer .entry)))) ⌝ }
     ensures answer { λ r. ⌜ now (answer .exit) ≡ outputAfter (λ b. b) (unpackTable (now (table .entry)) (length (now (answer .entry)))) (now (answer .entry)) ⌝ }
@@ -27,14 +25,6 @@ pub fn unpack(table: &[u8], answer: &mut [u8]) -> Packed
     let mut cells = [0u8; CELLS];
     match tables::read_table(table, &mut cells) {
         TableRead::Refused(refusal) => Packed::Refused(refusal),
-        TableRead::Table { size } => {
-            let mut out = [0u8; 8192];
-            let bytes = write_plain_table(&cells, size, &mut out);
-            if answer.len() < bytes {
-                return Packed::Refused(Refusal::AnswerShort);
-            }
-            copy_bytes(&out, bytes, answer);
-            Packed::Written { bytes }
-        }
+        TableRead::Table { size } => write_table(&cells, size, plain_form(), answer),
     }
 }

@@ -2,5 +2,4 @@ pub mod Bytes
 pub mod Programs
 pub mod Pairs
 pub mod Tables
-pub mod Written
 pub mod PlainTrip

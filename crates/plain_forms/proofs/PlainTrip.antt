@@ -17,7 +17,7 @@ use Rattle.model.specs.Plain.{plainWord, plainPair, plainTable, plainProgram, n
 use Rattle.model.specs.Range.{AreBytes, All, Rows, InRange, LetterInRange, WordInRange, PairInRange, ProgramInRange, TableInRange}
 use Rattle.model.proofs.Booleans.{both}
 use Rattle.model.proofs.Impossible.{answer-of, same-answer, not-refused}
-use Rattle.images.proofs.Appending.{named-positive, named-small}
+use Rattle.plain_forms.proofs.Programs.{named-positive, named-small}
 use Rattle.images.proofs.Codec.{Codec, then, several-codec, rows-codec}
 use Rattle.plain_forms.proofs.Bytes.{weightByte, weight-bytes}
 

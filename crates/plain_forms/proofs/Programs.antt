@@ -2,14 +2,23 @@
 use mathlib.Core.Path.{_≡_, refl, ap, _∙_}
 use mathlib.Core.List.{List, [], _∷_, map}
 use mathlib.Core.Bool.{true, false, not}
-use Prim.Native.Nat.{ℕ, zero, suc, _≤_, _<_}
+use Prim.Native.Nat.{ℕ, zero, suc, _%_, _≤_, _<_}
 use native.Mathlib.Omega.{arith}
-use borrow.Author.Tests.{lt-ltb, le-ltb}
+use borrow.Author.Tests.{lt-ltb, le-ltb, leb-true}
+use lib.Dec.{leb}
+use Rattle.bits.proofs.Packing.{and-first, and-second}
 use lib.ListN.{length, getD}
 use Rattle.model.specs.Word.{Letter, Word, letter}
 use Rattle.model.specs.Outcome.{unplaced, Outcome, answered, refused, _>>=_, unless}
 use Rattle.model.specs.Plain.{namesLetter, plainLettersSigned, readPlainProgram}
 use Rattle.plain_forms.specs.Reading.{PlainProgram}
+
+-- the number of a byte that names a letter
+pub named-positive : (size x : ℕ) → namesLetter size x ≡ true → 1 ≤ x % 128
+named-positive size x e = leb-true 1 (x % 128) (and-first (leb 1 (x % 128)) (leb (x % 128) size) e)
+
+pub named-small : (size x : ℕ) → namesLetter size x ≡ true → x % 128 ≤ size
+named-small size x e = leb-true (x % 128) size (and-second (leb 1 (x % 128)) (leb (x % 128) size) e)
 
 unfoldable rest : ℕ → List ℕ → Letter → Outcome Word
 rest n xs a = plainLettersSigned n xs >>= λ w. answered (a ∷ w)

@@ -1,17 +1,17 @@
 -- What reading plain forms gives: the program or the table that the model's readers give, a table in its cells.
 use mathlib.Core.List.{List, map}
 use mathlib.Core.Path.{_≡_}
-use Prim.Native.Nat.{ℕ, _≤_}
+use mathlib.Core.Bool.{true}
+use Prim.Native.Nat.{ℕ, _≤_, _<_}
 use lib.Dec.{ltb}
-use lib.ListN.{length, drop}
+use lib.ListN.{length, drop, getD}
 use Rattle.model.specs.Word.{letter}
 use Rattle.model.specs.Presentation.{Presentation}
 use Rattle.model.specs.Outcome.{Outcome, answered, _>>=_, unless}
 use Rattle.model.specs.Images.{rowsOf}
-use Rattle.model.specs.Plain.{plainWeight, plainLetters, plainPairAt, readPlainTable, readPlainProgram}
+use Rattle.model.specs.Plain.{namesLetter, plainWeight, plainLetters, plainPairAt, readPlainTable, readPlainProgram}
 use Rattle.model.specs.Stated.{refusal}
 use Rattle.cells.specs.Stands.{HoldsWeights}
-use Rattle.images.specs.Written.{NamesLetters}
 use Rattle.images.specs.Tables.{WordDoneFrom, PairDoneFrom, RowDoneFrom, WeightsDoneFrom, Loaded, LoadedOr}
 use Rattle.images.specs.declared.tables.TablePart.{TablePart}
 use Rattle.images.specs.declared.tables.TableRead.{TableRead}
@@ -20,6 +20,11 @@ use Rattle.plain_forms.specs.declared.reading.PlainRead.{PlainRead}
 use Rattle.plain_forms.specs.declared.reading.PlainRead.the-variants.{Accepted, Refused}
 
 -- A PROGRAM
+
+-- every byte names a letter, and a program can have as many
+pub record NamesLetters (size : ℕ) (plain : List ℕ) : Type 0 where
+  pub short : length plain ≤ 4095
+  pub named : (i : ℕ) → i < length plain → namesLetter size (getD plain i 0) ≡ true
 
 -- every byte names a letter, and the program is theirs
 pub record PlainProgram (plain : List ℕ) (size : ℕ) : Type 0 where

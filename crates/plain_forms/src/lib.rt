@@ -1,3 +1,2 @@
 // Readers and writers of the plain forms of programs and tables.
 pub mod reading;
-pub mod writing;

@@ -2,6 +2,7 @@
 ghost use mathlib.Core.Path.{_≡_};
 ghost use Prim.Native.Nat.{_+_, _≤_, _<_};
 ghost use lib.ListN.{length};
+ghost use Rattle.model.specs.Plain.{namesLetter};
 ghost use Rattle.cells.specs.Stands.{Blank};
 ghost use Rattle.cells.specs.Layout.{Letters};
 ghost use Rattle.plain_forms.specs.Reading.{PlainDone, PlainBefore, PlainWordDone, PlainPairDone, PlainRowDone, PlainWeightsDone, PlainRowsDone, PlainTableDone};
@@ -10,14 +11,25 @@ use cells::layout::cell_at;
 use cells::layout::weight_at;
 use images::tables::TablePart;
 use images::tables::TableRead;
-use images::writing::names_letter;
 use model::answers::Refusal;
+use model::plain::BACK;
 use model::plain::MOST_LETTERS;
 use model::plain::MOST_WEIGHT;
 
 pub enum PlainRead {
     Accepted,
     Refused(Refusal),
+}
+
+// Whether a byte names a letter, forward or back.
+pub fn names_letter(x: u8, size: u8) -> bool
+    ensures { λ r. ⌜ r ≡ namesLetter size x ⌝ }
+{
+    let number = x % BACK;
+    if number < 1 {
+        return false;
+    }
+    number <= size
 }
 
 // Refusal 4 where there are too many letters, then 5 where a byte names none.

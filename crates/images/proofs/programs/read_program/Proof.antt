@@ -11,7 +11,7 @@ use Rattle.cells.specs.Layout.{weightAt}
 use Rattle.cells.proofs.Rules.{of-size}
 use Rattle.images.specs.Fields.{FieldDone, FieldAt, from}
 use Rattle.images.specs.BitReader.{place}
-use Rattle.images.specs.Written.{WidthOf}
+use Rattle.images.specs.Widths.{WidthOf}
 use Rattle.images.specs.Programs.{SignedDone, SignedTaken}
 use Rattle.images.specs.declared.programs.SignedField.{SignedField}
 use Rattle.images.proofs.Validating.{count-ends, value-refused, whole-answered, whole-count, whole-tail, program-whole}

@@ -16,7 +16,7 @@ use Rattle.images.specs.BitReader.{place, ReadsFrom}
 use Rattle.images.specs.Programs.{SignedDone, SignedTaken, HasLetter}
 use Rattle.images.specs.declared.programs.SignedField.{SignedField}
 use Rattle.bits.proofs.Width.{width-small}
-use Rattle.images.specs.Written.{WidthOf}
+use Rattle.images.specs.Widths.{WidthOf}
 use Rattle.images.proofs.Placed.{count-inside}
 use Rattle.images.proofs.Letters.{has-letter, count-small, count-of, letter-answer, letter-stands, unpack-more, unpack-all}
 use Rattle.images.proofs.programs.unpack_letters.Statement.{statement}

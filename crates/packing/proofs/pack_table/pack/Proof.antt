@@ -1,60 +1,42 @@
 -- `packing::pack_table::pack` meets its contract.
-use mathlib.Core.Path.{_≡_, refl, sym, ap, subst, _∙_}
-use mathlib.Core.List.{List, _++_}
-use Prim.Native.Nat.{ℕ, _-_}
-use native.Mathlib.Omega.{arith}
-use Rattle.cells.proofs.Rules.{blank-zeros}
-use borrow.Author.Needs.{needs}
-use lib.ListN.{length, take, drop}
-use Rattle.model.specs.declared.answers.Refusal.the-variants.{AnswerShort}
-use Rattle.model.specs.Enumeration.{concatMap}
-use Rattle.model.specs.Bits.{digits, bytesFor, pack}
-use Rattle.model.specs.Images.{weightWidth, pairBits, tableImage, readTable}
-use Rattle.model.specs.Plain.{readPlainTable}
-use Rattle.model.specs.Services.{packTable, unpackTable}
-use Rattle.model.specs.Range.{AreBytes}
-use Rattle.bits.proofs.Packing.{length-packed}
+use mathlib.Core.Path.{_≡_, sym, ap, subst, _∙_}
+use mathlib.Core.List.{List}
+use Prim.Native.Nat.{ℕ}
+use lib.ListN.{length}
+use Rattle.cells.proofs.Rules.{blank-zeros, of-some, of-few}
 use Rattle.plain_forms.specs.Reading.{PlainTableDone, PlainTableOf}
-use Rattle.images.proofs.Appending.{bytes-first, zero-image, table-bits, table-image}
-use Rattle.images.proofs.Weights.{loaded-weights, loaded-table}
-use Rattle.packing.proofs.Packing.{refused-keeps, answered-writes, short-area, long-area, plain-refused, plain-read}
+use Rattle.model.specs.Bits.{pack}
+use Rattle.model.specs.Images.{readTable, tableImage}
+use Rattle.model.specs.Plain.{readPlainTable}
+use Rattle.model.specs.Services.{fitted, packTable, unpackTable}
+use Rattle.writers.specs.Filling.{Fills}
+use Rattle.writers.specs.Forms.{imageForm, tableAs}
+use Rattle.writers.proofs.Parts.{loaded-weights, loaded-table}
+use Rattle.writers.proofs.TableForms.{image-fits, image-bits}
+use Rattle.packing.proofs.Packing.{refused-keeps, fills-keeps, plain-refused, plain-read}
 use Rattle.packing.proofs.ReadBack.{undone-too, table-unpacked, table-back}
+use borrow.Author.Needs.{needs}
 use Rattle.packing.proofs.pack_table.pack.Statement.{statement}
 use Rattle.packing.proofs.pack_table.pack.Tie as tie
 
 abbrev start : tie.After-known-told2 → tie.Start
 start c = c .before .before .before .before .before .before .before .before
 
+abbrev told : tie.After-image-form → tie.After-known-told2
+told c = c .before .before
+
 table-of : (c : tie.After-known-told2) → PlainTableOf (start c .args .plain .now) (c .before .before .before .before .read-plain-table .last .1 .0) (c .before .size .given .0 .0)
-table-of c = subst (PlainTableDone (start c .args .plain .now) (c .before .before .before .before .read-plain-table .last .1 .0)) (c .before .size .given .1) (c .before .before .before .before .read-plain-table .ensures .1)
+table-of c =
+    subst (PlainTableDone (start c .args .plain .now) (c .before .before .before .before .read-plain-table .last .1 .0)) (c .before .size .given .1)
+    (c .before .before .before .before .read-plain-table .ensures .1)
 
--- the bits of the table that was read
-abbrev bits : tie.After-known-told2 → List ℕ
-bits c = digits 4 (c .before .size .given .0 .0 - 1) ++ (concatMap (digits weightWidth) (table-of c .table .excess) ++ concatMap (concatMap (pairBits (c .before .size .given .0 .0))) (table-of c .table .rows))
-
-abbrev told : tie.After-pack-cells → tie.After-known-told2
-told c = c .before .before .before
-
-image-is : (c : tie.After-known-told2) → tableImage (table-of c .table) ≡ pack (bits c)
-image-is c = table-image (table-of c .table) (c .before .size .given .0 .0) (table-of c .of .sized)
-
-bits-length : (c : tie.After-pack-cells) → c .pack-cells .result ≡ length (bits (told c))
-bits-length c = c .pack-cells .ensures .0 (table-of (told c) .table .excess) (table-of (told c) .table .rows) (loaded-weights (table-of (told c))) (table-of (told c) .listed) .next-is ∙ omega arith
-
-image-length : (c : tie.After-pack-cells) → length (tableImage (table-of (told c) .table)) ≡ bytesFor (c .pack-cells .result)
-image-length c =
-    ap length (image-is (told c)) ∙ (length-packed (bytesFor (length (bits (told c)))) (bits (told c)) ∙ ap bytesFor (sym (bits-length c)))
-
-image-taken : (c : tie.After-pack-cells) → AreBytes (take (bytesFor (c .pack-cells .result)) (c .pack-cells .last .1 .1 .0)) → take (bytesFor (c .pack-cells .result)) (c .pack-cells .last .1 .1 .0) ≡ tableImage (table-of (told c) .table)
-image-taken c bs =
-    let t = table-of (told c) in
-    let n = bits-length c in
-    ap (λ m. take (bytesFor m) (c .pack-cells .last .1 .1 .0)) n
-    ∙ (zero-image 8192 (c .pack-cells .last .1 .1 .0) (bits (told c)) (table-bits (told c .before .size .given .0 .0) (t .table .excess) (t .table .rows))
-    (omega (arith, n, c .pack-cells .ensures .1 .1))
-    (subst (λ m. AreBytes (take (bytesFor m) (c .pack-cells .last .1 .1 .0))) n bs)
-    (c .pack-cells .ensures .0 (t .table .excess) (t .table .rows) (loaded-weights t) (t .listed) .appended)
-    ∙ sym (image-is (told c)))
+-- the bytes that are written
+bytes : (c : tie.After-image-form) → pack (tableAs (c .image-form .result) (told c .before .size .given .0 .0) (table-of (told c) .table .excess) (table-of (told c) .table .rows)) ≡ tableImage (table-of (told c) .table)
+bytes c =
+    let k = told c in
+    let t = table-of k in
+    ap (λ f. pack (tableAs f (k .before .size .given .0 .0) (t .table .excess) (t .table .rows))) (c .image-form .ensures)
+    ∙ image-bits (t .table) (k .before .size .given .0 .0) (t .of .sized)
 
 slice-aggregate-read-plain-table : tie.Need-slice-aggregate-read-plain-table
 slice-aggregate-read-plain-table c = search needs
@@ -68,67 +50,43 @@ enum-known-refusal c = search needs
 enum-known-size : tie.Need-enum-known-size
 enum-known-size c = search needs
 
-slice-aggregate-pack-cells : tie.Need-slice-aggregate-pack-cells
-slice-aggregate-pack-cells c = search needs
+slice-aggregate-write-table : tie.Need-slice-aggregate-write-table
+slice-aggregate-write-table c = search needs
 
-slice-aggregate-pack-cells-2 : tie.Need-slice-aggregate-pack-cells-2
-slice-aggregate-pack-cells-2 c = search needs
+image-form-requires : tie.Need-image-form-requires
+image-form-requires c κs =
+    let t = table-of (c .before) in
+    (of-some (t .of), of-few (t .of))
 
-pack-cells-requires : tie.Need-pack-cells-requires
-pack-cells-requires c κs =
-    let t = table-of (c .before .before) in (
-      loaded-table t,
-      t .of .stands .full,
-      refl,
-    )
-
-add-bytes : tie.Need-add-bytes
-add-bytes c = search needs
+write-table-requires : tie.Need-write-table-requires
+write-table-requires c κs =
+    let f = c .before in
+    let t = table-of (told f) in
+    (loaded-table t, rw (f .image-form .ensures) (image-fits _ (of-some (t .of)) (of-few (t .of))), t .of .stands .full)
 
 returns : tie.Need-returns
 returns c =
-    let v = c .before .before in
-    let s = start (told v) in
-    let t = table-of (told v) in
-    undone-too packTable unpackTable table-unpacked (s .args .plain .now) (s .args .answer .now) _ _
-    (refused-keeps (readPlainTable (s .args .plain .now)) readTable (packTable (s .args .plain .now) (length (s .args .answer .now))) (s .args .answer .now) AnswerShort
-    (plain-read (s .args .plain .now) (length (s .args .answer .now)) (t .table) (t .read) ∙ short-area (length (s .args .answer .now)) (tableImage (t .table)) (omega (arith, c .if1 .taken, image-length v))))
-
-slice-aggregate-copy-bytes : tie.Need-slice-aggregate-copy-bytes
-slice-aggregate-copy-bytes c = search needs
-
-copy-bytes-requires : tie.Need-copy-bytes-requires
-copy-bytes-requires c κs = search needs
-
-returns-2 : tie.Need-returns-2
-returns-2 c =
     let s = c .before .before .before .before .before .before .before .before in
     let r = c .before .before .before .before in
     undone-too packTable unpackTable table-unpacked (s .args .plain .now) (s .args .answer .now) _ _
     (refused-keeps (readPlainTable (s .args .plain .now)) readTable (packTable (s .args .plain .now) (length (s .args .answer .now))) (s .args .answer .now) (c .before .refusal .given .0 .0)
-    (plain-refused (s .args .plain .now) (length (s .args .answer .now)) (c .before .refusal .given .0 .0) (subst (PlainTableDone (s .args .plain .now) (r .read-plain-table .last .1 .0)) (c .before .refusal .given .1) (r .read-plain-table .ensures .1))))
+    (plain-refused (s .args .plain .now) (length (s .args .answer .now)) (c .before .refusal .given .0 .0)
+    (subst (PlainTableDone (s .args .plain .now) (r .read-plain-table .last .1 .0)) (c .before .refusal .given .1) (r .read-plain-table .ensures .1))))
 
 same-length : tie.Need-same-length
 same-length c = search needs
 
-returns-3 : tie.Need-returns-3
-returns-3 c =
-    let u = c .before .before in
-    let e = u .before .before .before in
-    let v = e .before .before in
-    let s = start (told v) in
-    let t = table-of (told v) in
-    let copied = u .copy-bytes .ensures .1 in
-    let bs : AreBytes (take (bytesFor (v .pack-cells .result)) (v .pack-cells .last .1 .1 .0)) =
-    bytes-first (take (bytesFor (v .pack-cells .result)) (v .pack-cells .last .1 .1 .0)) (drop (bytesFor (v .pack-cells .result)) (s .args .answer .now)) (subst AreBytes copied (λ i. c .slice-known2 .given i .fits)) in
+returns-2 : tie.Need-returns-2
+returns-2 c =
+    let w = c .before .before .write-table in
+    let f = c .before .before .before .before in
+    let k = told f in
+    let s = start k in
+    let t = table-of k in
     undone-too packTable unpackTable table-unpacked (s .args .plain .now) (s .args .answer .now) _ _
-    (answered-writes (readPlainTable (s .args .plain .now)) readTable (packTable (s .args .plain .now) (length (s .args .answer .now))) (s .args .answer .now) (tableImage (t .table)) (u .copy-bytes .last .1 .1 .0) _
-    (plain-read (s .args .plain .now) (length (s .args .answer .now)) (t .table) (t .read) ∙ long-area (length (s .args .answer .now)) (tableImage (t .table)) (omega (arith, e .if1 .left, image-length v)))
-    (image-length v)
-    (copied
-    ∙ (ap (λ l. l ++ drop (bytesFor (v .pack-cells .result)) (s .args .answer .now)) (image-taken v bs)
-    ∙ ap (λ n. tableImage (t .table) ++ drop n (s .args .answer .now)) (sym (image-length v))))
-    (table-back (s .args .plain .now) (t .table) (t .read)))
+    (fills-keeps (readPlainTable (s .args .plain .now)) readTable (packTable (s .args .plain .now) (length (s .args .answer .now))) (s .args .answer .now) (tableImage (t .table))
+    (plain-read (s .args .plain .now) (length (s .args .answer .now)) (t .table) (t .read)) (table-back (s .args .plain .now) (t .table) (t .read)) (w .result) (w .last .1 .1 .1 .0)
+    (subst (λ bs. Fills (s .args .answer .now) bs (w .result) (w .last .1 .1 .1 .0)) (bytes f) (w .ensures (t .table .excess) (t .table .rows) (loaded-weights t) (t .listed))))
 
 pub pack-spec : {M : Type 1} → statement M
 pack-spec =
@@ -138,13 +96,9 @@ pack-spec =
     read-plain-table-requires
     enum-known-refusal
     enum-known-size
-    slice-aggregate-pack-cells
-    slice-aggregate-pack-cells-2
-    pack-cells-requires
-    add-bytes
+    slice-aggregate-write-table
+    image-form-requires
+    write-table-requires
     returns
-    slice-aggregate-copy-bytes
-    copy-bytes-requires
-    returns-2
     same-length
-    returns-3)
+    returns-2)

@@ -1,0 +1,5 @@
+pub mod BitWriter
+pub mod Parts
+pub mod Lengths
+pub mod Letters
+pub mod TableForms
