@@ -52,7 +52,7 @@ const known = new Map();
 export function colour(bobbin, dark = false) {
     const key = `${bobbin} ${dark}`;
     const hue = (bobbin * 137) % 360;
-    const wanted = bobbin % 16 >= 8 ? (dark ? 0.62 : 0.035) : dark ? 0.33 : 0.16;
+    const wanted = bobbin % 16 >= 8 ? (dark ? 0.62 : 0.06) : dark ? 0.33 : 0.17;
     let [low, high] = [0, 1];
     for (let k = 0; k < 20 && !known.has(key); k++) {
         const middle = (low + high) / 2;

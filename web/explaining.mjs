@@ -10,6 +10,8 @@ import { tableParts } from './tables.mjs';
 
 const NO_PATTERN = 19;
 const TOO_MANY_MOVES = 20;
+/** The largest allowance. */
+const LARGEST_ALLOWANCE = 65535;
 
 /**
  * What import says of the beginning of a text, once what is open in it is closed: undefined where it cannot go on to a pattern.
@@ -103,7 +105,7 @@ function cubeSide(braid, table, [a, b, c], limits) {
  * @param {Braid} braid @param {'reverse' | 'leftReverse'} call @param {Uint8Array} table @param {Uint8Array} program @param {Limits} limits
  */
 function stepsBefore(braid, call, table, program, limits) {
-    let [less, enough] = [-1, limits.allowance ?? 65535];
+    let [less, enough] = [-1, limits.allowance ?? LARGEST_ALLOWANCE];
     while (enough - less > 1) {
         const middle = (less + enough) >> 1;
         const told = braid[call](table, program, { ...limits, allowance: middle });
@@ -147,5 +149,7 @@ export function explain(braid, table, limits, refusal, reversing) {
         none: '',
     }[place.kind];
     const short = refused === 11 ? 'allowance' : refused === 12 ? 'workspace' : undefined;
-    return [under, short && `with a larger ${short} the outcome may be another`].filter(Boolean).join('; ');
+    const largest = refused === 11 && (limits.allowance ?? LARGEST_ALLOWANCE) >= LARGEST_ALLOWANCE;
+    const larger = short && (largest ? 'no allowance is larger: the question stays open' : `with a larger ${short} the outcome may be another`);
+    return [under, larger].filter(Boolean).join('; ');
 }

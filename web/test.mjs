@@ -210,10 +210,10 @@ textTold('(1 2', 'line 1, column 5: the text ends before the pattern does');
 textTold('1 x', "line 1, column 3: 'x' cannot stand here");
 textTold('1 2^9 (3 4)^0', 'line 1, column 10: the table has 3 moves, and 4 is none');
 textTold('1^99 '.repeat(41) + '(2 3)^99', 'line 1, column 213: with what stands here they are passed');
-/** @param {string} text @param {any} refusal @param {string} told @param {any} [reversing] */
-const refusalTold = (text, refusal, told, reversing) => {
+/** @param {string} text @param {any} refusal @param {string} told @param {any} [reversing] @param {any} [limits] */
+const refusalTold = (text, refusal, told, reversing, limits = {}) => {
     const packed = braid.packTable(readTable(encode(text)).plain ?? new Uint8Array());
-    const said = packed.answered && explain(braid, packed.bytes, {}, refusal(packed.bytes), reversing);
+    const said = packed.answered && explain(braid, packed.bytes, limits, refusal(packed.bytes), reversing);
     hold(`what is told of ${text.replace(/\n/g, '; ')}: ${said}`, said === told);
 };
 const cleared = (/** @type {any} */ limits = {}) => (/** @type {Uint8Array} */ table) => braid.clear(table, limits);
@@ -224,6 +224,16 @@ refusalTold(
     tableText(braidTable(3)),
     cleared({ allowance: 4 }),
     'while the triple 1 2 3 of the table was checked; with a larger allowance the outcome may be another',
+    undefined,
+    { allowance: 4 },
+);
+const [endless, pair] = ['samples/endless3.table', 'samples/endless.program'].map(read);
+const never = braid.reverse(endless, pair, { workspace: 1 << 24 });
+hold('no larger allowance', !never.answered && explain(braid, endless, {}, never) === 'no allowance is larger: the question stays open');
+refusalTold(
+    tableText(braidTable(3)),
+    cleared({ workspace: 10 }),
+    'while the triple 1 2 3 of the table was checked; with a larger workspace the outcome may be another',
 );
 const open2 = 'moves 2\n';
 /** @type {[string, 'reverse' | 'leftReverse', number[], string][]} */
