@@ -17,7 +17,8 @@ joined() {
     echo '})();'
 }
 joined braid tables explaining worker > $out/worker.js
-joined braid beds cases drawing reversing sha256 tables page > $out/page.js
+joined braid beds cases drawing reversing sha256 tables \
+    state calling programs table_view compare_view tray_view bed_view reverse_view page > $out/page.js
 base64 -w 0 $out/braid.wasm > $out/wasm.base64
 # Each mark in the page stands alone on its line or in its element.
 awk -v out=$out '
