@@ -1,16 +1,15 @@
--- More of a field, read by a bit and written by a run: the steps that `read_field` and `write_field` take.
+-- More of a field, a run at a time: the steps that `read_field` and `write_field` take.
 use mathlib.Core.Path.{_≡_, refl, sym, ap, _∙_}
 use mathlib.Core.List.{List, [], _∷_, _++_, append-assoc}
-use Prim.Native.Nat.{ℕ, zero, suc, _+_, _-_, _*_, _/_, _^_, _≤_, _<_}
+use Prim.Native.Nat.{ℕ, zero, suc, _+_, _-_, _*_, _/_, _%_, _^_, _≤_, _<_}
 use native.Mathlib.Omega.{arith}
-use native.Mathlib.Numerals.{add-one}
 use native.Mathlib.Nat.{add-assoc}
-use lib.ListN.{length, take, drop, getD, length-append, length-drop, take-append-drop}
-use lib.Seq.{take-suc, getD-drop, length-take-le, drop-drop}
-use lib.Pow.{pow-mono, shr-shr}
+use lib.ListN.{length, take, drop, length-append, length-drop, take-append-drop}
+use lib.Seq.{take-append-add, length-take-le, drop-drop}
+use lib.Pow.{pow-mono, shl-exact, shr-shr}
 use Rattle.model.specs.Bits.{digits, number, bitsOf}
 use Rattle.bits.specs.Fields.{Inside, Written}
-use Rattle.bits.proofs.Digits.{AreBits, length-digits, number-append, number-bound, digits-append}
+use Rattle.bits.proofs.Digits.{AreBits, length-digits, number-append, number-after, number-bound, digits-append}
 use Rattle.bits.proofs.Bytes.{length-bits, bits-are-bits}
 use Rattle.bits.proofs.Runs.{replaced}
 
@@ -25,23 +24,9 @@ bits-drop zero bs h = h
 bits-drop (suc n) [] h = tt
 bits-drop (suc n) (b ∷ bs) h = bits-drop n bs (h .1)
 
-pub bit-below : (bs : List ℕ) (i : ℕ) → AreBits bs → getD bs i 0 < 2
-bit-below [] i h = omega arith
-bit-below (b ∷ bs) zero h = h .0
-bit-below (b ∷ bs) (suc i) h = bit-below bs i (h .1)
-
 module _ (bytes : List ℕ) (at width : ℕ) (inside : Inside bytes at width) where
-  pub bit-small : (i : ℕ) → getD (bitsOf bytes) (at + i) 0 < 2
-  bit-small i = bit-below (bitsOf bytes) (at + i) (bits-are-bits bytes)
-
-  pub field-more : (i : ℕ) → i < width
-      → number 0 (take (i + 1) (drop at (bitsOf bytes))) ≡ number 0 (take i (drop at (bitsOf bytes))) * 2 + getD (bitsOf bytes) (at + i) 0
-  field-more i h =
-      let l : i < length (drop at (bitsOf bytes)) = omega (arith, length-drop at (bitsOf bytes), length-bits bytes, inside .inside) in
-      ap (λ n. number 0 (take n (drop at (bitsOf bytes)))) (add-one i)
-      ∙ (ap (number 0) (take-suc (drop at (bitsOf bytes)) i 0 l)
-      ∙ (number-append 0 (take i (drop at (bitsOf bytes))) (getD (drop at (bitsOf bytes)) i 0 ∷ [])
-      ∙ ap (λ b. number 0 (take i (drop at (bitsOf bytes))) * 2 + b) (getD-drop at (bitsOf bytes) i 0)))
+  rest-long : (i : ℕ) → i ≤ width → width - i ≤ length (drop (at + i) (bitsOf bytes))
+  rest-long i h = omega (arith, length-drop (at + i) (bitsOf bytes), length-bits bytes, inside .inside)
 
   -- a field of i bits is a number of i binary digits
   pub field-fits : (i : ℕ) → i ≤ width → number 0 (take i (drop at (bitsOf bytes))) < 2 ^ i
@@ -52,10 +37,29 @@ module _ (bytes : List ℕ) (at width : ℕ) (inside : Inside bytes at width) wh
       let e : 2 ^ length (take i (drop at (bitsOf bytes))) ≡ 2 ^ i = ap (λ n. 2 ^ n) (length-take-le i (drop at (bitsOf bytes)) l) in
       omega arith
 
-  pub step-fits : (i : ℕ) → i < width → number 0 (take i (drop at (bitsOf bytes))) * 2 + getD (bitsOf bytes) (at + i) 0 < 2 ^ 16
-  step-fits i h =
-      let m : 2 ^ (i + 1) ≤ 2 ^ 16 = pow-mono {j = 16} (omega (arith, inside .narrow)) in
-      omega (arith, field-more i h, field-fits (i + 1) (omega arith))
+  -- a run more
+  module _ (i c : ℕ) (more : i + c ≤ width) where
+    pub field-more : number 0 (take (i + c) (drop at (bitsOf bytes))) ≡ number 0 (take i (drop at (bitsOf bytes))) * 2 ^ c + number 0 (take c (drop (at + i) (bitsOf bytes)))
+    field-more =
+        let bits = drop at (bitsOf bytes) in
+        let l : i ≤ length (drop at (bitsOf bytes)) = omega (arith, length-drop at (bitsOf bytes), length-bits bytes, inside .inside) in
+        let two : take (i + c) (drop at (bitsOf bytes)) ≡ take i (drop at (bitsOf bytes)) ++ take c (drop (at + i) (bitsOf bytes)) =
+        ap (take (i + c)) (sym (take-append-drop i bits))
+        ∙ (ap (λ n. take (n + c) (take i bits ++ drop i bits)) (sym (length-take-le i bits l))
+        ∙ (take-append-add (take i bits) (drop i bits) c ∙ ap (λ rest. take i bits ++ take c rest) (drop-drop i at (bitsOf bytes)))) in
+        ap (number 0) two
+        ∙ (number-append 0 (take i bits) (take c (drop (at + i) (bitsOf bytes)))
+        ∙ (number-after (number 0 (take i bits)) (take c (drop (at + i) (bitsOf bytes)))
+        ∙ ap (λ n. number 0 (take i bits) * 2 ^ n + number 0 (take c (drop (at + i) (bitsOf bytes)))) (length-take-le c (drop (at + i) (bitsOf bytes)) (omega (arith, rest-long i (omega arith))))))
+
+    -- what is computed on the way fits
+    pub shift-exact : number 0 (take i (drop at (bitsOf bytes))) * 2 ^ c % 65536 ≡ number 0 (take i (drop at (bitsOf bytes))) * 2 ^ c
+    shift-exact = shl-exact i c 16 (field-fits i (omega arith)) (omega (arith, inside .narrow))
+
+    pub step-fits : number 0 (take i (drop at (bitsOf bytes))) * 2 ^ c + number 0 (take c (drop (at + i) (bitsOf bytes))) < 2 ^ 16
+    step-fits =
+        let m : 2 ^ (i + c) ≤ 2 ^ 16 = pow-mono {j = 16} (omega (arith, inside .narrow)) in
+        omega (arith, field-more, field-fits (i + c) more)
 
 -- before the first run nothing is written
 pub written-none : (xs : List ℕ) (at v : ℕ) → Written xs at 0 v xs
@@ -89,25 +93,12 @@ written-more xs ys zs at i k v inside first next =
           ∙ ap (λ l. take at bits ++ (digits (i + k) v ++ l)) (drop-drop k (at + i) bits ∙ ap (λ n. drop n bits) (add-assoc at i k)))));
     }
 
--- a field in two runs, and in three of which the second is a byte
-module _ (xs ys zs : List ℕ) (at width value i : ℕ) (inside : at + width ≤ 8 * length xs) where
-  pub written-two : i ≤ width → Written xs at i (value / 2 ^ (width - i)) ys → Written ys (at + i) (width - i) value zs → Written xs at width value zs
-  written-two h first next =
-      let all : i + (width - i) ≡ width = omega arith in
-      rw all at (written-more xs ys zs at i (width - i) value (omega arith) first next)
-
-  written-first : i + 8 ≤ width → Written xs at i (value / 2 ^ (width - i)) ys → Written ys (at + i) 8 (value / 2 ^ (width - i - 8)) zs
-      → Written xs at (i + 8) (value / 2 ^ (width - (i + 8))) zs
-  written-first h first next =
-      let e : value / 2 ^ (width - i) ≡ value / 2 ^ (width - i - 8) / 2 ^ 8 =
-      ap (λ n. value / 2 ^ n) {x = width - i} {y = width - i - 8 + 8} (omega arith) ∙ sym (shr-shr value (width - i - 8) 8) in
-      let d : width - (i + 8) ≡ width - i - 8 = omega arith in
-      rw d (written-more xs ys zs at i 8 (value / 2 ^ (width - i - 8)) (omega arith) (rw e at first) next)
-
-pub written-three : (xs ys zs ws : List ℕ) (at width value i : ℕ) → at + width ≤ 8 * length xs → i + 8 ≤ width
-    → Written xs at i (value / 2 ^ (width - i)) ys → Written ys (at + i) 8 (value / 2 ^ (width - i - 8)) zs → Written zs (at + i + 8) (width - i - 8) value ws
-    → Written xs at width value ws
-written-three xs ys zs ws at width value i inside h first second third =
-    let place : at + i + 8 ≡ at + (i + 8) = omega arith in
-    let left : width - i - 8 ≡ width - (i + 8) = omega arith in
-    written-two xs zs ws at width value (i + 8) inside h (written-first xs ys zs at width value i inside h first second) (rw (place, left) at third)
+-- a run more of a field whose first bits are written
+module _ (xs ys zs : List ℕ) (at width value left count : ℕ) (inside : at + width ≤ 8 * length xs) (some : left ≤ width) (part : count ≤ left) where
+  pub run-more : Written xs at (width - left) (value / 2 ^ left) ys → Written ys (at + (width - left)) count (value / 2 ^ (left - count)) zs
+      → Written xs at (width - (left - count)) (value / 2 ^ (left - count)) zs
+  run-more first next =
+      let e : value / 2 ^ left ≡ value / 2 ^ (left - count) / 2 ^ count =
+      ap (λ n. value / 2 ^ n) {x = left} {y = left - count + count} (omega arith) ∙ sym (shr-shr value (left - count) count) in
+      let d : width - left + count ≡ width - (left - count) = omega arith in
+      rw d at (written-more xs ys zs at (width - left) count (value / 2 ^ (left - count)) (omega arith) (rw e at first) next)

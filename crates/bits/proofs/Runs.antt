@@ -1,16 +1,16 @@
--- A run of bits within one byte: what `write_run` computes fits, and changes the run and no other bit.
+-- A run of bits within one byte: what `read_run` and `write_run` compute. Writing changes the run and no other bit.
 use mathlib.Core.Path.{_≡_, sym, ap, _∙_}
 use mathlib.Core.List.{List, _++_, append-assoc}
 use Prim.Native.Nat.{ℕ, suc, _+_, _-_, _*_, _/_, _%_, _^_, _≤_, _<_}
 use native.Mathlib.Omega.{arith}
-use native.Mathlib.Nat.{mod-lt}
+use native.Mathlib.Nat.{mod-lt, zero-mul}
 use lib.ListN.{length, take, drop, set, getD, length-set, length-append}
 use lib.Seq.{take-at, drop-at, drop-drop}
 use lib.Pow.{pow-pos, pow-mono, pow-add, shl-exact, shr-lt, shr-shr, high}
 use lib.Arith.{digits-lt}
-use Rattle.model.specs.Bits.{digits, bitsOf}
+use Rattle.model.specs.Bits.{digits, number, bitsOf}
 use Rattle.bits.specs.Fields.{Written}
-use Rattle.bits.proofs.Digits.{length-digits, digits-append, digits-low}
+use Rattle.bits.proofs.Digits.{length-digits, number-digits, digits-append, digits-low}
 use Rattle.bits.proofs.Bytes.{length-bits-take, bits-split, bits-store}
 
 -- the digits of a number before a run of c digits at p, those of the run, and those after it
@@ -71,17 +71,17 @@ replaced front mid back new bits at c e lf lm =
 regroup : (b p m t r : List ℕ) → b ++ ((p ++ (m ++ t)) ++ r) ≡ (b ++ p) ++ (m ++ (t ++ r))
 regroup b p m t r = simp append-assoc
 
--- a shift of 1, as code has it at 16 bits
-shifted-one : (k : ℕ) → k ≤ 8 → (1 * 2 ^ k) % 65536 ≡ 2 ^ k
-shifted-one k h = shl-exact {a = 1} 1 k 16 (omega arith) (omega arith) ∙ omega arith
+-- a shift of 1, as code has it at so many bits
+pub shifted-one : (bits k : ℕ) → k < bits → (1 * 2 ^ k) % 2 ^ bits ≡ 2 ^ k
+shifted-one bits k h = shl-exact {a = 1} 1 k bits (omega arith) (omega arith) ∙ omega arith
 
 -- the run of c bits at a position of bytes, and the byte that is stored for it, as code computes it
 module _ (xs : List ℕ) (at c v : ℕ) where
   abbrev span : ℕ
-  span = (1 * 2 ^ c) % 65536
+  span = (1 * 2 ^ c) % 4294967296
 
   abbrev weight : ℕ
-  weight = (1 * 2 ^ (8 - at % 8 - c)) % 65536
+  weight = (1 * 2 ^ (8 - at % 8 - c)) % 4294967296
 
   abbrev start : ℕ
   start = getD xs (at / 8) 0 / 2 ^ (8 - at % 8) * span + v % span
@@ -98,8 +98,8 @@ module _ (xs : List ℕ) (at c v : ℕ) where
 
   pub run-fits : at % 8 + c ≤ 8 → getD xs (at / 8) 0 < 2 ^ 8 → RunFits
   run-fits place byte =
-      let s = shifted-one c (omega arith) in
-      let w = shifted-one (8 - at % 8 - c) (omega arith) in
+      let s = shifted-one 32 c (omega arith) in
+      let w = shifted-one 32 (8 - at % 8 - c) (omega arith) in
       let m : 2 ^ (at % 8 + c) ≤ 2 ^ 8 = pow-mono {j = 8} place in
       record {
         some-span = omega (arith, pow-pos c);
@@ -108,27 +108,49 @@ module _ (xs : List ℕ) (at c v : ℕ) where
         stored-fits = whole-below 8 (at % 8) c (getD xs (at / 8) 0) v span weight place s w byte;
       }
 
+  -- the bits before the run, those of the run and those after it
+  abbrev before : List ℕ
+  before = bitsOf (take (at / 8) xs) ++ digits (at % 8) (getD xs (at / 8) 0 / 2 ^ (8 - at % 8))
+
+  abbrev old : List ℕ
+  old = digits c (getD xs (at / 8) 0 / 2 ^ (8 - at % 8 - c))
+
+  abbrev tail : List ℕ
+  tail = digits (8 - at % 8 - c) (getD xs (at / 8) 0)
+
+  abbrev after : List ℕ
+  after = bitsOf (drop (suc (at / 8)) xs)
+
+  before-length : at < 8 * length xs → length before ≡ at
+  before-length inside =
+      length-append (bitsOf (take (at / 8) xs)) (digits (at % 8) (getD xs (at / 8) 0 / 2 ^ (8 - at % 8)))
+      ∙ omega (arith, length-bits-take xs (at / 8) (omega arith), length-digits (at % 8) (getD xs (at / 8) 0 / 2 ^ (8 - at % 8)))
+
+  run-among : at < 8 * length xs → at % 8 + c ≤ 8 → bitsOf xs ≡ before ++ (old ++ (tail ++ after))
+  run-among inside place =
+      bits-split xs (at / 8) (omega arith)
+      ∙ (ap (λ ds. bitsOf (take (at / 8) xs) ++ (ds ++ after)) (run-split 8 (at % 8) c (getD xs (at / 8) 0) place)
+      ∙ regroup (bitsOf (take (at / 8) xs)) (digits (at % 8) (getD xs (at / 8) 0 / 2 ^ (8 - at % 8))) old tail after)
+
+  pub run-read : at < 8 * length xs → at % 8 + c ≤ 8 → getD xs (at / 8) 0 / 2 ^ (8 - at % 8 - c) % 2 ^ c ≡ number 0 (take c (drop at (bitsOf xs)))
+  run-read inside place =
+      sym (ap (λ bs. number 0 (take c (drop at bs))) (run-among inside place)
+      ∙ (ap (λ bs. number 0 (take c bs)) (drop-at before (old ++ (tail ++ after)) at (before-length inside))
+      ∙ (ap (number 0) (take-at old (tail ++ after) c (length-digits c (getD xs (at / 8) 0 / 2 ^ (8 - at % 8 - c))))
+      ∙ (number-digits 0 c (getD xs (at / 8) 0 / 2 ^ (8 - at % 8 - c)) ∙ omega (arith, zero-mul (2 ^ c))))))
+
   pub run-written : at < 8 * length xs → at % 8 + c ≤ 8 → Written xs at c v (set xs (at / 8) stored)
   run-written inside place =
       let q = at / 8 in
-      let p = at % 8 in
-      let x = getD xs q 0 in
-      let before = bitsOf (take q xs) in
-      let after = bitsOf (drop (suc q) xs) in
-      let head = digits p (x / 2 ^ (8 - p)) in
-      let old = digits c (x / 2 ^ (8 - p - c)) in
-      let tail = digits (8 - p - c) x in
       let h : q < length xs = omega arith in
-      let l : length (before ++ head) ≡ at = length-append before head ∙ omega (arith, length-bits-take xs q (omega arith), length-digits p (x / 2 ^ (8 - p))) in
-      let was : bitsOf xs ≡ (before ++ head) ++ (old ++ (tail ++ after)) =
-      bits-split xs q h ∙ (ap (λ ds. before ++ (ds ++ after)) (run-split 8 p c x place) ∙ regroup before head old tail after) in
+      let head = digits (at % 8) (getD xs (at / 8) 0 / 2 ^ (8 - at % 8)) in
       let now : digits 8 stored ≡ head ++ (digits c v ++ tail) =
-      whole-digits 8 p c x v span weight place (shifted-one c (omega arith)) (shifted-one (8 - p - c) (omega arith)) in
+      whole-digits 8 (at % 8) c (getD xs (at / 8) 0) v span weight place (shifted-one 32 c (omega arith)) (shifted-one 32 (8 - at % 8 - c) (omega arith)) in
       record {
         same-length = length-set xs q stored;
         bits =
             bits-store xs q stored h
-            ∙ (ap (λ ds. before ++ (ds ++ after)) now
-            ∙ (regroup before head (digits c v) tail after
-            ∙ sym (replaced (before ++ head) old (tail ++ after) (digits c v) (bitsOf xs) at c was l (length-digits c (x / 2 ^ (8 - p - c))))));
+            ∙ (ap (λ ds. bitsOf (take (at / 8) xs) ++ (ds ++ after)) now
+            ∙ (regroup (bitsOf (take (at / 8) xs)) head (digits c v) tail after
+            ∙ sym (replaced before old (tail ++ after) (digits c v) (bitsOf xs) at c (run-among inside place) (before-length inside) (length-digits c (getD xs (at / 8) 0 / 2 ^ (8 - at % 8 - c))))));
       }

@@ -1,8 +1,8 @@
 ghost use mathlib.Core.Path.{_≡_};
 ghost use Prim.Native.Nat.{_+_, _*_, _%_, _≤_, _<_};
-ghost use lib.ListN.{length, take, drop, getD};
+ghost use lib.ListN.{length, take, drop};
 ghost use Rattle.model.specs.Bits.{bitsOf, number, letterWidth};
-ghost use Rattle.bits.specs.Fields.{Inside, Written};
+ghost use Rattle.bits.specs.Fields.{Inside, Writable, RunOf, Written};
 
 // The width of a letter's field (specification 5.2): eight, less the leading zeros of n - 1.
 pub fn letter_width(n: u8) -> u8
@@ -12,15 +12,28 @@ pub fn letter_width(n: u8) -> u8
     (8 - u8::leading_zeros(n - 1)) as u8
 }
 
-// The bit at a position.
-pub fn read_bit(bytes: &[u8], at: usize) -> u8
-    requires { ⌜ at < 8 * length (now bytes) ⌝ }
-    ensures { λ r. ⌜ r ≡ getD (bitsOf (now (bytes .entry))) at 0 ⌝ }
+// How many of the bits of a field stand in the byte of its first bit.
+fn run_length(at: usize, width: usize) -> usize
+    ensures { λ r. ⌜ RunOf at width r ⌝ }
 {
-    (bytes[at / 8] >> (7 - at % 8)) % 2
+    let room = 8 - at % 8;
+    if width < room {
+        return width;
+    }
+    room
 }
 
-// The number that the bits of a field write.
+// The number that a run of bits within one byte writes.
+fn read_run(bytes: &[u8], at: usize, count: usize) -> u16
+    requires { ⌜ (at < 8 * length (now bytes)) × (at % 8 + count ≤ 8) ⌝ }
+    ensures { λ r. ⌜ r ≡ number 0 (take count (drop at (bitsOf (now (bytes .entry))))) ⌝ }
+{
+    let after = 8 - at % 8 - count;
+    let span: u16 = 1 << count;
+    (bytes[at / 8] as u16 >> after) % span
+}
+
+// The number that the bits of a field write: a run in each byte that it reaches into.
 pub fn read_field(bytes: &[u8], at: usize, width: usize) -> u16
     requires { ⌜ Inside (now bytes) at width ⌝ }
     ensures { λ r. ⌜ r ≡ number 0 (take width (drop at (bitsOf (now (bytes .entry))))) ⌝ }
@@ -28,47 +41,40 @@ pub fn read_field(bytes: &[u8], at: usize, width: usize) -> u16
     let mut value: u16 = 0;
     let mut i: usize = 0;
     while i < width {
-        let bit = read_bit(bytes, at + i);
-        value = value * 2 + (bit as u16);
-        i += 1;
+        let count = run_length(at + i, width - i);
+        let run = read_run(bytes, at + i, count);
+        value = (value << count) + run;
+        i += count;
     }
     value
 }
 
 // Writes the last `count` digits of a value into a run of bits within one byte, and changes no other bit: the byte is put together anew from
-// the bits before the run, the run and the bits after it. At 16 bits, since a `span` or a `weight` may be 2 ^ 8.
-fn write_run(bytes: &mut [u8], at: usize, count: usize, value: u16)
+// the bits before the run, the run and the bits after it.
+fn write_run(bytes: &mut [u8], at: usize, count: usize, value: u32)
     requires { ⌜ (at < 8 * length (now bytes)) × (at % 8 + count ≤ 8) ⌝ }
     ensures { λ r. ⌜ Written (now (bytes .entry)) at count value (now (bytes .exit)) ⌝ }
 {
     let place = at / 8;
     let after = 8 - at % 8;
-    let span: u16 = 1 << count;
-    let weight: u16 = 1 << (after - count);
-    let old = bytes[place] as u16;
+    let span: u32 = 1 << count;
+    let weight: u32 = 1 << (after - count);
+    let old = bytes[place] as u32;
     let head = old >> after;
     bytes[place] = ((head * span + value % span) * weight + old % weight) as u8;
 }
 
-// Writes the last `width` digits of a value into a field, and changes no other bit: a run in each of the one to three bytes that it reaches into.
-pub fn write_field(bytes: &mut [u8], at: usize, width: usize, value: u16)
-    requires { ⌜ Inside (now bytes) at width ⌝ }
+// Writes the last `width` digits of a value into a field, and changes no other bit: a run in each byte that it reaches into.
+pub fn write_field(bytes: &mut [u8], at: usize, width: usize, value: u32)
+    requires { ⌜ Writable (now bytes) at width ⌝ }
     ensures { λ r. ⌜ Written (now (bytes .entry)) at width value (now (bytes .exit)) ⌝ }
 {
-    if width == 0 {
-        return;
+    let mut left = width;
+    while left > 0 {
+        let place = at + (width - left);
+        let count = run_length(place, left);
+        let rest = left - count;
+        write_run(bytes, place, count, value >> rest);
+        left = rest;
     }
-    let room = 8 - at % 8;
-    if width <= room {
-        write_run(bytes, at, width, value);
-        return;
-    }
-    let rest = width - room;
-    write_run(bytes, at, room, value >> rest);
-    if rest <= 8 {
-        write_run(bytes, at + room, rest, value);
-        return;
-    }
-    write_run(bytes, at + room, 8, value >> (rest - 8));
-    write_run(bytes, at + room + 8, rest - 8, value);
 }

@@ -13,7 +13,7 @@ use Rattle.model.specs.Enumeration.{concatMap}
 use Rattle.model.specs.Images.{offsetWidth, entryBits, letterBits, chainImage, entryWidth, entryPosition}
 use Rattle.model.specs.Services.{chainBytes}
 use Rattle.model.specs.Areas.{begins}
-use Rattle.bits.specs.Fields.{Inside, Written}
+use Rattle.bits.specs.Fields.{Writable, Written}
 use Rattle.bits.proofs.Digits.{AreBits, length-digits, digits-are-bits, bits-append}
 use Rattle.bits.proofs.Bytes.{length-bits, bits-of-append, bytes-drop}
 use Rattle.model.specs.Range.{AreBytes}
@@ -97,7 +97,7 @@ module _ (n total : ℕ) (before mid after : List ℕ) (room : chainBytes n tota
             ∙ ap₂ (λ i t. digits 16 total ++ (gap ++ (digits i 0 ++ t))) w last-bits);
       }
 
-  pub fill-inside : length mid ≡ length before → total < 65536 → Inside mid end ((8 - end % 8) % 8)
+  pub fill-inside : length mid ≡ length before → total < 65536 → Writable mid end ((8 - end % 8) % 8)
   fill-inside e h =
       record {
         narrow = omega arith;

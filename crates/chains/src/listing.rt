@@ -20,7 +20,7 @@ pub fn prepare(answer: &mut [u8], size: u8, total: u16)
     ensures { λ r. ⌜ Layout size total (now (answer .entry)) [] [] (now (answer .exit)) ⌝ }
 {
     let end = position(size, total as usize);
-    write_field(answer, 0, COUNT_BITS, total);
+    write_field(answer, 0, COUNT_BITS, total as u32);
     write_field(answer, end, (8 - end % 8) % 8, 0);
 }
 

@@ -1,19 +1,20 @@
 -- Bits put at a position, one field after another, and fields read back.
-use mathlib.Core.Path.{_≡_, refl, sym, ap, ap₂, _∙_}
+use mathlib.Core.Path.{_≡_, sym, ap, ap₂, _∙_}
 use mathlib.Core.List.{List, _++_, append-assoc}
-use Prim.Native.Nat.{ℕ, _+_, _-_, _*_, _^_, _≤_, _<_}
-use native.Mathlib.Nat.{mul-le-mul}
+use Prim.Native.Nat.{ℕ, _+_, _-_, _*_, _%_, _^_, _≤_, _<_}
+use native.Mathlib.Nat.{mod-lt, mul-le-mul, mul-le-mul-left}
 use native.Mathlib.Omega.{arith}
 use lib.ListN.{length, take, drop, length-append}
 use lib.Seq.{take-at, drop-at, drop-drop}
-use lib.Pow.{pow-mono}
+use lib.Pow.{pow-mono, pow-pos}
+use lib.Arith.{digits-lt}
 use Rattle.model.specs.Range.{EntryInRange}
 use Rattle.model.specs.Bits.{bitsOf, digits, number, letterWidth}
 use Rattle.model.specs.Equivalence.{Entry}
 use Rattle.model.specs.Images.{entryBits, letterBits, entryWidth, entryPosition}
-use Rattle.bits.specs.Fields.{Inside, Written, Appended}
-use Rattle.bits.proofs.Appending.{appended-field, appended-more, appended-as}
-use Rattle.bits.proofs.Digits.{length-digits, number-of-digits}
+use Rattle.bits.specs.Fields.{Inside, Writable, Written, Appended}
+use Rattle.bits.proofs.Appending.{appended-field, appended-as}
+use Rattle.bits.proofs.Digits.{length-digits, number-of-digits, digits-joined, digits-mod}
 use Rattle.bits.proofs.Fields.{field-fits}
 use Rattle.bits.proofs.Width.{width-small, letter-fits}
 use Rattle.entries.specs.declared.entry.ChainEntry.{ChainEntry}
@@ -53,33 +54,49 @@ module _ {n index : ℕ} {answer : List ℕ} (h : EntryInside n index answer) wh
   third-inside at width e f =
       record { narrow = omega (arith, width-small n); inside = omega (arith, h .inside); small = omega (arith, entry-small n index (h .low)) }
 
--- the same place in an area of the same length
-pub inside-as : {n index : ℕ} {answer after : List ℕ} → length after ≡ length answer → EntryInside n index answer → EntryInside n index after
-inside-as e h = record { some = h .some; few = h .few; low = h .low; inside = omega (arith, h .inside) }
+-- the three fields of an entry gathered in one, as code computes it
+abbrev pub gathered : (offset x y span : ℕ) → ℕ
+gathered offset x y span = (offset * span + x % span) * span + y % span
 
--- an entry from its three fields
-module _ {n index : ℕ} {before : List ℕ} (h : EntryInside n index before) (e : Entry) (at width : ℕ) (ea : at ≡ entryPosition n index) (ew : width ≡ letterWidth n)
-    (one two three : List ℕ) where
-  pub entry-placed : Written before at 15 (e .offset) one → Written one (at + 15) width (e .a - 1) two → Written two (at + 15 + width) width (e .b - 1) three
-      → Appended before (entryPosition n index) (entryBits n e) three
-  entry-placed p q r =
-      let pa : Appended before at (digits 15 (e .offset)) one = appended-field _ _ _ _ _ p in
-      let pb : Appended one (at + 15) (digits width (e .a - 1)) two = appended-field _ _ _ _ _ q in
-      let pc : Appended two (at + 15 + width) (digits width (e .b - 1)) three = appended-field _ _ _ _ _ r in
-      let la : length (digits 15 (e .offset)) ≡ 15 = length-digits 15 (e .offset) in
-      let lb : length (digits width (e .a - 1)) ≡ width = length-digits width (e .a - 1) in
-      let lc : length (digits width (e .b - 1)) ≡ width = length-digits width (e .b - 1) in
-      let lab : length (digits 15 (e .offset) ++ digits width (e .a - 1)) ≡ 15 + width =
-      length-append (digits 15 (e .offset)) (digits width (e .a - 1)) ∙ ap₂ (λ i j. i + j) la lb in
-      let ab =
-      appended-more before at (digits 15 (e .offset)) one (digits width (e .a - 1)) two (omega (arith, h .inside))
-      pa (appended-as (ap (λ i. at + i) (sym la)) refl pb) in
-      let abc =
-      appended-more before at (digits 15 (e .offset) ++ digits width (e .a - 1)) two (digits width (e .b - 1)) three (omega (arith, h .inside))
-      ab (appended-as (omega arith) refl pc) in
+module _ (width offset x y span : ℕ) (narrow : width ≤ 4) (span-is : span ≡ 2 ^ width) where
+  pub record GatherFits : Type 0 where
+    pub some-span : 0 < span
+    pub few : span ≤ 16
+    pub first-fits : offset * span + x % span < 2 ^ 20
+    pub all-fit : gathered offset x y span < 2 ^ 24
+
+  pub gather-fits : offset < 2 ^ 16 → GatherFits
+  gather-fits h =
+      let most : 2 ^ width ≤ 2 ^ 4 = pow-mono {j = 4} narrow in
+      let some : 0 < span = omega (arith, pow-pos width) in
+      let first : offset * span + x % span < 2 ^ 16 * span = digits-lt h (mod-lt x some) in
+      let second : gathered offset x y span < 2 ^ 16 * span * span = digits-lt first (mod-lt y some) in
+      let one : 2 ^ 16 * span ≤ 2 ^ 16 * 16 = mul-le-mul-left {m = span} {n = 16} (2 ^ 16) (omega arith) in
+      let two : 2 ^ 16 * span * span ≤ 2 ^ 16 * 16 * 16 = mul-le-mul {n₁ = 2 ^ 16 * span} {m₁ = span} {n₂ = 2 ^ 16 * 16} {m₂ = 16} one (omega arith) in
+      record { some-span = some; few = omega arith; first-fits = omega arith; all-fit = omega arith }
+
+  gathered-digits : digits (15 + 2 * width) (gathered offset x y span) ≡ digits 15 offset ++ (digits width x ++ digits width y)
+  gathered-digits =
+      let some : 0 < 2 ^ width = pow-pos width in
+      let first = offset * 2 ^ width + x % 2 ^ width in
+      let wide : 15 + 2 * width ≡ 15 + width + width = omega arith in
+      ap₂ (λ n s. digits n ((offset * s + x % s) * s + y % s)) wide span-is
+      ∙ (digits-joined (15 + width) width first (y % 2 ^ width) (mod-lt y some)
+      ∙ (ap₂ (λ l r. l ++ r) (digits-joined 15 width offset (x % 2 ^ width) (mod-lt x some)) (digits-mod width y)
+      ∙ (ap (λ l. (digits 15 offset ++ l) ++ digits width y) (digits-mod width x) ∙ append-assoc (digits 15 offset) (digits width x) (digits width y))))
+
+module _ {n index : ℕ} {before : List ℕ} (h : EntryInside n index before) (at width : ℕ) (ea : at ≡ entryPosition n index) (ew : width ≡ letterWidth n) where
+  pub entry-writable : Writable before at (15 + 2 * width)
+  entry-writable = record { narrow = omega (arith, width-small n); inside = omega (arith, h .inside); small = omega (arith, entry-small n index (h .low)) }
+
+  pub entry-placed : (e : Entry) (span : ℕ) → span ≡ 2 ^ width → (after : List ℕ)
+      → Written before at (15 + 2 * width) (gathered (e .offset) (e .a - 1) (e .b - 1) span) after
+      → Appended before (entryPosition n index) (entryBits n e) after
+  entry-placed e span s after w =
       appended-as ea
-      (append-assoc (digits 15 (e .offset)) (digits width (e .a - 1)) (digits width (e .b - 1))
-      ∙ ap (λ w. digits 15 (e .offset) ++ (digits w (e .a - 1) ++ digits w (e .b - 1))) ew) abc
+      (gathered-digits width (e .offset) (e .a - 1) (e .b - 1) span (omega (arith, width-small n)) s
+      ∙ ap (λ w. digits 15 (e .offset) ++ (digits w (e .a - 1) ++ digits w (e .b - 1))) ew)
+      (appended-field before at (15 + 2 * width) (gathered (e .offset) (e .a - 1) (e .b - 1) span) after w)
 
 -- FIELDS READ
 

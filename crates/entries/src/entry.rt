@@ -38,7 +38,7 @@ pub fn chain_bytes(size: u8, entries: u16) -> usize
     (position(size, entries as usize) + 7) / 8
 }
 
-// Writes the three fields of an entry, and changes no other bit.
+// Writes the three fields of an entry, gathered in one, and changes no other bit.
 pub fn write_entry(area: &mut [u8], size: u8, index: usize, entry: ChainEntry)
     requires inside { ⌜ EntryInside size index (now area) ⌝ }
     requires letters { ⌜ (1 ≤ entry .a) × (1 ≤ entry .b) ⌝ }
@@ -46,9 +46,11 @@ pub fn write_entry(area: &mut [u8], size: u8, index: usize, entry: ChainEntry)
 {
     let at = position(size, index);
     let width = letter_width(size) as usize;
-    write_field(area, at, OFFSET_BITS, entry.offset);
-    write_field(area, at + OFFSET_BITS, width, (entry.a - 1) as u16);
-    write_field(area, at + OFFSET_BITS + width, width, (entry.b - 1) as u16);
+    let span: u32 = 1 << width;
+    let first = (entry.a - 1) as u32 % span;
+    let second = (entry.b - 1) as u32 % span;
+    let fields = ((entry.offset as u32) * span + first) * span + second;
+    write_field(area, at, OFFSET_BITS + 2 * width, fields);
 }
 
 // The entry that stands at an index.

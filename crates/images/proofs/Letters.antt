@@ -15,7 +15,6 @@ use Rattle.model.specs.Bits.{letterWidth}
 use Rattle.model.specs.Images.{signed, signedField, readProgram}
 use Rattle.model.specs.Plain.{plainProgram}
 use Rattle.model.specs.Services.{isForward}
-use Rattle.bits.specs.Fields.{Inside}
 use Rattle.bits.proofs.Width.{width-small}
 use Rattle.images.specs.Fields.{from, Before, FieldAt}
 use Rattle.images.specs.Programs.{SignedAt, Accepted, HasLetter}

@@ -13,11 +13,11 @@ use Rattle.images.specs.declared.bit_reader.Taken.the-variants.{Value, E
 abbrev pub place : BitReader → ℕ
 place r = 8 * r .next - r .held
 
--- the bits that are held are those of the image from there up to the next byte
+-- the bits that are held are those of the image from there up to the next byte: the last digits of a number
 pub record Holds (image : List ℕ) (next held bits : ℕ) : Type 0 where
   pub read : next ≤ length image
   pub begun : held ≤ 8 * next
-  pub value : bits ≡ number 0 (take held (from image (8 * next - held)))
+  pub value : bits % 2 ^ held ≡ number 0 (take held (from image (8 * next - held)))
 
 -- between two fields they are fewer than eight
 pub record Reads (image : List ℕ) (r : BitReader) : Type 0 where
@@ -28,10 +28,9 @@ pub record ReadsFrom (image : List ℕ) (at : ℕ) (r : BitReader) : Type 0 wher
   pub reads : Reads image r
   pub place-is : place r ≡ at
 
--- the first `width` of the bits that are held, and the others
+-- the first `width` of the bits that are held; the others stay
 abbrev pub Splits : ℕ → ℕ → ℕ → ℕ → Taken → Type 0
-Splits next held bits width (Value v r) =
-    (v ≡ bits / 2 ^ (held - width)) × (r .next ≡ next) × (r .held ≡ held - width) × (r .bits ≡ bits % 2 ^ (held - width))
+Splits next held bits width (Value v r) = (v ≡ bits / 2 ^ (held - width) % 2 ^ width) × (r .next ≡ next) × (r .held ≡ held - width) × (r .bits ≡ bits)
 Splits next held bits width Ends = ⊥
 
 -- a field was taken, and the reader stands behind it

@@ -16,7 +16,7 @@ use Rattle.images.specs.Fields.{from}
 use Rattle.images.specs.BitReader.{ReadsFrom}
 use Rattle.images.specs.declared.bit_reader.BitReader.{BitReader}
 use Rattle.images.specs.declared.programs.SignedField.{SignedField}
-use Rattle.images.specs.declared.programs.SignedField.the-variants.{Byte, Ends, Wrong}
+use Rattle.images.specs.declared.programs.SignedField.the-variants.{Letter as SignedLetter, Ends, Wrong}
 use Rattle.images.specs.declared.programs.Signs.{Signs}
 use Rattle.images.specs.declared.programs.Signs.the-variants.{Any, Forward}
 use Rattle.images.specs.declared.programs.ProgramRead.{ProgramRead}
@@ -35,8 +35,14 @@ pub record SignedTaken (image : List ℕ) (at size width x : ℕ) (r : BitReader
   pub signed : SignedAt image at size width x
   pub after : ReadsFrom image (at + 1 + width) r
 
+-- .. told by its sign and its number
+pub record LetterTaken (image : List ℕ) (at size width sign number : ℕ) (r : BitReader) : Type 0 where
+  pub taken : SignedTaken image at size width (sign * 128 + number) r
+  pub sign-small : sign ≤ 1
+  pub number-small : number ≤ 16
+
 abbrev pub SignedDone : List ℕ → ℕ → ℕ → ℕ → SignedField → Type 0
-SignedDone image at size width (Byte x r) = SignedTaken image at size width x r
+SignedDone image at size width (SignedLetter sign number r) = LetterTaken image at size width sign number r
 SignedDone image at size width Ends = signedField size (from image at) ≡ refused 4 unplaced
 SignedDone image at size width Wrong = signedField size (from image at) ≡ refused 5 unplaced
 

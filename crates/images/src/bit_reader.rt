@@ -7,7 +7,7 @@ ghost use Rattle.images.specs.BitReader.{place, Holds, Reads, ReadsFrom,
 ghost use Rattle.model.specs.Bits.{filling};
 ghost use Rattle.images.specs.Fields.{from};
 
-// The bytes before `next` were read. Of their bits the last `held` are not taken yet, and `bits` is the number that these write.
+// The bytes before `next` were read. Of their bits the last `held` are not taken yet, and the last `held` digits of `bits` are these.
 pub struct BitReader {
     pub next: usize,
     pub held: u32,
@@ -32,11 +32,10 @@ pub fn reader_at(image: &[u8], at: usize) -> BitReader
             bits: 0,
         };
     }
-    let held = (8 - at % 8) as u32;
     BitReader {
         next: at / 8 + 1,
-        held,
-        bits: image[at / 8] as u32 % (1 << held),
+        held: (8 - at % 8) as u32,
+        bits: image[at / 8] as u32,
     }
 }
 
@@ -51,22 +50,22 @@ fn more(image: &[u8], reader: BitReader) -> BitReader
     BitReader {
         next: place + 1,
         held: reader.held + 8,
-        bits: reader.bits * 256 + image[place] as u32,
+        bits: (reader.bits % 256) * 256 + image[place] as u32,
     }
 }
 
 // The first `width` of the bits that are held.
 fn split(reader: BitReader, width: u32) -> Taken
-    requires { ⌜ (width ≤ reader .held) × (reader .held < 32) ⌝ }
+    requires { ⌜ (width ≤ reader .held) × (reader .held < 32) × (width < 32) ⌝ }
     ensures { λ r. ⌜ Splits (reader .next) (reader .held) (reader .bits) width r ⌝ }
 {
     let left = reader.held - width;
     Taken::Value {
-        value: reader.bits >> left,
+        value: (reader.bits >> left) % (1 << width),
         reader: BitReader {
             next: reader.next,
             held: left,
-            bits: reader.bits % (1 << left),
+            bits: reader.bits,
         },
     }
 }
@@ -93,5 +92,5 @@ pub fn is_end(image: &[u8], reader: BitReader) -> bool
     if reader.next < image.len() {
         return false;
     }
-    reader.bits == 0
+    reader.bits % (1 << reader.held) == 0
 }

@@ -28,9 +28,14 @@ pub const COUNT_BITS: usize = 12;
 
 pub const SIGN_BITS: usize = 1;
 
-// What stands at a reader's place: a letter's byte, and the reader behind it; too few bits; or a field that names no letter.
+// What stands at a reader's place: a letter by its sign, 1 of a back letter, and its number, and the reader behind it; too few bits; or a field that
+// names no letter.
 pub enum SignedField {
-    Byte { byte: u8, reader: BitReader },
+    Letter {
+        sign: u8,
+        number: u8,
+        reader: BitReader,
+    },
     Ends,
     Wrong,
 }
@@ -61,8 +66,9 @@ pub fn next_signed(image: &[u8], reader: BitReader, size: u8, width: u32) -> Sig
             if size <= number {
                 return SignedField::Wrong;
             }
-            SignedField::Byte {
-                byte: sign * BACK + number + 1,
+            SignedField::Letter {
+                sign,
+                number: number + 1,
                 reader: after,
             }
         }
@@ -86,13 +92,14 @@ pub fn read_program(image: &[u8], cells: &[u8], size: u8) -> ProgramRead
         match next_signed(image, reader, size, width) {
             SignedField::Ends => return ProgramRead::Refused(Refusal::ImageEnds),
             SignedField::Wrong => return ProgramRead::Refused(Refusal::ImageField),
-            SignedField::Byte {
-                byte,
+            SignedField::Letter {
+                sign,
+                number,
                 reader: after,
             } => {
                 reader = after;
-                backs += (byte / BACK) as u16;
-                weight += letter_weight(cells, byte % BACK);
+                backs += sign as u16;
+                weight += letter_weight(cells, number);
                 i += 1;
             }
         }
@@ -115,7 +122,11 @@ pub fn letter_at(image: &[u8], size: u8, width: u32, i: usize) -> u8
 {
     let reader = reader_at(image, COUNT_BITS + i * (SIGN_BITS + width as usize));
     match next_signed(image, reader, size, width) {
-        SignedField::Byte { byte, reader: _ } => byte,
+        SignedField::Letter {
+            sign,
+            number,
+            reader: _,
+        } => sign * BACK + number,
         SignedField::Ends => 0,
         SignedField::Wrong => 0,
     }
@@ -134,11 +145,12 @@ pub fn unpack_letters(image: &[u8], size: u8, count: u16, area: &mut [u8], at: u
         match next_signed(image, reader, size, width) {
             SignedField::Ends => return,
             SignedField::Wrong => return,
-            SignedField::Byte {
-                byte,
+            SignedField::Letter {
+                sign,
+                number,
                 reader: after,
             } => {
-                area[at + (i as usize)] = byte;
+                area[at + (i as usize)] = sign * BACK + number;
                 reader = after;
                 i += 1;
             }

@@ -1,10 +1,34 @@
--- `entries::entry::write_entry` meets its contract: the three fields are written one after the other.
-use mathlib.Core.Path.{_∙_}
+-- `entries::entry::write_entry` meets its contract: the three fields are gathered in one, and written.
+use mathlib.Core.Path.{_≡_, sym, subst}
+use Prim.Native.Nat.{_-_, _*_, _%_, _^_, _≤_, _<_}
 use native.Mathlib.Omega.{arith}
-use Rattle.entries.proofs.Placing.{entry-small, inside-as, first-inside, second-inside, third-inside, entry-placed}
+use lib.Pow.{pow-pos}
+use Rattle.bits.proofs.Runs.{shifted-one}
+use Rattle.bits.proofs.Width.{width-small}
+use Rattle.entries.proofs.Placing.{GatherFits, gather-fits, entry-writable, entry-placed}
 use borrow.Author.Needs.{needs}
 use Rattle.entries.proofs.entry.write_entry.Statement.{statement}
 use Rattle.entries.proofs.entry.write_entry.Tie as tie
+
+abbrev start : tie.After-letter-width → tie.Start
+start c = c .before .before .before
+
+abbrev wide : tie.After-struct-known3 → tie.After-letter-width
+wide c = c .before .before .before
+
+narrow : (c : tie.After-letter-width) → c .letter-width .result ≤ 4
+narrow c = subst (λ n. n ≤ 4) (sym (c .letter-width .ensures)) (width-small (start c .args .size))
+
+span : (c : tie.After-letter-width) → (1 * 2 ^ c .letter-width .result) % 4294967296 ≡ 2 ^ c .letter-width .result
+span c = shifted-one 32 (c .letter-width .result) (omega (arith, narrow c))
+
+some-span : (c : tie.After-letter-width) → 0 < (1 * 2 ^ c .letter-width .result) % 4294967296
+some-span c = omega (arith, span c, pow-pos (c .letter-width .result))
+
+fits : (c : tie.After-struct-known3)
+    → GatherFits (wide c .letter-width .result) (start (wide c) .args .entry .offset) (start (wide c) .args .entry .a - 1) (start (wide c) .args .entry .b - 1)
+    ((1 * 2 ^ wide c .letter-width .result) % 4294967296) (narrow (wide c)) (span (wide c))
+fits c = gather-fits _ _ _ _ _ (narrow (wide c)) (span (wide c)) (omega (arith, c .struct-known3 .given))
 
 position-requires : tie.Need-position-requires
 position-requires c κs = search needs
@@ -15,68 +39,66 @@ letter-width-requires c κs = search needs
 cast-width : tie.Need-cast-width
 cast-width c = search needs
 
-write-field-requires : tie.Need-write-field-requires
-write-field-requires c κs =
-    let s = c .before .before .before .before in
-    let at = c .before .before .position in
-    let width = c .before .letter-width in
-    first-inside (s .pre .0) (at .result) (at .ensures)
+cast-span : tie.Need-cast-span
+cast-span c = search needs
+
+shl-span : tie.Need-shl-span
+shl-span c = omega (arith, narrow c)
+
+sub-first : tie.Need-sub-first
+sub-first c = search needs
+
+cast-first : tie.Need-cast-first
+cast-first c = search needs
+
+rem-first : tie.Need-rem-first
+rem-first c = some-span (c .before)
+
+sub-second : tie.Need-sub-second
+sub-second c = search needs
+
+cast-second : tie.Need-cast-second
+cast-second c = search needs
+
+rem-second : tie.Need-rem-second
+rem-second c = some-span (c .before .before)
+
+cast-fields : tie.Need-cast-fields
+cast-fields c = search needs
+
+mul-fields : tie.Need-mul-fields
+mul-fields c = omega (arith, fits c .first-fits)
+
+add-fields : tie.Need-add-fields
+add-fields c = omega (arith, fits c .first-fits)
+
+mul-fields-2 : tie.Need-mul-fields-2
+mul-fields-2 c = omega (arith, fits c .all-fit)
+
+add-fields-2 : tie.Need-add-fields-2
+add-fields-2 c = omega (arith, fits c .all-fit)
+
+mul-write-field : tie.Need-mul-write-field
+mul-write-field c = search needs
 
 add-write-field : tie.Need-add-write-field
-add-write-field c =
-    let s = c .before .before .before .before .before .before .before .before in
-    omega (arith, entry-small (s .args .size) (s .args .index) (s .pre .0 .low), c .before .before .before .before .before .before .position .ensures, c .before .before .before .before .before .letter-width .ensures)
+add-write-field c = search needs
 
-sub-write-field : tie.Need-sub-write-field
-sub-write-field c = search needs
-
-cast-write-field : tie.Need-cast-write-field
-cast-write-field c = search needs
-
-write-field-requires-2 : tie.Need-write-field-requires-2
-write-field-requires-2 c κs =
-    let s = c .before .before .before .before .before .before .before .before .before in
-    let at = c .before .before .before .before .before .before .before .position in
-    let width = c .before .before .before .before .before .before .letter-width in
-    second-inside (inside-as (c .before .before .before .before .write-field .ensures .same-length) (s .pre .0)) (at .result) (width .result) (at .ensures) (width .ensures)
-
-add-write-field-2 : tie.Need-add-write-field-2
-add-write-field-2 c =
-    let s = c .before .before .before .before .before .before .before .before .before .before .before .before .before in
-    omega (arith, entry-small (s .args .size) (s .args .index) (s .pre .0 .low), c .before .before .before .before .before .before .before .before .before .before .before .position .ensures, c .before .before .before .before .before .before .before .before .before .before .letter-width .ensures)
-
-add-write-field-3 : tie.Need-add-write-field-3
-add-write-field-3 c =
-    let s = c .before .before .before .before .before .before .before .before .before .before .before .before .before in
-    omega (arith, entry-small (s .args .size) (s .args .index) (s .pre .0 .low), c .before .before .before .before .before .before .before .before .before .before .before .position .ensures, c .before .before .before .before .before .before .before .before .before .before .letter-width .ensures)
-
-sub-write-field-2 : tie.Need-sub-write-field-2
-sub-write-field-2 c = search needs
-
-cast-write-field-2 : tie.Need-cast-write-field-2
-cast-write-field-2 c = search needs
-
-write-field-requires-3 : tie.Need-write-field-requires-3
-write-field-requires-3 c κs =
-    let s = c .before .before .before .before .before .before .before .before .before .before .before .before .before .before in
-    let at = c .before .before .before .before .before .before .before .before .before .before .before .before .position in
-    let width = c .before .before .before .before .before .before .before .before .before .before .before .letter-width in
-    third-inside (inside-as (c .before .before .before .before .write-field2 .ensures .same-length ∙ c .before .before .before .before .before .before .before .before .before .write-field .ensures .same-length) (s .pre .0)) (at .result) (width .result)
-    (at .ensures) (width .ensures)
+write-field-requires : tie.Need-write-field-requires
+write-field-requires c κs =
+    let w = wide (c .before) in
+    entry-writable (start w .pre .0) (w .before .position .result) (w .letter-width .result) (w .before .position .ensures) (w .letter-width .ensures)
 
 same-length : tie.Need-same-length
 same-length c = search needs
 
 returns : tie.Need-returns
 returns c =
-    let s = c .before .before .before .before .before .before .before .before .before .before .before .before .before .before .before .before .before in
-    let at = c .before .before .before .before .before .before .before .before .before .before .before .before .before .before .before .position in
-    let width = c .before .before .before .before .before .before .before .before .before .before .before .before .before .before .letter-width in
-    let one = c .before .before .before .before .before .before .before .before .before .before .before .before .write-field in
-    let two = c .before .before .before .before .before .before .before .write-field2 in
-    let three = c .before .before .write-field3 in
-    entry-placed (s .pre .0) (record { offset = s .args .entry .offset; a = s .args .entry .a; b = s .args .entry .b }) (at .result) (width .result) (at .ensures) (width .ensures)
-    (one .last .0) (two .last .0) (three .last .0) (one .ensures) (two .ensures) (three .ensures)
+    let f = c .before .before in
+    let w = wide (f .before .before) in
+    let s = start w in
+    entry-placed (s .pre .0) (w .before .position .result) (w .letter-width .result) (w .before .position .ensures) (w .letter-width .ensures)
+    (record { offset = s .args .entry .offset; a = s .args .entry .a; b = s .args .entry .b }) ((1 * 2 ^ w .letter-width .result) % 4294967296) (span w) (f .write-field .last .0) (f .write-field .ensures)
 
 pub write-entry-spec : {M : Type 1} → statement M
 write-entry-spec =
@@ -85,15 +107,21 @@ write-entry-spec =
     position-requires
     letter-width-requires
     cast-width
-    write-field-requires
+    cast-span
+    shl-span
+    sub-first
+    cast-first
+    rem-first
+    sub-second
+    cast-second
+    rem-second
+    cast-fields
+    mul-fields
+    add-fields
+    mul-fields-2
+    add-fields-2
+    mul-write-field
     add-write-field
-    sub-write-field
-    cast-write-field
-    write-field-requires-2
-    add-write-field-2
-    add-write-field-3
-    sub-write-field-2
-    cast-write-field-2
-    write-field-requires-3
+    write-field-requires
     same-length
     returns)

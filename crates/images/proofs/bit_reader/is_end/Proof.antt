@@ -1,9 +1,12 @@
 -- `images::bit_reader::is_end` meets its contract.
-use mathlib.Core.Path.{sym}
+use mathlib.Core.Path.{sym, ap, _∙_}
+use Prim.Native.Nat.{_%_}
 use native.Mathlib.Omega.{arith}
+use lib.Dec.{eqb}
 use Rattle.images.specs.BitReader.{place}
 use Rattle.images.proofs.Reading.{filling-long}
-use Rattle.images.proofs.BitReader.{end-read}
+use Rattle.images.proofs.BitReader.{span, span-some, end-read}
+use borrow.Author.Needs.{needs}
 use Rattle.images.proofs.bit_reader.is_end.Statement.{statement}
 use Rattle.images.proofs.bit_reader.is_end.Tie as tie
 
@@ -12,10 +15,19 @@ returns c =
     let s = c .before .before in
     sym (filling-long (s .args .image .now) (place (s .args .reader)) (omega (arith, c .if1 .taken, s .pre .holds .begun)))
 
+shl-result : tie.Need-shl-result
+shl-result c = search needs
+
+rem-result : tie.Need-rem-result
+rem-result c =
+    let s = c .before .before .before .before in
+    span-some (s .args .reader .held) (omega (arith, s .pre .few))
+
 returns-2 : tie.Need-returns-2
 returns-2 c =
-    let s = c .before .before .before in
-    end-read (s .args .image .now) (s .args .reader) (s .pre) (omega (arith, c .before .if1 .left))
+    let s = c .before .before .before .before in
+    ap (λ n. eqb (s .args .reader .bits % n) 0) (span (s .args .reader .held) (omega (arith, s .pre .few)))
+    ∙ end-read (s .args .image .now) (s .args .reader) (s .pre) (omega (arith, c .before .before .if1 .left))
 
 pub is-end-spec : {M : Type 1} → statement M
-is-end-spec = tie.close (tie.spec returns returns-2)
+is-end-spec = tie.close (tie.spec returns shl-result rem-result returns-2)

@@ -3,16 +3,16 @@ use mathlib.Core.Path.{refl}
 use native.Mathlib.Omega.{arith}
 use Prim.Native.Nat.{_<_}
 use lib.ListN.{getD}
-use Rattle.images.proofs.BitReader.{held-fits, held-more}
+use Rattle.images.proofs.BitReader.{held-more}
 use borrow.Author.Needs.{needs}
 use Rattle.images.proofs.bit_reader.more.Statement.{statement}
 use Rattle.images.proofs.bit_reader.more.Tie as tie
 
-small : (c : tie.Start) → c .args .reader .bits < 128
-small c = held-fits (c .args .image .now) (c .args .reader .next) (c .args .reader .held) (c .args .reader .bits) (c .pre .0 .holds) (c .pre .0 .few)
+abbrev start : tie.After-shared-slice-known → tie.Start
+start c = c .before .before .before
 
-byte : (c : tie.After-shared-slice-known) → getD (c .before .before .before .args .image .now) (c .before .before .before .args .reader .next) 0 < 256
-byte c = omega (arith, c .shared-slice-known .given (c .before .before .before .args .reader .next))
+byte : (c : tie.After-shared-slice-known) → getD (start c .args .image .now) (start c .args .reader .next) 0 < 256
+byte c = omega (arith, c .shared-slice-known .given (start c .args .reader .next))
 
 add-t4 : tie.Need-add-t4
 add-t4 c = search needs
@@ -20,23 +20,23 @@ add-t4 c = search needs
 add-t5 : tie.Need-add-t5
 add-t5 c = search needs
 
-mul-t6 : tie.Need-mul-t6
-mul-t6 c = omega (arith, small (c .before .before))
+mul-t7 : tie.Need-mul-t7
+mul-t7 c = search needs
 
-shared-slice-read-t8 : tie.Need-shared-slice-read-t8
-shared-slice-read-t8 c = search needs
+shared-slice-read-t9 : tie.Need-shared-slice-read-t9
+shared-slice-read-t9 c = search needs
 
-cast-t9 : tie.Need-cast-t9
-cast-t9 c = omega (arith, byte c)
+cast-t10 : tie.Need-cast-t10
+cast-t10 c = omega (arith, byte c)
 
-add-t10 : tie.Need-add-t10
-add-t10 c = omega (arith, byte c, small (c .before .before .before))
+add-t11 : tie.Need-add-t11
+add-t11 c = omega (arith, byte c)
 
 returns : tie.Need-returns
 returns c =
-    let s = c .before .before .before in
+    let s = start c in
     let r = s .args .reader in
-    (refl, (refl, held-more (s .args .image .now) (r .next) (r .held) (r .bits) (s .pre .0 .holds) (s .pre .1) (byte c)))
+    (refl, (refl, held-more (s .args .image .now) (r .next) (r .held) (r .bits) (s .pre .0 .holds) (omega (arith, s .pre .0 .few)) (s .pre .1) (byte c)))
 
 pub more-spec : {M : Type 1} → statement M
-more-spec = tie.close (tie.spec add-t4 add-t5 mul-t6 shared-slice-read-t8 cast-t9 add-t10 returns)
+more-spec = tie.close (tie.spec add-t4 add-t5 mul-t7 shared-slice-read-t9 cast-t10 add-t11 returns)

@@ -1,10 +1,8 @@
 -- `images::bit_reader::reader_at` meets its contract.
-use mathlib.Core.Path.{sym, subst}
 use native.Mathlib.Omega.{arith}
-use Prim.Native.Nat.{_+_, _-_, _*_, _/_, _%_, _^_, _<_}
+use Prim.Native.Nat.{_+_, _/_, _%_, _<_}
 use lib.ListN.{getD}
-use Rattle.images.specs.BitReader.{Holds}
-use Rattle.images.proofs.BitReader.{span, span-some, held-none, held-byte, split-last}
+use Rattle.images.proofs.BitReader.{held-none, held-byte, split-last}
 use borrow.Author.Needs.{needs}
 use Rattle.images.proofs.bit_reader.reader_at.Statement.{statement}
 use Rattle.images.proofs.bit_reader.reader_at.Tie as tie
@@ -23,55 +21,35 @@ returns c =
       place-is = omega (arith, c .if1 .taken);
     }
 
-sub-held : tie.Need-sub-held
-sub-held c = search needs
+add-t6 : tie.Need-add-t6
+add-t6 c = search needs
 
-cast-held : tie.Need-cast-held
-cast-held c = search needs
+sub-t8 : tie.Need-sub-t8
+sub-t8 c = search needs
 
-add-t7 : tie.Need-add-t7
-add-t7 c = search needs
+cast-t9 : tie.Need-cast-t9
+cast-t9 c = search needs
 
-shared-slice-read-t10 : tie.Need-shared-slice-read-t10
-shared-slice-read-t10 c = search needs
+shared-slice-read-t12 : tie.Need-shared-slice-read-t12
+shared-slice-read-t12 c = search needs
 
-cast-t11 : tie.Need-cast-t11
-cast-t11 c = omega (arith, byte c)
-
-shl-t12 : tie.Need-shl-t12
-shl-t12 c = search needs
-
-rem-t13 : tie.Need-rem-t13
-rem-t13 c = span-some (8 - start c .args .at % 8) (omega arith)
+cast-t13 : tie.Need-cast-t13
+cast-t13 c = omega (arith, byte c)
 
 returns-2 : tie.Need-returns-2
 returns-2 c =
     let s = start c in
-    let q = s .args .at / 8 in
-    let r = s .args .at % 8 in
     let some : 0 < s .args .at % 8 = omega (arith, c .before .if1 .left) in
-    let h : Holds (s .args .image .now) (s .args .at / 8 + 1) (8 - s .args .at % 8) (getD (s .args .image .now) (s .args .at / 8) 0 % 2 ^ (8 - s .args .at % 8)) =
-    split-last (s .args .image .now) (s .args .at / 8 + 1) 8 (getD (s .args .image .now) (s .args .at / 8) 0)
-    (held-byte (s .args .image .now) (s .args .at / 8) (omega (arith, s .pre)) (byte c)) (s .args .at % 8) (omega arith) in
     record {
       reads =
           record {
-            holds = subst (λ n. Holds (s .args .image .now) (q + 1) (8 - r) (getD (s .args .image .now) q 0 % n)) (sym (span (8 - r) (omega arith))) h;
+            holds =
+                split-last (s .args .image .now) (s .args .at / 8 + 1) 8 (getD (s .args .image .now) (s .args .at / 8) 0)
+                (held-byte (s .args .image .now) (s .args .at / 8) (omega (arith, s .pre)) (byte c)) (s .args .at % 8) (omega arith);
             few = omega arith;
           };
       place-is = omega arith;
     }
 
 pub reader-at-spec : {M : Type 1} → statement M
-reader-at-spec =
-    tie.close
-    (tie.spec
-    returns
-    sub-held
-    cast-held
-    add-t7
-    shared-slice-read-t10
-    cast-t11
-    shl-t12
-    rem-t13
-    returns-2)
+reader-at-spec = tie.close (tie.spec returns add-t6 sub-t8 cast-t9 shared-slice-read-t12 cast-t13 returns-2)

@@ -1,11 +1,14 @@
 -- `images::bit_reader::split` meets its contract.
 use mathlib.Core.Path.{refl, ap}
 use native.Mathlib.Omega.{arith}
-use Prim.Native.Nat.{_-_, _%_, _<_}
+use Prim.Native.Nat.{_-_, _/_, _%_, _^_, _<_}
 use Rattle.images.proofs.BitReader.{span, span-some}
 use borrow.Author.Needs.{needs}
 use Rattle.images.proofs.bit_reader.split.Statement.{statement}
 use Rattle.images.proofs.bit_reader.split.Tie as tie
+
+abbrev start : tie.After-struct-known2 → tie.Start
+start c = c .before .before
 
 sub-left : tie.Need-sub-left
 sub-left c = search needs
@@ -17,14 +20,12 @@ shl-t5 : tie.Need-shl-t5
 shl-t5 c = search needs
 
 rem-t6 : tie.Need-rem-t6
-rem-t6 c =
-    let s = c .before .before .before in
-    span-some (s .args .reader .held - s .args .width) (omega (arith, s .pre .1))
+rem-t6 c = span-some (start c .args .width) (omega (arith, start c .pre .2))
 
 returns : tie.Need-returns
 returns c =
-    let s = c .before .before .before in
-    (refl, refl, refl, ap (λ n. s .args .reader .bits % n) (span (s .args .reader .held - s .args .width) (omega (arith, s .pre .1))))
+    let s = start c in
+    (ap (λ n. s .args .reader .bits / 2 ^ (s .args .reader .held - s .args .width) % n) (span (s .args .width) (omega (arith, s .pre .2))), refl, refl, refl)
 
 pub split-spec : {M : Type 1} → statement M
 split-spec = tie.close (tie.spec sub-left shr-t4 shl-t5 rem-t6 returns)

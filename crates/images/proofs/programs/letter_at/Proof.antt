@@ -3,7 +3,7 @@ use mathlib.Core.Path.{_≡_, subst}
 use Prim.Native.Nat.{_+_, _*_, _≤_}
 use native.Mathlib.Omega.{arith}
 use Rattle.images.specs.BitReader.{place}
-use Rattle.images.specs.Programs.{SignedDone}
+use Rattle.images.specs.Programs.{SignedDone, LetterTaken}
 use Rattle.images.specs.declared.programs.SignedField.{SignedField}
 use Rattle.images.proofs.Letters.{near, index-small, ends-inside, letter-answer, letter-stands}
 use borrow.Author.Needs.{needs}
@@ -41,8 +41,8 @@ reader-at-requires c κs =
 next-signed-requires : tie.Need-next-signed-requires
 next-signed-requires c κs = search needs
 
-enum-known-byte : tie.Need-enum-known-byte
-enum-known-byte c = search needs
+enum-known-sign : tie.Need-enum-known-sign
+enum-known-sign c = search needs
 
 enum-told : tie.Need-enum-told
 enum-told c = search needs
@@ -50,11 +50,21 @@ enum-told c = search needs
 enum-told-2 : tie.Need-enum-told-2
 enum-told-2 c = search needs
 
+letter : (c : tie.After-known-told)
+    → LetterTaken (start (c .before .before .before) .args .image .now) (12 + start (c .before .before .before) .args .i * (1 + start (c .before .before .before) .args .width))
+    (start (c .before .before .before) .args .size) (start (c .before .before .before) .args .width) (c .before .sign .given .0 .0) (c .before .sign .given .0 .1 .0) (c .before .sign .given .0 .1 .1 .0)
+letter c = told (c .before .before .before) _ (c .before .sign .given .1)
+
+mul-result : tie.Need-mul-result
+mul-result c = omega (arith, letter c .sign-small)
+
+add-result : tie.Need-add-result
+add-result c = omega (arith, letter c .sign-small, letter c .number-small)
+
 returns : tie.Need-returns
 returns c =
-    let k = c .before .before .before in
-    let s = start k in
-    letter-answer (s .args .image .now) (s .args .size) (s .args .width) (s .args .i) (s .pre) (c .before .byte .given .0 .0) (told k _ (c .before .byte .given .1) .signed)
+    let s = start (c .before .before .before) in
+    letter-answer (s .args .image .now) (s .args .size) (s .args .width) (s .args .i) (s .pre) (c .before .sign .given .0 .0 * 128 + c .before .sign .given .0 .1 .0) (letter c .taken .signed)
 
 returns-2 : tie.Need-returns-2
 returns-2 c =
@@ -77,7 +87,9 @@ letter-at-spec =
     add-reader-at-2
     reader-at-requires
     next-signed-requires
-    enum-known-byte
+    enum-known-sign
+    mul-result
+    add-result
     enum-told
     enum-told-2
     returns

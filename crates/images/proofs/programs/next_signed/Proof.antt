@@ -66,14 +66,8 @@ returns c =
     let s = start k in
     signed-wrong (s .args .image .now) (at k) (s .args .size) (s .args .width) (s .pre .1) (value k) (k .before .value .given .0 .1 .0) (taken k) (omega (arith, number-is k, c .if1 .taken))
 
-mul-t15 : tie.Need-mul-t15
-mul-t15 c = omega (arith, sign-below (c .before))
-
-add-t16 : tie.Need-add-t16
-add-t16 c = omega (arith, sign-below (c .before), number-is (c .before), number-below (c .before))
-
-add-t17 : tie.Need-add-t17
-add-t17 c = omega (arith, sign-below (c .before), number-is (c .before), number-below (c .before))
+add-t15 : tie.Need-add-t15
+add-t15 c = omega (arith, number-is (c .before), number-below (c .before))
 
 returns-2 : tie.Need-returns-2
 returns-2 c =
@@ -86,8 +80,17 @@ returns-3 c =
     let k = c .before in
     let s = start k in
     let r = k .before .value .given .0 .1 .0 in
-    subst (λ n. SignedTaken (s .args .image .now) (at k) (s .args .size) (s .args .width) (value k / 2 ^ s .args .width * 128 + n + 1) r) (sym (number-is k))
-    (signed-taken (s .args .image .now) (at k) (s .args .size) (s .args .width) (s .pre .1) (value k) r (taken k) (omega (arith, number-is k, c .if1 .left)))
+    let v = value k in
+    let sign = value k / 2 ^ s .args .width in
+    let t : SignedTaken (s .args .image .now) (at k) (s .args .size) (s .args .width) (value k / 2 ^ s .args .width * 128 + value k % 2 ^ s .args .width + 1) r =
+    signed-taken (s .args .image .now) (at k) (s .args .size) (s .args .width) (s .pre .1) v r (taken k) (omega (arith, number-is k, c .if1 .left)) in
+    record {
+      taken =
+          subst (λ n. SignedTaken (s .args .image .now) (at k) (s .args .size) (s .args .width) n r)
+          {y = value k / 2 ^ s .args .width * 128 + (value k % ((1 * 2 ^ s .args .width) % 4294967296) + 1)} (omega (arith, number-is k)) t;
+      sign-small = omega (arith, sign-below k);
+      number-small = omega (arith, number-is k, number-below k);
+    }
 
 pub next-signed-spec : {M : Type 1} → statement M
 next-signed-spec =
@@ -103,8 +106,6 @@ next-signed-spec =
     rem-number
     cast-number
     returns
-    mul-t15
-    add-t16
-    add-t17
+    add-t15
     returns-2
     returns-3)

@@ -12,10 +12,12 @@ use Rattle.cells.proofs.Rules.{of-size}
 use Rattle.images.specs.Fields.{FieldDone, FieldAt, from}
 use Rattle.images.specs.BitReader.{place}
 use Rattle.images.specs.Widths.{WidthOf}
-use Rattle.images.specs.Programs.{SignedDone, SignedTaken}
+use Rattle.model.specs.Range.{InRange}
+use Rattle.images.specs.Programs.{SignedDone, SignedTaken, LetterTaken}
+use Rattle.images.specs.declared.bit_reader.BitReader.{BitReader}
 use Rattle.images.specs.declared.programs.SignedField.{SignedField}
 use Rattle.images.proofs.Validating.{count-ends, value-refused, whole-answered, whole-count, whole-tail, program-whole}
-use Rattle.images.proofs.Measuring.{Passed, passed-none, passed-named, passed-light, passed-more, sign-low, no-back}
+use Rattle.images.proofs.Measuring.{Passed, passed-none, passed-named, passed-light, passed-more, no-back}
 use borrow.Author.Needs.{needs}
 use Rattle.images.proofs.programs.read_program.Statement.{statement}
 use Rattle.images.proofs.programs.read_program.Tie as tie
@@ -111,8 +113,8 @@ enum-told-3 c = search needs
 returns-3 : tie.Need-returns-3 Inv-loop μ-loop
 returns-3 c = refused-by (c .before .before) 5 (told (c .before .before) _ (c .enum-told3 .given .1))
 
-enum-known-byte : tie.Need-enum-known-byte Inv-loop μ-loop
-enum-known-byte c = search needs
+enum-known-sign : tie.Need-enum-known-sign Inv-loop μ-loop
+enum-known-sign c = search needs
 
 -- the letter that was taken
 abbrev turn : tie.After-known-told2 Inv-loop μ-loop → tie.After-next-signed Inv-loop μ-loop
@@ -121,44 +123,60 @@ turn c = c .before .before .before
 abbrev began : tie.After-known-told2 Inv-loop μ-loop → tie.Start Inv-loop μ-loop
 began c = start (wide (loop (turn c)) .before)
 
+abbrev sign : tie.After-known-told2 Inv-loop μ-loop → ℕ
+sign c = c .before .sign .given .0 .0
+
+abbrev number : tie.After-known-told2 Inv-loop μ-loop → ℕ
+number c = c .before .sign .given .0 .1 .0
+
+abbrev behind : tie.After-known-told2 Inv-loop μ-loop → BitReader
+behind c = c .before .sign .given .0 .1 .1 .0
+
+-- .. and its byte
 abbrev byte : tie.After-known-told2 Inv-loop μ-loop → ℕ
-byte c = c .before .byte .given .0 .0
+byte c = sign c * 128 + number c
+
+letter : (c : tie.After-known-told2 Inv-loop μ-loop)
+    → LetterTaken (began c .args .image .now) (place (loop (turn c) .loop .reader)) (began c .args .size) (wide (loop (turn c)) .letter-width .result) (sign c) (number c) (behind c)
+letter c = told (turn c) _ (c .before .sign .given .1)
 
 taken : (c : tie.After-known-told2 Inv-loop μ-loop)
-    → SignedTaken (began c .args .image .now) (place (loop (turn c) .loop .reader)) (began c .args .size) (wide (loop (turn c)) .letter-width .result) (byte c) (c .before .byte .given .0 .1 .0)
-taken c = told (turn c) _ (c .before .byte .given .1)
+    → SignedTaken (began c .args .image .now) (place (loop (turn c) .loop .reader)) (began c .args .size) (wide (loop (turn c)) .letter-width .result) (byte c) (behind c)
+taken c = letter c .taken
 
-low : (c : tie.After-known-told2 Inv-loop μ-loop) → byte c / 128 ≤ 1
-low c =
-    let s = began c in
-    let l = loop (turn c) in
-    sign-low (s .args .image .now) (s .args .cells .now) (s .args .size) (s .pre .0) (s .pre .1) (wide l .letter-width .result) (byte c) (place (l .loop .reader)) (c .before .byte .given .0 .1 .0) (taken c)
+sign-is : (c : tie.After-known-told2 Inv-loop μ-loop) → byte c / 128 ≡ sign c
+sign-is c = omega (arith, letter c .number-small)
+
+number-is : (c : tie.After-known-told2 Inv-loop μ-loop) → byte c % 128 ≡ number c
+number-is c = omega (arith, letter c .number-small)
 
 light : (c : tie.After-known-told2 Inv-loop μ-loop) → suc (getD (began c .args .cells .now) (weightAt (byte c % 128)) 0) ≤ 8
 light c =
     let s = began c in
     let l = loop (turn c) in
-    passed-light (s .args .image .now) (s .args .cells .now) (s .args .size) (s .pre .0) (s .pre .1) (wide l .letter-width .result) (byte c) (place (l .loop .reader)) (c .before .byte .given .0 .1 .0) (taken c)
+    passed-light (s .args .image .now) (s .args .cells .now) (s .args .size) (s .pre .0) (s .pre .1) (wide l .letter-width .result) (byte c) (place (l .loop .reader)) (behind c) (taken c)
 
 few : (c : tie.After-known-told2 Inv-loop μ-loop) → loop (turn c) .loop .i < 4095
 few c = omega (arith, turn c .before .loop-test .taken, count-at (wide (loop (turn c)) .before) .small)
 
 cast-backs : tie.Need-cast-backs Inv-loop μ-loop
-cast-backs c = omega (arith, low c)
+cast-backs c = omega (arith, letter c .sign-small)
 
 add-backs : tie.Need-add-backs Inv-loop μ-loop
-add-backs c = omega (arith, low c, few c, loop (turn c) .loop .inv .some)
+add-backs c = omega (arith, letter c .sign-small, few c, loop (turn c) .loop .inv .some)
 
 letter-weight-requires : tie.Need-letter-weight-requires Inv-loop μ-loop
 letter-weight-requires c κs =
     let s = began c in
     let l = loop (turn c) in (
       s .pre .1 .stands .full,
-      passed-named (s .args .image .now) (s .args .cells .now) (s .args .size) (s .pre .0) (s .pre .1) (wide l .letter-width .result) (byte c) (place (l .loop .reader)) (c .before .byte .given .0 .1 .0) (taken c),
+      subst (InRange 16) (number-is c)
+          (passed-named (s .args .image .now) (s .args .cells .now) (s .args .size) (s .pre .0) (s .pre .1) (wide l .letter-width .result) (byte c) (place (l .loop .reader)) (behind c) (taken c)),
     )
 
 add-weight : tie.Need-add-weight Inv-loop μ-loop
-add-weight c = omega (arith, light (c .before), few (c .before), c .letter-weight .ensures, loop (turn (c .before)) .loop .inv .light)
+add-weight c =
+    omega (arith, light (c .before), few (c .before), c .letter-weight .ensures, ap (λ n. getD (began (c .before) .args .cells .now) (weightAt n) 0) (number-is (c .before)), loop (turn (c .before)) .loop .inv .light)
 
 add-i : tie.Need-add-i Inv-loop μ-loop
 add-i c = omega (arith, few (c .before))
@@ -171,10 +189,12 @@ loop-again c =
     let k = c .before in
     let s = began k in
     let l = loop (turn k) in
-    let r = k .before .byte .given .0 .1 .0 in
-    subst (λ n. Passed (s .args .image .now) (s .args .cells .now) (s .args .size) (count l) r (l .loop .backs + byte k / 128) (l .loop .weight + n) (l .loop .i + 1)) (sym (c .letter-weight .ensures))
+    let r = behind k in
+    subst (λ n. Passed (s .args .image .now) (s .args .cells .now) (s .args .size) (count l) r (l .loop .backs + n) (l .loop .weight + c .letter-weight .result) (l .loop .i + 1)) (sign-is k)
+    (subst (λ n. Passed (s .args .image .now) (s .args .cells .now) (s .args .size) (count l) r (l .loop .backs + byte k / 128) (l .loop .weight + n) (l .loop .i + 1))
+    (sym (c .letter-weight .ensures ∙ ap (λ n. suc (getD (s .args .cells .now) (weightAt n) 0)) (sym (number-is k))))
     (passed-more (s .args .image .now) (s .args .cells .now) (s .args .size) (s .pre .0) (s .pre .1) (wide l .letter-width .result) (byte k) (place (l .loop .reader)) r (taken k)
-    (count l) (count-at (wide l .before)) (l .loop .reader) refl (width-of (wide l) .narrow) (l .loop .backs) (l .loop .weight) (l .loop .i) (l .loop .inv) (turn k .before .loop-test .taken))
+    (count l) (count-at (wide l .before)) (l .loop .reader) refl (width-of (wide l) .narrow) (l .loop .backs) (l .loop .weight) (l .loop .i) (l .loop .inv) (turn k .before .loop-test .taken)))
 
 is-end-requires : tie.Need-is-end-requires Inv-loop μ-loop
 is-end-requires c κs = c .before .loop .inv .reads
@@ -227,7 +247,7 @@ read-program-spec =
     returns-2
     enum-told-3
     returns-3
-    enum-known-byte
+    enum-known-sign
     cast-backs
     add-backs
     letter-weight-requires

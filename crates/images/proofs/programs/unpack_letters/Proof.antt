@@ -13,7 +13,7 @@ use Rattle.model.specs.Images.{signedField, readProgram}
 use Rattle.model.specs.Plain.{plainProgram}
 use Rattle.images.specs.Fields.{from}
 use Rattle.images.specs.BitReader.{place, ReadsFrom}
-use Rattle.images.specs.Programs.{SignedDone, SignedTaken, HasLetter}
+use Rattle.images.specs.Programs.{SignedDone, LetterTaken, HasLetter}
 use Rattle.images.specs.declared.programs.SignedField.{SignedField}
 use Rattle.bits.proofs.Width.{width-small}
 use Rattle.images.specs.Widths.{WidthOf}
@@ -109,26 +109,32 @@ same-length-2 c = absurd (never (c .before .before) 5 (told (c .before .before) 
 returns-2 : tie.Need-returns-2 Inv-loop μ-loop
 returns-2 c = absurd (never (c .before .before) 5 (told (c .before .before) _ (c .enum-told2 .given .1)))
 
-enum-known-byte : tie.Need-enum-known-byte Inv-loop μ-loop
-enum-known-byte c = search needs
+enum-known-sign : tie.Need-enum-known-sign Inv-loop μ-loop
+enum-known-sign c = search needs
 
 -- the letter that was taken
 abbrev turn : tie.After-known-told Inv-loop μ-loop → tie.After-next-signed Inv-loop μ-loop
 turn c = c .before .before .before
 
-taken : (c : tie.After-known-told Inv-loop μ-loop)
-    → SignedTaken (start (loop (turn c)) .args .image .now) (12 + loop (turn c) .loop .i * (1 + width (loop (turn c)))) (start (loop (turn c)) .args .size) (width (loop (turn c)))
-    (c .before .byte .given .0 .0) (c .before .byte .given .0 .1 .0)
-taken c = told (turn c) _ (c .before .byte .given .1)
+letter : (c : tie.After-known-told Inv-loop μ-loop)
+    → LetterTaken (start (loop (turn c)) .args .image .now) (12 + loop (turn c) .loop .i * (1 + width (loop (turn c)))) (start (loop (turn c)) .args .size) (width (loop (turn c)))
+    (c .before .sign .given .0 .0) (c .before .sign .given .0 .1 .0) (c .before .sign .given .0 .1 .1 .0)
+letter c = told (turn c) _ (c .before .sign .given .1)
 
 some : (c : tie.After-known-told Inv-loop μ-loop) → loop (turn c) .loop .i < start (loop (turn c)) .args .count
 some c = turn c .before .loop-test .taken
 
+mul-area : tie.Need-mul-area Inv-loop μ-loop
+mul-area c = omega (arith, letter c .sign-small)
+
+add-area : tie.Need-add-area Inv-loop μ-loop
+add-area c = omega (arith, letter c .sign-small, letter c .number-small)
+
 cast-area : tie.Need-cast-area Inv-loop μ-loop
 cast-area c = omega (arith, some c, start (loop (turn c)) .fits .count)
 
-add-area : tie.Need-add-area Inv-loop μ-loop
-add-area c = omega (arith, some c, start (loop (turn c)) .pre .1, start (loop (turn c)) .good .1)
+add-area-2 : tie.Need-add-area-2 Inv-loop μ-loop
+add-area-2 c = omega (arith, some c, start (loop (turn c)) .pre .1, start (loop (turn c)) .good .1)
 
 slice-write-area : tie.Need-slice-write-area Inv-loop μ-loop
 slice-write-area c = omega (arith, some c, start (loop (turn c)) .pre .1, loop (turn c) .loop .inv .1)
@@ -145,18 +151,18 @@ loop-again : tie.Need-loop-again Inv-loop μ-loop
 loop-again c =
     let l = loop (turn c) in
     let s = start l in
-    let x = c .before .byte .given .0 .0 in (
+    let x = c .before .sign .given .0 .0 * 128 + c .before .sign .given .0 .1 .0 in (
       omega (arith, some c),
       length-set (l .loop .area) (s .args .at + l .loop .i) x ∙ l .loop .inv .1,
       λ w e.
           let n : length w ≡ s .args .count = count-of (s .args .image .now) (s .args .size) (s .args .count) (s .pre .0) w e in
           ap (λ a. set a (s .args .at + l .loop .i) x) (l .loop .inv .2 w e)
           ∙ (ap (set (paste (s .args .area .now) (s .args .at) (plainProgram w) (l .loop .i)) (s .args .at + l .loop .i))
-          (letter-answer (s .args .image .now) (s .args .size) (width l) (l .loop .i) (has (turn c)) x (taken c .signed) w e)
+          (letter-answer (s .args .image .now) (s .args .size) (width l) (l .loop .i) (has (turn c)) x (letter c .taken .signed) w e)
           ∙ unpack-more (s .args .area .now) (s .args .at) w (l .loop .i) (omega (arith, s .pre .1)) (omega (arith, some c))),
       record {
-        reads = taken c .after .reads;
-        place-is = omega (arith, taken c .after .place-is, add-mul (l .loop .i) 1 (1 + width l), one-mul (1 + width l));
+        reads = letter c .taken .after .reads;
+        place-is = omega (arith, letter c .taken .after .place-is, add-mul (l .loop .i) 1 (1 + width l), one-mul (1 + width l));
       },
     )
 
@@ -190,9 +196,11 @@ unpack-letters-spec =
     enum-told-2
     same-length-2
     returns-2
-    enum-known-byte
-    cast-area
+    enum-known-sign
+    mul-area
     add-area
+    cast-area
+    add-area-2
     slice-write-area
     add-i
     loop-less
