@@ -4,10 +4,14 @@ use mathlib.Core.Path.{_≡_}
 use Prim.Native.Nat.{ℕ, _+_, _-_, _*_, _/_, _%_, _^_, _≤_, _<_}
 use lib.ListN.{length, take}
 use Rattle.model.specs.Bits.{number}
-use Rattle.images.specs.Fields.{from}
+use Rattle.model.specs.Outcome.{unplaced, refused}
+use Rattle.model.specs.Images.{letterField}
+use Rattle.images.specs.Fields.{from, LetterAt}
 use Rattle.images.specs.declared.bit_reader.BitReader.{BitReader}
 use Rattle.images.specs.declared.bit_reader.Taken.{Taken}
 use Rattle.images.specs.declared.bit_reader.Taken.the-variants.{Value, Ends}
+use Rattle.images.specs.declared.bit_reader.TakenLetter.{TakenLetter}
+use Rattle.images.specs.declared.bit_reader.TakenLetter.the-variants.{Letter, Ends as LetterEnds, Wrong}
 
 -- the position of the first bit that is not taken yet
 abbrev pub place : BitReader → ℕ
@@ -42,3 +46,13 @@ pub record TakenAt (image : List ℕ) (at width value : ℕ) (r : BitReader) : T
 abbrev pub TakenDone : List ℕ → BitReader → ℕ → Taken → Type 0
 TakenDone image reader width (Value v r) = TakenAt image (place reader) width v r
 TakenDone image reader width Ends = 8 * length image < place reader + width
+
+-- a letter was taken, and the reader stands behind it
+pub record LetterBehind (image : List ℕ) (at size width a : ℕ) (r : BitReader) : Type 0 where
+  pub letter : LetterAt image at size width a
+  pub after : ReadsFrom image (at + width) r
+
+abbrev pub LetterTakenDone : List ℕ → ℕ → ℕ → ℕ → TakenLetter → Type 0
+LetterTakenDone image at size width (Letter a r) = LetterBehind image at size width a r
+LetterTakenDone image at size width LetterEnds = (early wrong : ℕ) → letterField early wrong size (from image at) ≡ refused early unplaced
+LetterTakenDone image at size width Wrong = (early wrong : ℕ) → letterField early wrong size (from image at) ≡ refused wrong unplaced

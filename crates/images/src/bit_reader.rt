@@ -3,7 +3,8 @@
 ghost use mathlib.Core.Path.{_≡_};
 ghost use Prim.Native.Nat.{_+_, _*_, _≤_, _<_};
 ghost use lib.ListN.{length};
-ghost use Rattle.images.specs.BitReader.{place, Holds, Reads, ReadsFrom, Splits, TakenDone};
+ghost use Rattle.images.specs.BitReader.{place, Holds, Reads, ReadsFrom, Splits, TakenDone, LetterTakenDone};
+ghost use Rattle.images.specs.Widths.{WidthOf};
 ghost use Rattle.model.specs.Bits.{filling};
 ghost use Rattle.images.specs.Fields.{from};
 
@@ -82,6 +83,35 @@ pub fn take(image: &[u8], reader: BitReader, width: u32) -> Taken
         return Taken::Ends;
     }
     split(more(image, reader), width)
+}
+
+// What is taken: a letter, and the reader behind it; too few bits; or a field that names no letter.
+pub enum TakenLetter {
+    Letter { letter: u8, reader: BitReader },
+    Ends,
+    Wrong,
+}
+
+// The next letter, of the width that `size` letters have.
+pub fn take_letter(image: &[u8], reader: BitReader, size: u8, width: u32) -> TakenLetter
+    requires { ⌜ Reads (now image) reader × WidthOf size width ⌝ }
+    ensures { λ r. ⌜ LetterTakenDone (now (image .entry)) (place reader) size width r ⌝ }
+{
+    match take(image, reader, width) {
+        Taken::Ends => TakenLetter::Ends,
+        Taken::Value {
+            value,
+            reader: after,
+        } => {
+            if (size as u32) <= value {
+                return TakenLetter::Wrong;
+            }
+            TakenLetter::Letter {
+                letter: (value + 1) as u8,
+                reader: after,
+            }
+        }
+    }
 }
 
 // Whether only a filling follows: fewer than eight bits, all zero.

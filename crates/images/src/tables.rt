@@ -1,8 +1,10 @@
 // Table images: read once into cells, from which the engine takes complements.
 
+use crate::bit_reader::TakenLetter;
+use crate::bit_reader::reader_at;
+use crate::bit_reader::take_letter;
 use crate::fields;
 use crate::fields::Field;
-use crate::fields::LetterField;
 use cells::layout::CELLS;
 use cells::layout::UNDEFINED;
 use cells::layout::cell_at;
@@ -56,13 +58,18 @@ pub fn read_word(
     cells[cell] = value as u8;
     let count = value as usize;
     let mut next = at + 4;
+    let mut reader = reader_at(image, next);
     let mut k: usize = 0;
     while k < count {
-        match fields::next_letter(image, next, size, width) {
-            LetterField::Ends => return TablePart::Ends,
-            LetterField::Wrong => return TablePart::Wrong,
-            LetterField::Letter(a) => {
-                cells[cell + 1 + k] = a;
+        match take_letter(image, reader, size, width as u32) {
+            TakenLetter::Ends => return TablePart::Ends,
+            TakenLetter::Wrong => return TablePart::Wrong,
+            TakenLetter::Letter {
+                letter,
+                reader: after,
+            } => {
+                cells[cell + 1 + k] = letter;
+                reader = after;
                 next = next + width;
                 k += 1;
             }

@@ -1,12 +1,13 @@
--- A plain program is accepted where every byte names a letter, and refused at the first that does not. The count is tested before the letters.
+-- A plain program is accepted where every byte names a letter, and refused where one does not. The count is tested before the letters.
 use mathlib.Core.Path.{_≡_, refl, ap, _∙_}
 use mathlib.Core.List.{List, [], _∷_, map}
-use mathlib.Core.Bool.{true, false, not}
-use Prim.Native.Nat.{ℕ, zero, suc, _%_, _≤_, _<_}
+use mathlib.Core.Bool.{Bool, true, false, not, cond}
+use Prim.Native.Nat.{ℕ, zero, suc, _+_, _%_, _≤_, _<_}
 use native.Mathlib.Omega.{arith}
 use borrow.Author.Tests.{lt-ltb, le-ltb, leb-true}
 use lib.Dec.{leb}
 use Rattle.bits.proofs.Packing.{and-first, and-second}
+use borrow.Author.Count.{below-more}
 use lib.ListN.{length, getD}
 use Rattle.model.specs.Word.{Letter, Word, letter}
 use Rattle.model.specs.Outcome.{unplaced, Outcome, answered, refused, _>>=_, unless}
@@ -32,14 +33,42 @@ all-named n [] h = refl
 all-named n (x ∷ xs) h =
     first-named n x xs (h 0 (omega arith)) ∙ ap (λ o. o >>= λ w. answered (letter x ∷ w)) (all-named n xs (λ i l. h (suc i) (omega arith)))
 
-one-unnamed : (n : ℕ) (xs : List ℕ) (i : ℕ) → i < length xs → ((j : ℕ) → j < i → namesLetter n (getD xs j 0) ≡ true) → namesLetter n (getD xs i 0) ≡ false → plainLettersSigned n xs ≡ refused 5 unplaced
-one-unnamed n [] i l h e = absurd (omega arith)
-one-unnamed n (x ∷ xs) zero l h e = first-unnamed
+first-unnamed : (n x : ℕ) (xs : List ℕ) → namesLetter n x ≡ false → plainLettersSigned n (x ∷ xs) ≡ refused 5 unplaced
+unfolding rest
+first-unnamed n x xs e = ap (λ t. unless (not t) 5 (letter x) >>= rest n xs) e
+
+-- a fault behind a letter, whatever the letter is
+behind : (n x : ℕ) (xs : List ℕ) → plainLettersSigned n xs ≡ refused 5 unplaced → (t : Bool) → namesLetter n x ≡ t → plainLettersSigned n (x ∷ xs) ≡ refused 5 unplaced
+behind n x xs r true f = first-named n x xs f ∙ ap (λ o. o >>= λ w. answered (letter x ∷ w)) r
+behind n x xs r false f = first-unnamed n x xs f
+
+one-unnamed : (n : ℕ) (xs : List ℕ) (i : ℕ) → i < length xs → namesLetter n (getD xs i 0) ≡ false → plainLettersSigned n xs ≡ refused 5 unplaced
+one-unnamed n [] i l e = absurd (omega arith)
+one-unnamed n (x ∷ xs) zero l e = first-unnamed n x xs e
+one-unnamed n (x ∷ xs) (suc i) l e = behind n x xs (one-unnamed n xs i (omega arith) e) (namesLetter n x) refl
+
+-- the bytes passed that name no letter, counted
+pub record Counted (plain : List ℕ) (size faults i : ℕ) : Type 0 where
+  pub inside : i ≤ length plain
+  pub few : faults ≤ i
+  pub named : faults ≡ 0 → (j : ℕ) → j < i → namesLetter size (getD plain j 0) ≡ true
+  pub unnamed : 0 < faults → (j : ℕ) × (j < length plain) × (namesLetter size (getD plain j 0) ≡ false)
+
+pub counted-none : (plain : List ℕ) (size : ℕ) → Counted plain size 0 0
+counted-none plain size = record { inside = omega arith; few = omega arith; named = λ e j h. absurd (omega arith); unnamed = λ h. absurd (omega arith) }
+
+pub counted-more : (plain : List ℕ) (size faults i : ℕ) → Counted plain size faults i → i < length plain → Counted plain size (faults + cond (namesLetter size (getD plain i 0)) 0 1) (i + 1)
+counted-more plain size faults i c h = by-name (namesLetter size (getD plain i 0)) refl
   where
-    first-unnamed : plainLettersSigned n (x ∷ xs) ≡ refused 5 unplaced
-    first-unnamed = ap (λ t. unless (not t) 5 (letter x) >>= λ a. plainLettersSigned n xs >>= λ w. answered (a ∷ w)) e
-one-unnamed n (x ∷ xs) (suc i) l h e =
-    first-named n x xs (h 0 (omega arith)) ∙ ap (λ o. o >>= λ w. answered (letter x ∷ w)) (one-unnamed n xs i (omega arith) (λ j k. h (suc j) (omega arith)) e)
+    by-name : (t : Bool) → namesLetter size (getD plain i 0) ≡ t → Counted plain size (faults + cond t 0 1) (i + 1)
+    by-name true e =
+        record {
+          inside = omega arith;
+          few = omega (arith, c .few);
+          named = λ z. below-more (λ j. namesLetter size (getD plain j 0) ≡ true) i (c .named (omega arith)) e;
+          unnamed = λ some. c .unnamed (omega arith);
+        }
+    by-name false e = record { inside = omega arith; few = omega (arith, c .few); named = λ z. absurd (omega arith); unnamed = λ some. (i, h, e) }
 
 module _ (plain : List ℕ) (size : ℕ) where
   pub too-many : 4095 < length plain → readPlainProgram size plain ≡ refused 4 unplaced
@@ -54,5 +83,5 @@ module _ (plain : List ℕ) (size : ℕ) where
     pub plain-accepted : ((i : ℕ) → i < length plain → namesLetter size (getD plain i 0) ≡ true) → PlainProgram plain size
     plain-accepted h = record { named = record { short = few; named = h }; read = read-is ∙ all-named size plain h }
 
-    pub plain-refused : (i : ℕ) → i < length plain → ((j : ℕ) → j < i → namesLetter size (getD plain j 0) ≡ true) → namesLetter size (getD plain i 0) ≡ false → readPlainProgram size plain ≡ refused 5 unplaced
-    plain-refused i l h e = read-is ∙ one-unnamed size plain i l h e
+    pub plain-refused : (i : ℕ) → i < length plain → namesLetter size (getD plain i 0) ≡ false → readPlainProgram size plain ≡ refused 5 unplaced
+    plain-refused i l e = read-is ∙ one-unnamed size plain i l e

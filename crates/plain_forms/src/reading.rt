@@ -2,6 +2,7 @@
 ghost use mathlib.Core.Path.{_≡_};
 ghost use Prim.Native.Nat.{_+_, _≤_, _<_};
 ghost use lib.ListN.{length};
+ghost use mathlib.Core.Bool.{cond};
 ghost use Rattle.model.specs.Plain.{namesLetter};
 ghost use Rattle.cells.specs.Stands.{Blank};
 ghost use Rattle.cells.specs.Layout.{Letters};
@@ -32,19 +33,32 @@ pub fn names_letter(x: u8, size: u8) -> bool
     number <= size
 }
 
-// Refusal 4 where there are too many letters, then 5 where a byte names none.
+// 1 for a byte that names no letter, else 0.
+fn fault(x: u8, size: u8) -> u16
+    ensures { λ r. ⌜ r ≡ cond (namesLetter size x) 0 1 ⌝ }
+{
+    if names_letter(x, size) {
+        return 0;
+    }
+    1
+}
+
+// Refusal 4 where there are too many letters, then 5 where a byte names none. The bytes that name none are counted, and the first is not looked for: a loop
+// that always runs to the end is several bytes at a time on processors that can.
 pub fn read_plain_program(plain: &[u8], size: u8) -> PlainRead
     ensures { λ r. ⌜ PlainDone (now (plain .entry)) size r ⌝ }
 {
     if plain.len() > MOST_LETTERS {
         return PlainRead::Refused(Refusal::ImageEnds);
     }
+    let mut faults: u16 = 0;
     let mut i: usize = 0;
     while i < plain.len() {
-        if !names_letter(plain[i], size) {
-            return PlainRead::Refused(Refusal::ImageField);
-        }
+        faults += fault(plain[i], size);
         i += 1;
+    }
+    if faults > 0 {
+        return PlainRead::Refused(Refusal::ImageField);
     }
     PlainRead::Accepted
 }

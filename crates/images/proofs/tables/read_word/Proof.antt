@@ -1,35 +1,78 @@
--- `images::read_word` meets its contract. The loop's invariant: the letters read stand in the cell, and the rest of the reading is left.
-use mathlib.Core.Path.{refl, subst, _∙_}
-use Prim.Native.Nat.{_+_, _-_, _*_, _≤_, _<_}
+-- `images::read_word` meets its contract. The loop's invariant: the letters read stand in the cell, the reader stands behind them, and the rest of
+-- the reading is left.
+use mathlib.Core.Path.{_≡_, refl, subst, _∙_}
+use Prim.Native.Nat.{ℕ, _+_, _-_, _*_, _≤_, _<_}
 use native.Mathlib.Omega.{arith}
 use borrow.Author.Needs.{needs}
 use lib.ListN.{length, length-set}
+use Rattle.model.specs.Outcome.{unplaced, refused}
 use Rattle.model.specs.Images.{letterField, wordField}
-use Rattle.images.specs.Fields.{FieldDone, FieldAt, LetterDone, LetterAt, from}
+use Rattle.images.specs.Fields.{FieldDone, FieldAt, from}
+use Rattle.images.specs.BitReader.{place, ReadsFrom, LetterBehind, LetterTakenDone}
+use Rattle.images.specs.declared.bit_reader.TakenLetter.{TakenLetter}
 use Rattle.images.proofs.Words.{Filled, length-ends, word-is, letters-none, letters-more, letters-refused, word-from}
 use Rattle.images.proofs.tables.read_word.Statement.{statement}
 use Rattle.images.proofs.tables.read_word.Tie as tie
 
 abbrev Inv-loop : tie.InvT-loop
-Inv-loop image at size width cells₀ cell value count next₀ k₀ cells next k = Filled (letterField 1 2 size) (from image) (8 * length image) (at + 4) size cells₀ cell count cells next k
+Inv-loop image at size width cells₀ cell value count next₀ reader₀ k₀ cells next reader k =
+    Filled (letterField 1 2 size) (from image) (8 * length image) (at + 4) size cells₀ cell count cells next k × ReadsFrom image next reader
 
 abbrev μ-loop : tie.MeasureT-loop
-μ-loop image at size width cells₀ cell value count next₀ k₀ cells next k = count - k
+μ-loop image at size width cells₀ cell value count next₀ reader₀ k₀ cells next reader k = count - k
 
 abbrev start : tie.After-known-told Inv-loop μ-loop → tie.Start Inv-loop μ-loop
 start c = c .before .before .before .before .before .before
 
-length-at : (c : tie.After-known-told Inv-loop μ-loop) → FieldAt (start c .args .image .now) (start c .args .at) 4 (c .before .value .given .0 .0)
+-- the length that was read
+abbrev read : tie.At-loop Inv-loop μ-loop → tie.After-known-told Inv-loop μ-loop
+read c = c .before .before
+
+abbrev count : tie.After-known-told Inv-loop μ-loop → ℕ
+count c = c .before .value .given .0 .0
+
+-- a turn of the loop
+abbrev loop : tie.After-take-letter Inv-loop μ-loop → tie.At-loop Inv-loop μ-loop
+loop c = c .before .before
+
+abbrev turn : tie.After-known-told2 Inv-loop μ-loop → tie.After-take-letter Inv-loop μ-loop
+turn c = c .before .before .before
+
+length-at : (c : tie.After-known-told Inv-loop μ-loop) → FieldAt (start c .args .image .now) (start c .args .at) 4 (count c)
 length-at c = subst (FieldDone (start c .args .image .now) (start c .args .at) 4) (c .before .value .given .1) (c .before .before .before .next-field .ensures)
 
-near : (c : tie.At-loop Inv-loop μ-loop) → c .loop .next ≤ start (c .before) .args .at + 64
-near c = omega (arith, c .loop .inv .near, c .loop .inv .some-left, length-at (c .before) .small)
+near : (c : tie.At-loop Inv-loop μ-loop) → c .loop .next ≤ start (read c) .args .at + 64
+near c = omega (arith, c .loop .inv .0 .near, c .loop .inv .0 .some-left, length-at (read c) .small)
 
-room : (c : tie.In-loop Inv-loop μ-loop) → start (c .before .before) .args .cell + 1 + c .before .loop .k < length (c .before .loop .cells)
+kept-length : (c : tie.At-loop Inv-loop μ-loop) → length (c .loop .cells) ≡ length (start (read c) .args .cells .now)
+kept-length c = c .loop .inv .0 .same-length ∙ length-set (start (read c) .args .cells .now) (start (read c) .args .cell) (count (read c))
+
+room : (c : tie.In-loop Inv-loop μ-loop) → start (read (c .before)) .args .cell + 1 + c .before .loop .k < length (c .before .loop .cells)
 room c =
     let l = c .before in
-    let s = start (l .before) in
-    omega (arith, s .pre .1, c .loop-test .taken, length-at (l .before) .small, l .loop .inv .same-length, length-set (s .args .cells .now) (s .args .cell) (l .before .before .value .given .0 .0))
+    let s = start (read l) in
+    omega (arith, s .pre .1, c .loop-test .taken, length-at (read l) .small, kept-length l)
+
+-- what stands at the next letter's place
+told : (c : tie.After-take-letter Inv-loop μ-loop) → (r : TakenLetter) → c .take-letter .result ≡ r
+    → LetterTakenDone (start (read (loop c)) .args .image .now) (loop c .loop .next) (start (read (loop c)) .args .size) (start (read (loop c)) .args .width) r
+told c r e =
+    let l = loop c in
+    let s = start (read l) in
+    subst (λ n. LetterTakenDone (s .args .image .now) n (s .args .size) (s .args .width) r) (l .loop .inv .1 .place-is)
+    (subst (LetterTakenDone (s .args .image .now) (place (l .loop .reader)) (s .args .size) (s .args .width)) e (c .take-letter .ensures))
+
+refused-by : (c : tie.After-take-letter Inv-loop μ-loop) (n : ℕ)
+    → letterField 1 2 (start (read (loop c)) .args .size) (from (start (read (loop c)) .args .image .now) (loop c .loop .next)) ≡ refused n unplaced
+    → wordField (start (read (loop c)) .args .size) (from (start (read (loop c)) .args .image .now) (start (read (loop c)) .args .at)) ≡ refused n unplaced
+refused-by c n e =
+    let l = loop c in
+    let k = read l in
+    let s = start k in
+    word-is (s .args .image .now) (s .args .at) (s .args .size) (count k) (length-at k)
+    ∙ letters-refused (letterField 1 2 (s .args .size)) (from (s .args .image .now)) (8 * length (s .args .image .now)) (s .args .at + 4) (s .args .size)
+    (s .args .cells .now) (s .args .cell) (count k) (s .pre .1) (length-at k .small) (l .loop .cells) (l .loop .next) (l .loop .k) (l .loop .inv .0) n
+    (c .before .loop-test .taken) e
 
 next-field-requires : tie.Need-next-field-requires Inv-loop μ-loop
 next-field-requires c κs = record { narrow = omega arith; inside = c .before .before .pre .0 .inside; small = omega (arith, c .before .before .pre .0 .small) }
@@ -42,8 +85,11 @@ enum-told c = search needs
 
 returns : tie.Need-returns Inv-loop μ-loop
 returns c =
-    let s = c .before .before .before .before .before in
-    (refl, length-ends (s .args .image .now) (s .args .at) (s .args .size) (subst (FieldDone (s .args .image .now) (s .args .at) 4) (c .enum-told .given .1) (c .before .before .next-field .ensures)))
+    let s = c .before .before .before .before .before in (
+      refl,
+      length-ends (s .args .image .now) (s .args .at) (s .args .size)
+          (subst (FieldDone (s .args .image .now) (s .args .at) 4) (c .enum-told .given .1) (c .before .before .next-field .ensures)),
+    )
 
 cast-cells : tie.Need-cast-cells Inv-loop μ-loop
 cast-cells c = omega (arith, length-at c .small)
@@ -57,91 +103,97 @@ cast-count c = omega (arith, length-at c .small)
 add-next : tie.Need-add-next Inv-loop μ-loop
 add-next c = omega (arith, start c .pre .0 .small)
 
+reader-at-requires : tie.Need-reader-at-requires Inv-loop μ-loop
+reader-at-requires c κs = length-at c .inside
+
 loop-holds : tie.Need-loop-holds Inv-loop μ-loop
 loop-holds c =
-    let s = start c in
-    letters-none (letterField 1 2 (s .args .size)) (from (s .args .image .now)) (8 * length (s .args .image .now)) (s .args .at + 4) (s .args .size) (s .args .cells .now) (s .args .cell) (c .before .value .given .0 .0) (s .pre .1) (length-at c .small) (length-at c .inside)
+    let k = c .before in
+    let s = start k in (
+      letters-none (letterField 1 2 (s .args .size)) (from (s .args .image .now)) (8 * length (s .args .image .now)) (s .args .at + 4) (s .args .size)
+          (s .args .cells .now) (s .args .cell) (count k) (s .pre .1) (length-at k .small) (length-at k .inside),
+      c .reader-at .ensures,
+    )
 
-next-letter-requires : tie.Need-next-letter-requires Inv-loop μ-loop
-next-letter-requires c κs =
-    let l = c .before in
-    let p = start (l .before) .pre .0 in
-    (record { narrow = omega (arith, p .narrow); inside = l .loop .inv .inside; small = omega (arith, near l, p .narrow) }, p .width-is, p .few)
+cast-take-letter : tie.Need-cast-take-letter Inv-loop μ-loop
+cast-take-letter c = omega (arith, start (read (c .before)) .pre .0 .narrow)
+
+take-letter-requires : tie.Need-take-letter-requires Inv-loop μ-loop
+take-letter-requires c κs =
+    let p = start (read (c .before)) .pre .0 in
+    (c .before .loop .inv .1 .reads, record { few = p .few; narrow = p .narrow; width-is = p .width-is })
 
 enum-told-2 : tie.Need-enum-told-2 Inv-loop μ-loop
 enum-told-2 c = search needs
 
 same-length : tie.Need-same-length Inv-loop μ-loop
-same-length c =
-    let l = c .before .before .before .before in
-    l .loop .inv .same-length ∙ length-set (start (l .before) .args .cells .now) (start (l .before) .args .cell) (l .before .before .value .given .0 .0)
+same-length c = kept-length (loop (c .before .before))
 
 returns-2 : tie.Need-returns-2 Inv-loop μ-loop
-returns-2 c =
-    let l = c .before .before .before .before in
-    let s = start (l .before) in (
-      l .loop .inv .same-length ∙ length-set (s .args .cells .now) (s .args .cell) (l .before .before .value .given .0 .0),
-      word-is (s .args .image .now) (s .args .at) (s .args .size) (l .before .before .value .given .0 .0) (length-at (l .before)) ∙ letters-refused (letterField 1 2 (s .args .size)) (from (s .args .image .now)) (8 * length (s .args .image .now)) (s .args .at + 4) (s .args .size) (s .args .cells .now) (s .args .cell) (l .before .before .value .given .0 .0) (s .pre .1) (length-at (l .before) .small) (l .loop .cells) (l .loop .next) (l .loop .k) (l .loop .inv) 1 (c .before .before .before .loop-test .taken)
-          (subst (LetterDone (s .args .image .now) (l .loop .next) (s .args .size) (s .args .width)) (c .enum-told2 .given .1) (c .before .before .next-letter .ensures) 1 2),
-    )
+returns-2 c = (kept-length (loop (c .before .before)), refused-by (c .before .before) 1 (told (c .before .before) _ (c .enum-told2 .given .1) 1 2))
 
 enum-told-3 : tie.Need-enum-told-3 Inv-loop μ-loop
 enum-told-3 c = search needs
 
 same-length-2 : tie.Need-same-length-2 Inv-loop μ-loop
-same-length-2 c =
-    let l = c .before .before .before .before in
-    l .loop .inv .same-length ∙ length-set (start (l .before) .args .cells .now) (start (l .before) .args .cell) (l .before .before .value .given .0 .0)
+same-length-2 c = kept-length (loop (c .before .before))
 
 returns-3 : tie.Need-returns-3 Inv-loop μ-loop
-returns-3 c =
-    let l = c .before .before .before .before in
-    let s = start (l .before) in (
-      l .loop .inv .same-length ∙ length-set (s .args .cells .now) (s .args .cell) (l .before .before .value .given .0 .0),
-      word-is (s .args .image .now) (s .args .at) (s .args .size) (l .before .before .value .given .0 .0) (length-at (l .before)) ∙ letters-refused (letterField 1 2 (s .args .size)) (from (s .args .image .now)) (8 * length (s .args .image .now)) (s .args .at + 4) (s .args .size) (s .args .cells .now) (s .args .cell) (l .before .before .value .given .0 .0) (s .pre .1) (length-at (l .before) .small) (l .loop .cells) (l .loop .next) (l .loop .k) (l .loop .inv) 2 (c .before .before .before .loop-test .taken)
-          (subst (LetterDone (s .args .image .now) (l .loop .next) (s .args .size) (s .args .width)) (c .enum-told3 .given .1) (c .before .before .next-letter .ensures) 1 2),
-    )
+returns-3 c = (kept-length (loop (c .before .before)), refused-by (c .before .before) 2 (told (c .before .before) _ (c .enum-told3 .given .1) 1 2))
 
-enum-known-a : tie.Need-enum-known-a Inv-loop μ-loop
-enum-known-a c = search needs
+enum-known-letter : tie.Need-enum-known-letter Inv-loop μ-loop
+enum-known-letter c = search needs
+
+-- the letter that was taken
+taken : (c : tie.After-known-told2 Inv-loop μ-loop)
+    → LetterBehind (start (read (loop (turn c))) .args .image .now) (loop (turn c) .loop .next) (start (read (loop (turn c))) .args .size) (start (read (loop (turn c))) .args .width)
+    (c .before .letter .given .0 .0) (c .before .letter .given .0 .1 .0)
+taken c = told (turn c) _ (c .before .letter .given .1)
 
 add-cells : tie.Need-add-cells Inv-loop μ-loop
-add-cells c = omega (arith, start (c .before .before .before .before .before .before) .pre .1, start (c .before .before .before .before .before .before) .good)
+add-cells c = omega (arith, start (read (loop (turn c))) .pre .1, start (read (loop (turn c))) .good)
 
 add-cells-2 : tie.Need-add-cells-2 Inv-loop μ-loop
-add-cells-2 c = omega (arith, room (c .before .before .before .before), start (c .before .before .before .before .before .before) .good)
+add-cells-2 c = omega (arith, room (turn c .before), kept-length (loop (turn c)), start (read (loop (turn c))) .good)
 
 slice-write-cells-2 : tie.Need-slice-write-cells-2 Inv-loop μ-loop
-slice-write-cells-2 c = room (c .before .before .before .before)
+slice-write-cells-2 c = room (turn c .before)
 
 add-next-2 : tie.Need-add-next-2 Inv-loop μ-loop
-add-next-2 c = omega (arith, near (c .before .before .before .before .before), start (c .before .before .before .before .before .before) .pre .0 .narrow)
+add-next-2 c = omega (arith, near (loop (turn c)), start (read (loop (turn c))) .pre .0 .narrow, start (read (loop (turn c))) .pre .0 .small)
 
 add-k : tie.Need-add-k Inv-loop μ-loop
-add-k c = omega (arith, c .before .before .before .before .loop-test .taken, length-at (c .before .before .before .before .before .before) .small)
+add-k c = omega (arith, turn c .before .loop-test .taken, length-at (read (loop (turn c))) .small)
 
 loop-less : tie.Need-loop-less Inv-loop μ-loop
-loop-less c = omega (arith, c .before .before .before .before .loop-test .taken)
+loop-less c = omega (arith, turn c .before .loop-test .taken)
 
 loop-again : tie.Need-loop-again Inv-loop μ-loop
 loop-again c =
-    let l = c .before .before .before .before .before in
-    let s = start (l .before) in
-    let t : LetterAt (s .args .image .now) (l .loop .next) (s .args .size) (s .args .width) (c .before .a .given .0 .0) =
-    subst (LetterDone (s .args .image .now) (l .loop .next) (s .args .size) (s .args .width)) (c .before .a .given .1) (c .before .before .before .next-letter .ensures) in
-    letters-more (letterField 1 2 (s .args .size)) (from (s .args .image .now)) (8 * length (s .args .image .now)) (s .args .at + 4) (s .args .size) (s .args .cells .now) (s .args .cell) (l .before .before .value .given .0 .0) (s .pre .1) (length-at (l .before) .small) (l .loop .cells) (l .loop .next) (l .loop .k) (l .loop .inv) (c .before .a .given .0 .0) (l .loop .next + s .args .width) (c .before .before .before .before .loop-test .taken) (omega (arith, s .pre .0 .narrow)) (t .inside) (record { low = t .positive; high = t .small }) (t .read 1 2)
+    let l = loop (turn c) in
+    let k = read l in
+    let s = start k in
+    let t = taken c in (
+      letters-more (letterField 1 2 (s .args .size)) (from (s .args .image .now)) (8 * length (s .args .image .now)) (s .args .at + 4) (s .args .size)
+          (s .args .cells .now) (s .args .cell) (count k) (s .pre .1) (length-at k .small) (l .loop .cells) (l .loop .next) (l .loop .k) (l .loop .inv .0)
+          (c .before .letter .given .0 .0) (l .loop .next + s .args .width) (turn c .before .loop-test .taken) (omega (arith, s .pre .0 .narrow)) (t .letter .inside)
+          (record { low = t .letter .positive; high = t .letter .small }) (t .letter .read 1 2),
+      t .after,
+    )
 
 same-length-3 : tie.Need-same-length-3 Inv-loop μ-loop
-same-length-3 c =
-    let l = c .before in
-    l .loop .inv .same-length ∙ length-set (start (l .before) .args .cells .now) (start (l .before) .args .cell) (l .before .before .value .given .0 .0)
+same-length-3 c = kept-length (c .before)
 
 returns-4 : tie.Need-returns-4 Inv-loop μ-loop
 returns-4 c =
     let l = c .before in
-    let s = start (l .before) in (
-      l .loop .inv .same-length ∙ length-set (s .args .cells .now) (s .args .cell) (l .before .before .value .given .0 .0),
-      word-from (letterField 1 2 (s .args .size)) (from (s .args .image .now)) (8 * length (s .args .image .now)) (s .args .at + 4) (s .args .size) (s .args .cells .now) (s .args .cell) (l .before .before .value .given .0 .0) (s .pre .1) (length-at (l .before) .small) (l .loop .cells) (l .loop .next) (l .loop .k) (l .loop .inv) (wordField (s .args .size)) 64 (s .args .at) (word-is (s .args .image .now) (s .args .at) (s .args .size) (l .before .before .value .given .0 .0) (length-at (l .before))) (omega arith) (c .loop-test .left),
+    let k = read l in
+    let s = start k in (
+      kept-length l,
+      word-from (letterField 1 2 (s .args .size)) (from (s .args .image .now)) (8 * length (s .args .image .now)) (s .args .at + 4) (s .args .size)
+          (s .args .cells .now) (s .args .cell) (count k) (s .pre .1) (length-at k .small) (l .loop .cells) (l .loop .next) (l .loop .k) (l .loop .inv .0)
+          (wordField (s .args .size)) 64 (s .args .at) (word-is (s .args .image .now) (s .args .at) (s .args .size) (count k) (length-at k)) (omega arith)
+          (c .loop-test .left),
     )
 
 pub read-word-spec : {M : Type 1} → statement M
@@ -158,15 +210,17 @@ read-word-spec =
     slice-write-cells
     cast-count
     add-next
+    reader-at-requires
     loop-holds
-    next-letter-requires
+    cast-take-letter
+    take-letter-requires
     enum-told-2
     same-length
     returns-2
     enum-told-3
     same-length-2
     returns-3
-    enum-known-a
+    enum-known-letter
     add-cells
     add-cells-2
     slice-write-cells-2

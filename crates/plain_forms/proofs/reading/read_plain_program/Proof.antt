@@ -1,59 +1,72 @@
--- `images::read_plain_program` meets its contract. The loop's invariant: every byte passed names a letter.
-use mathlib.Core.Path.{_≡_, sym, _∙_}
-use mathlib.Core.Bool.{true}
-use Prim.Native.Nat.{ℕ, _-_, _≤_, _<_}
+-- `plain_forms::reading::read_plain_program` meets its contract. The loop's invariant: the bytes passed that name no letter are counted.
+use mathlib.Core.Path.{_≡_, sym, subst}
+use Prim.Native.Nat.{ℕ, _+_, _-_, _≤_}
 use native.Mathlib.Omega.{arith}
 use borrow.Author.Needs.{needs}
-use borrow.Author.Tests.{not-true, not-false}
-use borrow.Author.Count.{below-more}
-use lib.ListN.{length, getD}
-use Rattle.model.specs.Plain.{namesLetter}
-use Rattle.plain_forms.proofs.Programs.{too-many, plain-accepted, plain-refused}
+use lib.ListN.{length}
+use Rattle.plain_forms.proofs.Programs.{Counted, counted-none, counted-more, too-many, plain-accepted, plain-refused}
 use Rattle.plain_forms.proofs.reading.read_plain_program.Statement.{statement}
 use Rattle.plain_forms.proofs.reading.read_plain_program.Tie as tie
 
 abbrev Inv-loop : tie.InvT-loop
-Inv-loop plain size i₀ i = (i ≤ length plain) × ((j : ℕ) → j < i → namesLetter size (getD plain j 0) ≡ true)
+Inv-loop plain size faults₀ i₀ faults i = Counted plain size faults i
 
 abbrev μ-loop : tie.MeasureT-loop
-μ-loop plain size i₀ i = length plain - i
+μ-loop plain size faults₀ i₀ faults i = length plain - i
+
+abbrev start : tie.At-loop Inv-loop μ-loop → tie.Start Inv-loop μ-loop
+start c = c .before .before .before
+
+abbrev loop : tie.After-fault Inv-loop μ-loop → tie.At-loop Inv-loop μ-loop
+loop c = c .before .before .before
+
+more : (c : tie.After-fault Inv-loop μ-loop)
+    → Counted (start (loop c) .args .plain .now) (start (loop c) .args .size) (loop c .loop .faults + c .fault .result) (loop c .loop .i + 1)
+more c =
+    let l = loop c in
+    let s = start l in
+    subst (λ n. Counted (s .args .plain .now) (s .args .size) (l .loop .faults + n) (l .loop .i + 1)) (sym (c .fault .ensures))
+    (counted-more (s .args .plain .now) (s .args .size) (l .loop .faults) (l .loop .i) (l .loop .inv) (c .before .before .loop-test .taken))
+
+few : (c : tie.At-loop Inv-loop μ-loop) → length (start c .args .plain .now) ≤ 4095
+few c = c .before .if1 .left
 
 returns : tie.Need-returns Inv-loop μ-loop
 returns c = too-many (c .before .before .args .plain .now) (c .before .before .args .size) (c .if1 .taken)
 
 loop-holds : tie.Need-loop-holds Inv-loop μ-loop
-loop-holds c = (omega arith, λ j h. absurd (omega arith))
+loop-holds c = counted-none (c .before .before .args .plain .now) (c .before .before .args .size)
 
-shared-slice-read-names-letter : tie.Need-shared-slice-read-names-letter Inv-loop μ-loop
-shared-slice-read-names-letter c = omega (arith, c .before .loop-test .taken)
+shared-slice-read-fault : tie.Need-shared-slice-read-fault Inv-loop μ-loop
+shared-slice-read-fault c = omega (arith, c .before .loop-test .taken)
 
-names-letter-requires : tie.Need-names-letter-requires Inv-loop μ-loop
-names-letter-requires c κs = search needs
+fault-requires : tie.Need-fault-requires Inv-loop μ-loop
+fault-requires c κs = tt
+
+add-faults : tie.Need-add-faults Inv-loop μ-loop
+add-faults c = omega (arith, more c .few, more c .inside, few (loop c))
+
+add-i : tie.Need-add-i Inv-loop μ-loop
+add-i c = omega (arith, c .before .before .loop-test .taken, few (loop c))
+
+loop-less : tie.Need-loop-less Inv-loop μ-loop
+loop-less c = omega (arith, c .before .before .loop-test .taken)
+
+loop-again : tie.Need-loop-again Inv-loop μ-loop
+loop-again c = more c
 
 returns-2 : tie.Need-returns-2 Inv-loop μ-loop
 returns-2 c =
-    let n = c .before in
-    let l = n .before .before .before in
-    let s = l .before .before .before in
-    plain-refused (s .args .plain .now) (s .args .size) (l .before .if1 .left) (l .loop .i) (n .before .before .loop-test .taken) (l .loop .inv .1) (sym (n .names-letter .ensures) ∙ not-true (n .names-letter .result) (c .if2 .taken))
-
-add-i : tie.Need-add-i Inv-loop μ-loop
-add-i c = omega (arith, c .before .before .before .loop-test .taken)
-
-loop-less : tie.Need-loop-less Inv-loop μ-loop
-loop-less c = omega (arith, c .before .before .before .loop-test .taken)
-
-loop-again : tie.Need-loop-again Inv-loop μ-loop
-loop-again c =
-    let n = c .before in
-    let l = n .before .before .before in
-    (omega (arith, n .before .before .loop-test .taken), below-more _ _ (l .loop .inv .1) (sym (n .names-letter .ensures) ∙ not-false (n .names-letter .result) (c .if2 .left)))
+    let l = c .before .before in
+    let s = start l in
+    let u = l .loop .inv .unnamed (c .if2 .taken) in
+    plain-refused (s .args .plain .now) (s .args .size) (few l) (u .0) (u .1) (u .2)
 
 returns-3 : tie.Need-returns-3 Inv-loop μ-loop
 returns-3 c =
-    let l = c .before in
-    let s = l .before .before .before in
-    plain-accepted (s .args .plain .now) (s .args .size) (l .before .if1 .left) (λ i h. l .loop .inv .1 i (omega (arith, c .loop-test .left)))
+    let l = c .before .before in
+    let s = start l in
+    plain-accepted (s .args .plain .now) (s .args .size) (few l) (λ i h. l .loop .inv .named (omega (arith, c .if2 .left)) i (omega (arith, c .before .loop-test .left)))
 
 pub read-plain-program-spec : {M : Type 1} → statement M
 read-plain-program-spec =
@@ -63,10 +76,11 @@ read-plain-program-spec =
     μ-loop
     returns
     loop-holds
-    shared-slice-read-names-letter
-    names-letter-requires
-    returns-2
+    shared-slice-read-fault
+    fault-requires
+    add-faults
     add-i
     loop-less
     loop-again
+    returns-2
     returns-3)
