@@ -1,24 +1,27 @@
--- What one reversing tells of a residual, and the words that are loaded for it.
+-- What one reversing tells of a residual: that of words in the workspace, and that of two letters, which needs none.
 use mathlib.Core.Path.{_≡_, refl, sym, ap, ap₂, subst, _∙_}
-use mathlib.Core.List.{List, [], _∷_, _++_}
-use Prim.Native.Nat.{ℕ, suc, _+_, _-_, _≤_, _<_}
+use mathlib.Core.List.{List, [], _∷_, _++_, append-nil}
+use Prim.Native.Nat.{ℕ, zero, suc, _+_, _≤_, _<_}
 use native.Mathlib.Omega.{arith}
-use lib.ListN.{length, take, drop, getD, set, length-append, length-set}
-use lib.Seq.{take-take, take-at, take-suc, drop-cons, drop-length, getD-set-same, getD-set-other}
-use Rattle.model.specs.Word.{back, Word, Positive, positive, negative, letter}
-use Rattle.model.specs.Presentation.{Presentation}
-use Rattle.model.specs.Reversing.{Ending, finished, open-pair, stopped, budget, room, reversing}
+use lib.ListN.{length, take, length-append}
+use lib.Seq.{take-take, take-at}
+use Rattle.model.specs.Word.{forward, back, Word, Positive, positive, negative, forwards}
+use Rattle.model.specs.Presentation.{Presentation, undefined, complement, complete}
+use Rattle.model.specs.Reversing.{Ending, finished, open-pair, stopped, budget, room, nowhere, site, reversing}
 use Rattle.model.specs.Checks.{ofEnding, under}
 use Rattle.model.specs.Stated.{endingAnswer}
 use Rattle.model.specs.declared.answers.Ending.{Ending as EndingAnswer}
-use Rattle.model.specs.declared.answers.Stop.the-variants.{Room}
-use Rattle.model.proofs.Reversal.{reversing-long}
+use Rattle.model.specs.declared.answers.Stop.the-variants.{Budget, Room}
+use Rattle.model.proofs.Words.{fraction-nowhere, numerator-of}
+use Rattle.model.proofs.Reversal.{prepended, reversing-long, reversing-none, reversing-open, reversing-spent, reversing-step}
 use Rattle.engine.specs.Gap.{letters}
 use Rattle.engine.specs.Run.{LeavesWord, LeavesLetters, Reverses}
-use Rattle.engine.proofs.Letters.{letter-forward, letter-back, letters-cons, letters-nil, letters-take}
+use Rattle.engine.proofs.Letters.{letters-take}
 use Rattle.engine.proofs.Lettering.{lettered-front, length-positive, length-negative}
-use Rattle.checks.specs.Residues.{fromEnding, Works}
-use Rattle.checks.specs.declared.residues.Residue.the-variants.{Halted}
+use Rattle.checks.specs.Residues.{fromEnding, residueAnswer, Works}
+use Rattle.checks.specs.declared.residues.Residue.{Residue as ResidueAnswer}
+use Rattle.checks.specs.declared.residues.Residue.the-variants.{Missing, Halted}
+use Rattle.checks.specs.declared.residues.Residue.the-variants.{Word as Found}
 
 -- the numerator stands at the start
 ending-works : (size : ℕ) (e : Ending) (bytes : List ℕ) → LeavesWord e bytes → LeavesLetters size e → Works size (ofEnding e) bytes (fromEnding (endingAnswer e))
@@ -60,28 +63,54 @@ module _ (T : Presentation) (u v : Positive) (steps : ℕ) (bytes : List ℕ) wh
       reversing-long T steps (length bytes) (negative u ++ positive v) (omega arith) in
       rw e (record { answer = refl; stores = tt })
 
--- two letters, at the workspace's two ends
-module _ (bytes : List ℕ) (a b : ℕ) (some : 2 ≤ length bytes) (a-small : a ≤ 16) (b-small : b ≤ 16) where
-  abbrev pub two : List ℕ
-  two = set (set bytes 0 (128 + a)) (length bytes - 1) b
+-- TWO LETTERS: their reversing has one step, to C(a,b) and the inverse of C(b,a), so that no workspace is needed to tell how it ends. Specification 4.5.
 
-  two-length : length two ≡ length bytes
-  two-length = simp length-set
+abbrev ended-answer : Ending → ResidueAnswer
+ended-answer d = residueAnswer (ofEnding d)
 
-  pub two-front : letters (take 1 two) ≡ negative (a ∷ [])
-  two-front =
-      let x : getD two 0 0 ≡ 128 + a =
-      getD-set-other (set bytes 0 (128 + a)) (length bytes - 1) 0 b 0 (λ e. omega arith)
-      ∙ getD-set-same bytes 0 (128 + a) 0 (omega arith) in
-      let y : 128 + a - 128 ≡ a = omega arith in
-      ap letters (take-suc two 0 0 (omega (arith, two-length)))
-      ∙ (letters-cons (getD two 0 0) [] ∙ ap₂ (λ l w. l ∷ w) (ap letter x ∙ (letter-back (128 + a) (omega arith) ∙ ap back y)) letters-nil)
+module _ (T : Presentation) (width a b : ℕ) where
+  pub letters-long : (steps : ℕ) → width < 2 → Halted Room ≡ residueAnswer (under T steps width (a ∷ []) (b ∷ []))
+  unfolding under
+  letters-long steps h = sym (ap ended-answer (reversing-long T steps width (back a ∷ forward b ∷ []) (omega arith)))
 
-  pub two-end : letters (drop (length bytes - 1) two) ≡ positive (b ∷ [])
-  two-end =
-      let x : getD two (length bytes - 1) 0 ≡ b = getD-set-same (set bytes 0 (128 + a)) (length bytes - 1) b 0 (simp length-set (omega arith)) in
-      let y : suc (length bytes - 1) ≡ length two = omega (arith, two-length) in
-      ap letters (drop-cons two (length bytes - 1) 0 (omega (arith, two-length)))
-      ∙ (letters-cons (getD two (length bytes - 1) 0) (drop (suc (length bytes - 1)) two)
-      ∙ ap₂ (λ l w. l ∷ w) (ap letter x ∙ letter-forward b (omega arith))
-      (ap (λ i. letters (drop i two)) y ∙ (ap letters (drop-length two) ∙ letters-nil)))
+  module _ (some : 2 ≤ width) where
+    pub letters-open : (steps : ℕ) → complete T a b ≡ undefined → Missing ≡ residueAnswer (under T steps width (a ∷ []) (b ∷ []))
+    unfolding under
+    letters-open steps e = sym (ap ended-answer (reversing-open T steps width (back a ∷ forward b ∷ []) (omega arith) refl e))
+
+    module _ (x y : Positive) (e : complete T a b ≡ complement x y) where
+      pub letters-spent : (steps : ℕ) → steps ≡ 0 → Halted Budget ≡ residueAnswer (under T steps width (a ∷ []) (b ∷ []))
+      unfolding under
+      letters-spent zero z = sym (ap ended-answer (reversing-spent T width (back a ∷ forward b ∷ []) (omega arith) refl e))
+      letters-spent (suc left) z = absurd (omega arith)
+
+      -- the word after the step
+      after : Word
+      after = positive x ++ (negative y ++ [])
+
+      after-is : after ≡ positive x ++ negative y
+      unfolding after
+      after-is = ap (λ w. positive x ++ w) (append-nil (negative y))
+
+      after-length : length after ≡ length x + length y
+      after-length =
+          ap length after-is ∙ (length-append (positive x) (negative y) ∙ ap₂ (λ i j. i + j) (length-positive x) (length-negative y))
+
+      stepped : (left : ℕ) → residueAnswer (under T (suc left) width (a ∷ []) (b ∷ [])) ≡ ended-answer (prepended a b (reversing T left width after))
+      unfolding under after
+      stepped left = ap ended-answer (reversing-step T left width (back a ∷ forward b ∷ []) (omega arith) refl e)
+
+      -- it does not fit; or it does, and has no site
+      pub letters-wide : (steps : ℕ) → (steps ≡ 0 → ⊥) → width < length x + length y → Halted Room ≡ residueAnswer (under T steps width (a ∷ []) (b ∷ []))
+      letters-wide zero z h = absurd (z refl)
+      letters-wide (suc left) z h =
+          sym (stepped left ∙ ap (λ d. ended-answer (prepended a b d)) (reversing-long T left width after (omega (arith, after-length))))
+
+      pub letters-found : (steps : ℕ) → (steps ≡ 0 → ⊥) → length x + length y ≤ width → Found (length x) ≡ residueAnswer (under T steps width (a ∷ []) (b ∷ []))
+      letters-found zero z h = absurd (z refl)
+      letters-found (suc left) z h =
+          let none : site after ≡ nowhere = ap site after-is ∙ fraction-nowhere x y in
+          let numerator : forwards after ≡ x = ap forwards after-is ∙ numerator-of x y in
+          sym (stepped left
+          ∙ (ap (λ d. ended-answer (prepended a b d)) (reversing-none T left width after (omega (arith, after-length)) none)
+          ∙ ap (λ n. Found (length n)) numerator))

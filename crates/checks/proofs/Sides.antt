@@ -1,10 +1,10 @@
 -- (a\b)\(a\c) from its three reversings: each way in which it is worked out.
-use mathlib.Core.Path.{_≡_, refl, ap, _∙_}
+use mathlib.Core.Path.{_≡_, refl, subst, _∙_}
 use mathlib.Core.List.{List, [], _∷_}
 use Prim.Native.Nat.{ℕ}
 use native.Mathlib.Omega.{arith}
 use lib.ListN.{length, getD}
-use Rattle.model.specs.Word.{Word, Positive}
+use Rattle.model.specs.Word.{Word, Positive, positive}
 use Rattle.model.specs.Presentation.{Presentation, complement, complete}
 use Rattle.model.specs.Reversing.{Stop as ModelStop}
 use Rattle.model.specs.Checks.{Residue, residue, missing, halted, andThen, under, side}
@@ -15,7 +15,8 @@ use Rattle.model.proofs.Residues.{residual-letters, under-residue}
 use Rattle.cells.specs.Layout.{cellAt}
 use Rattle.model.specs.Range.{InRange}
 use Rattle.cells.specs.Stands.{Serves}
-use Rattle.checks.specs.Residues.{Stored, Works}
+use Rattle.checks.specs.Residues.{residueAnswer, Stored, Works}
+use Rattle.checks.specs.declared.residues.Residue.{Residue as ResidueAnswer}
 use Rattle.checks.specs.declared.residues.Residue.the-variants.{Missing, Halted}
 use Rattle.checks.specs.declared.residues.Residue.the-variants.{Word as Found}
 use Rattle.checks.proofs.CellWords.{cell-of}
@@ -44,40 +45,53 @@ module _ {size : ℕ} {bytes : List ℕ} where
   was-halted missing s w = let e = w .answer in impossible (cc)
   was-halted (halted h) s w = let e = w .answer in (h, refl, cc)
 
-module _ (T : Presentation) (steps a b c : ℕ) where
-  abbrev to-b : ℕ → Residue
-  to-b width = under T steps width (a ∷ []) (b ∷ [])
+-- two letters of three
+module _ {cells : List ℕ} {a b c : ℕ} {T : Presentation} (t : Serves cells (positive (a ∷ b ∷ c ∷ [])) T) where
+  pub without-third : Serves cells (positive (a ∷ b ∷ [])) T
+  without-third = record { stands = t .stands; lettered = (t .lettered .0, (t .lettered .1 .0, tt)) }
 
-  abbrev to-c : ℕ → Residue
-  to-c width = under T steps width (a ∷ []) (c ∷ [])
+  pub without-second : Serves cells (positive (a ∷ c ∷ [])) T
+  without-second = record { stands = t .stands; lettered = (t .lettered .0, (t .lettered .1 .1 .0, tt)) }
+
+-- the answers of an inner complement that are a side's too
+abbrev pub NoWord : ResidueAnswer → Type 0
+NoWord (Found k) = ⊥
+NoWord Missing = Unit {0}
+NoWord (Halted s) = Unit {0}
+
+ends-there : {size : ℕ} {bytes : List ℕ} (m : Residue) (f : Positive → Residue) (r : ResidueAnswer) → NoWord r → r ≡ residueAnswer m
+    → Works size (andThen m f) bytes r
+ends-there (residue n) f r none e = absurd (subst NoWord e none)
+ends-there missing f r none e = record { answer = e; stores = tt }
+ends-there (halted s) f r none e = record { answer = e; stores = tt }
+
+-- and the one that goes on
+pub a-word : (m : Residue) (k : ℕ) → Found k ≡ residueAnswer m → (x : Positive) × (m ≡ residue x)
+a-word (residue n) k e = (n, refl)
+a-word missing k e = impossible (cc)
+a-word (halted s) k e = impossible (cc)
+
+module _ (T : Presentation) (steps width a b c : ℕ) where
+  abbrev to-b : Residue
+  to-b = under T steps width (a ∷ []) (b ∷ [])
+
+  abbrev to-c : Residue
+  to-c = under T steps width (a ∷ []) (c ∷ [])
 
   -- the case of each inner complement
-  side-by : (width : ℕ) → side T steps width a b c ≡ andThen (to-b width) (λ x. andThen (to-c width) (λ y. under T steps width x y))
+  side-by : side T steps width a b c ≡ andThen to-b (λ x. andThen to-c (λ y. under T steps width x y))
   unfolding side
-  side-by width = refl
+  side-by = refl
 
-  module _ (bytes : List ℕ) where
-    pub first-missing : Works (T .size) (to-b (length bytes)) bytes Missing → Works (T .size) (side T steps (length bytes) a b c) bytes Missing
-    first-missing w =
-        rw (side-by (length bytes), was-missing (to-b (length bytes)) w) (record { answer = refl; stores = tt })
+  pub first-ends : (bytes : List ℕ) (r : ResidueAnswer) → NoWord r → r ≡ residueAnswer to-b → Works (T .size) (side T steps width a b c) bytes r
+  first-ends bytes r none e = rw side-by (ends-there to-b (λ x. andThen to-c (λ y. under T steps width x y)) r none e)
 
-    pub first-halted : (s : Stop) → Works (T .size) (to-b (length bytes)) bytes (Halted s) → Works (T .size) (side T steps (length bytes) a b c) bytes (Halted s)
-    first-halted s w =
-        let h = was-halted (to-b (length bytes)) s w in
-        rw (side-by (length bytes), h .1) (record { answer = ap Halted (h .2); stores = tt })
+  module _ (x : Positive) (ex : to-b ≡ residue x) where
+    pub second-ends : (bytes : List ℕ) (r : ResidueAnswer) → NoWord r → r ≡ residueAnswer to-c → Works (T .size) (side T steps width a b c) bytes r
+    second-ends bytes r none e = rw (side-by, ex) (ends-there to-c (λ y. under T steps width x y) r none e)
 
-    module _ (x : Positive) (ex : to-b (length bytes) ≡ residue x) where
-      pub second-missing : Works (T .size) (to-c (length bytes)) bytes Missing → Works (T .size) (side T steps (length bytes) a b c) bytes Missing
-      second-missing w =
-          rw (side-by (length bytes), ex, was-missing (to-c (length bytes)) w) (record { answer = refl; stores = tt })
-
-      pub second-halted : (s : Stop) → Works (T .size) (to-c (length bytes)) bytes (Halted s) → Works (T .size) (side T steps (length bytes) a b c) bytes (Halted s)
-      second-halted s w =
-          let h = was-halted (to-c (length bytes)) s w in
-          rw (side-by (length bytes), ex, h .1) (record { answer = ap Halted (h .2); stores = tt })
-
-      pub both-found : (y : Positive) → to-c (length bytes) ≡ residue y → side T steps (length bytes) a b c ≡ under T steps (length bytes) x y
-      both-found y ey = side-by (length bytes) ∙ rw (ex, ey) refl
+    pub both-found : (y : Positive) → to-c ≡ residue y → side T steps width a b c ≡ under T steps width x y
+    both-found y ey = side-by ∙ rw (ex, ey) refl
 
 -- a residual of two letters that is found is their complement
 module _ (T : Presentation) (steps width a b : ℕ) {x : Positive} (e : under T steps width (a ∷ []) (b ∷ []) ≡ residue x) where

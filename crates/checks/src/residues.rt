@@ -4,7 +4,8 @@ ghost use lib.ListN.{length, getD};
 ghost use Rattle.model.specs.Word.{positive};
 ghost use Rattle.cells.specs.Stands.{Ready};
 ghost use Rattle.cells.specs.Layout.{cellAt};
-ghost use Rattle.checks.specs.Residues.{fromEnding, LettersWork, WordsWork, SideWorks};
+ghost use Rattle.checks.specs.Residues.{fromEnding, LettersMean, WordsWork, SideWorks};
+use cells::layout::UNDEFINED_LENGTH;
 use cells::layout::cell_at;
 use engine::gap::Gap;
 use engine::run::reversing;
@@ -12,7 +13,6 @@ use engine::step::push_inverse;
 use engine::step::push_word;
 use model::answers::Ending;
 use model::answers::Stop;
-use model::plain::BACK;
 
 // u\v: a word, which stands at the workspace's start; an undefined pair was met; or the reversing was stopped.
 pub enum Residue {
@@ -36,28 +36,28 @@ pub fn residue_of(ending: Ending) -> Residue
     }
 }
 
-// a\b.
-pub fn letter_residue(cells: &[u8], bytes: &mut [u8], a: u8, b: u8, budget: u16) -> Residue
+// a\b in `room` bytes, read off the cells of the pair. Its reversing has one step, from the inverse of a, then b, to C(a,b), then the inverse of C(b,a).
+pub fn letter_residue(cells: &[u8], room: usize, a: u8, b: u8, budget: u16) -> Residue
     requires { ⌜ Ready (now cells) (positive (a ∷ b ∷ [])) ⌝ }
-    ensures length { λ r. ⌜ length (now (bytes .exit)) ≡ length (now (bytes .entry)) ⌝ }
-    ensures works { λ r. ⌜ LettersWork (now (cells .entry)) a b budget (now (bytes .exit)) r ⌝ }
+    ensures { λ r. ⌜ LettersMean (now (cells .entry)) room a b budget r ⌝ }
 {
-    let end = bytes.len();
-    if end < 2 {
+    if room < 2 {
         return Residue::Halted(Stop::Room);
     }
-    bytes[0] = BACK + a;
-    bytes[end - 1] = b;
-    let ending = reversing(
-        cells,
-        bytes,
-        Gap {
-            left: 1,
-            right: end - 1,
-        },
-        budget,
-    );
-    residue_of(ending)
+    let to = cell_at(a, b);
+    let from = cell_at(b, a);
+    let x = cells[to] as usize;
+    let y = cells[from] as usize;
+    if x == UNDEFINED_LENGTH {
+        return Residue::Missing;
+    }
+    if budget == 0 {
+        return Residue::Halted(Stop::Budget);
+    }
+    if room < x + y {
+        return Residue::Halted(Stop::Room);
+    }
+    Residue::Word(x)
 }
 
 // C(a,b)\C(a,c), for pairs that are not undefined.
@@ -95,17 +95,14 @@ pub fn side(cells: &[u8], bytes: &mut [u8], a: u8, b: u8, c: u8, budget: u16) ->
     ensures length { λ r. ⌜ length (now (bytes .exit)) ≡ length (now (bytes .entry)) ⌝ }
     ensures works { λ r. ⌜ SideWorks (now (cells .entry)) a b c budget (now (bytes .exit)) r ⌝ }
 {
-    let to_b = letter_residue(cells, bytes, a, b, budget);
-    match to_b {
-        Residue::Missing => Residue::Missing,
-        Residue::Halted(stop) => Residue::Halted(stop),
-        Residue::Word(_) => {
-            let to_c = letter_residue(cells, bytes, a, c, budget);
-            match to_c {
-                Residue::Missing => Residue::Missing,
-                Residue::Halted(stop) => Residue::Halted(stop),
-                Residue::Word(_) => word_residue(cells, bytes, a, b, c, budget),
-            }
-        }
-    }
+    let room = bytes.len();
+    let to_b = letter_residue(cells, room, a, b, budget);
+    let Residue::Word(_) = to_b else {
+        return to_b;
+    };
+    let to_c = letter_residue(cells, room, a, c, budget);
+    let Residue::Word(_) = to_c else {
+        return to_c;
+    };
+    word_residue(cells, bytes, a, b, c, budget)
 }

@@ -1,72 +1,126 @@
 -- `checks::residues::letter_residue` meets its contract.
-use mathlib.Core.Path.{refl, sym, subst, _∙_}
+use mathlib.Core.Path.{_≡_, sym, ap, _∙_}
 use mathlib.Core.List.{[], _∷_}
-use Prim.Native.Nat.{_-_}
+use Prim.Native.Nat.{_≤_}
 use native.Mathlib.Omega.{arith}
-use lib.ListN.{length, length-set}
-use Rattle.model.specs.Checks.{under}
-use Rattle.engine.proofs.Loads.{loaded, load-searched, load-serves}
-use Rattle.checks.specs.Residues.{Works}
-use Rattle.checks.proofs.Residuals.{under-works, under-long, two, two-front, two-end}
+use lib.ListN.{length, getD}
+use Rattle.model.specs.Word.{positive}
+use Rattle.model.specs.Presentation.{Presentation}
+use Rattle.cells.specs.Stands.{Serves}
+use Rattle.cells.proofs.Rules.{open-cell, Rule}
+use Rattle.checks.specs.declared.residues.Residue.the-variants.{Word as Found}
+use Rattle.checks.proofs.Residuals.{letters-long, letters-open, letters-spent, letters-wide, letters-found}
+use Rattle.checks.proofs.CellWords.{rule-of}
 use borrow.Author.Needs.{needs}
 use Rattle.checks.proofs.residues.letter_residue.Statement.{statement}
 use Rattle.checks.proofs.residues.letter_residue.Tie as tie
 
+abbrev start : tie.Else1 → tie.Start
+start c = c .before .before
+
+abbrev roomy : tie.Else2 → tie.Else1
+roomy c = c .before .before .before .before .before
+
+abbrev begun : tie.Else2 → tie.Start
+begun c = start (roomy c)
+
+abbrev Pair : tie.Else2 → Presentation → Type 0
+Pair c T = Serves (begun c .args .cells .now) (positive (begun c .args .a ∷ begun c .args .b ∷ [])) T
+
+-- the two words of a pair that is not open
+words : (c : tie.Else2) (T : Presentation) → Pair c T → Rule (begun c .args .cells .now) T (begun c .args .a) (begun c .args .b)
+words c T t =
+    let s = begun c in
+    let to = c .before .before .before .before .cell-at in
+    rule-of t (s .args .a) (s .args .b) (t .lettered .0) (t .lettered .1 .0) (λ e. c .if2 .left (ap (λ i. getD (s .args .cells .now) i 0) (to .ensures) ∙ e))
+
+-- their lengths, where the code reads them
+to-count : (c : tie.Else2) (T : Presentation) (t : Pair c T)
+    → getD (begun c .args .cells .now) (c .before .before .before .before .cell-at .result) 0 ≡ length (words c T t .x)
+to-count c T t = ap (λ i. getD (begun c .args .cells .now) i 0) (c .before .before .before .before .cell-at .ensures) ∙ words c T t .to .count
+
+from-count : (c : tie.Else2) (T : Presentation) (t : Pair c T)
+    → getD (begun c .args .cells .now) (c .before .before .before .cell-at2 .result) 0 ≡ length (words c T t .y)
+from-count c T t = ap (λ i. getD (begun c .args .cells .now) i 0) (c .before .before .before .cell-at2 .ensures) ∙ words c T t .from .count
+
+some-room : (c : tie.Else2) → 2 ≤ begun c .args .room
+some-room c = omega (arith, roomy c .if1 .left)
+
 returns : tie.Need-returns
-returns c =
-    let s = c .before .before .before in
-    (refl, λ T t. under-long T (s .args .a ∷ []) (s .args .b ∷ []) (s .args .budget) (s .args .bytes .now) (c .if1 .taken))
+returns c T t =
+    let s = c .before .before in
+    letters-long T (s .args .room) (s .args .a) (s .args .b) (s .args .budget) (c .if1 .taken)
 
-add-bytes : tie.Need-add-bytes
-add-bytes c = search needs
+cell-at-requires : tie.Need-cell-at-requires
+cell-at-requires c κs = search needs
 
-slice-write-bytes : tie.Need-slice-write-bytes
-slice-write-bytes c = search needs
+cell-at-requires-2 : tie.Need-cell-at-requires-2
+cell-at-requires-2 c κs = search needs
 
-sub-bytes : tie.Need-sub-bytes
-sub-bytes c = search needs
+shared-slice-read-x : tie.Need-shared-slice-read-x
+shared-slice-read-x c = search needs
 
-slice-write-bytes-2 : tie.Need-slice-write-bytes-2
-slice-write-bytes-2 c = simp length-set (omega arith)
+cast-x : tie.Need-cast-x
+cast-x c = omega (arith, c .shared-slice-known2 .given (c .before .before .cell-at .result))
 
-sub-t12 : tie.Need-sub-t12
-sub-t12 c = search needs
+shared-slice-read-y : tie.Need-shared-slice-read-y
+shared-slice-read-y c = search needs
 
-reversing-requires : tie.Need-reversing-requires
-reversing-requires c κs =
-    let s = c .before .before .before .before in
-    let t = s .pre .1 in
-    (load-searched (two (s .args .bytes .now) (s .args .a) (s .args .b) (omega arith) (omega (arith, t .lettered .0 .high, t .stands .few)) (omega (arith, t .lettered .1 .0 .high, t .stands .few))) 1 (length (s .args .bytes .now) - 1) (s .args .a ∷ []) (s .args .b ∷ []) (omega arith) (simp length-set (omega arith)) (two-front (s .args .bytes .now) (s .args .a) (s .args .b) (omega arith) (omega (arith, t .lettered .0 .high, t .stands .few)) (omega (arith, t .lettered .1 .0 .high, t .stands .few))) (two-end (s .args .bytes .now) (s .args .a) (s .args .b) (omega arith) (omega (arith, t .lettered .0 .high, t .stands .few)) (omega (arith, t .lettered .1 .0 .high, t .stands .few))), (s .pre .0, load-serves (two (s .args .bytes .now) (s .args .a) (s .args .b) (omega arith) (omega (arith, t .lettered .0 .high, t .stands .few)) (omega (arith, t .lettered .1 .0 .high, t .stands .few))) 1 (length (s .args .bytes .now) - 1) (s .args .a ∷ []) (s .args .b ∷ []) (omega arith) (simp length-set (omega arith)) (two-front (s .args .bytes .now) (s .args .a) (s .args .b) (omega arith) (omega (arith, t .lettered .0 .high, t .stands .few)) (omega (arith, t .lettered .1 .0 .high, t .stands .few))) (two-end (s .args .bytes .now) (s .args .a) (s .args .b) (omega arith) (omega (arith, t .lettered .0 .high, t .stands .few)) (omega (arith, t .lettered .1 .0 .high, t .stands .few))) (t .stands) (t .lettered .0, tt) (t .lettered .1 .0, tt)))
-
-residue-of-requires : tie.Need-residue-of-requires
-residue-of-requires c κs = search needs
-
-same-length : tie.Need-same-length
-same-length c =
-    let s = c .before .before .before .before .before .before .before .before in
-    c .before .before .before .reversing .ensures .0 ∙ simp length-set
+cast-y : tie.Need-cast-y
+cast-y c = omega (arith, c .shared-slice-known3 .given (c .before .before .cell-at2 .result))
 
 returns-2 : tie.Need-returns-2
-returns-2 c =
-    let s = c .before .before .before .before .before .before .before .before in
-    let v = c .before .before .before .reversing in (
-      v .ensures .0 ∙ simp length-set,
-      λ T t. subst (Works (T .size) (under T (s .args .budget) (length (v .last .1 .0)) (s .args .a ∷ []) (s .args .b ∷ [])) (v .last .1 .0)) (sym (c .residue-of .ensures))
-          (under-works T (s .args .a ∷ []) (s .args .b ∷ []) (s .args .budget) (v .last .1 .0) (v .result)
-          (loaded (two (s .args .bytes .now) (s .args .a) (s .args .b) (omega arith) (omega (arith, t .lettered .0 .high, t .stands .few)) (omega (arith, t .lettered .1 .0 .high, t .stands .few))) 1 (length (s .args .bytes .now) - 1) (s .args .a ∷ []) (s .args .b ∷ []) (omega arith) (simp length-set (omega arith)) (two-front (s .args .bytes .now) (s .args .a) (s .args .b) (omega arith) (omega (arith, t .lettered .0 .high, t .stands .few)) (omega (arith, t .lettered .1 .0 .high, t .stands .few))) (two-end (s .args .bytes .now) (s .args .a) (s .args .b) (omega arith) (omega (arith, t .lettered .0 .high, t .stands .few)) (omega (arith, t .lettered .1 .0 .high, t .stands .few)))) (v .ensures .1 T (load-serves (two (s .args .bytes .now) (s .args .a) (s .args .b) (omega arith) (omega (arith, t .lettered .0 .high, t .stands .few)) (omega (arith, t .lettered .1 .0 .high, t .stands .few))) 1 (length (s .args .bytes .now) - 1) (s .args .a ∷ []) (s .args .b ∷ []) (omega arith) (simp length-set (omega arith)) (two-front (s .args .bytes .now) (s .args .a) (s .args .b) (omega arith) (omega (arith, t .lettered .0 .high, t .stands .few)) (omega (arith, t .lettered .1 .0 .high, t .stands .few))) (two-end (s .args .bytes .now) (s .args .a) (s .args .b) (omega arith) (omega (arith, t .lettered .0 .high, t .stands .few)) (omega (arith, t .lettered .1 .0 .high, t .stands .few))) (t .stands) (t .lettered .0, tt) (t .lettered .1 .0, tt)))),
-    )
+returns-2 c T t =
+    let k = c .before .before .before .before .before in
+    let s = start k in
+    let first-byte = ap (λ i. getD (s .args .cells .now) i 0) (sym (c .before .before .before .before .cell-at .ensures)) ∙ c .if2 .taken in
+    letters-open T (s .args .room) (s .args .a) (s .args .b) (omega (arith, k .if1 .left)) (s .args .budget)
+    (open-cell (s .args .cells .now) T (t .stands) (s .args .a) (s .args .b) (t .lettered .0) (t .lettered .1 .0) first-byte)
+
+returns-3 : tie.Need-returns-3
+returns-3 c T t =
+    let k = c .before in
+    let s = begun k in
+    let w = words k T t in
+    letters-spent T (s .args .room) (s .args .a) (s .args .b) (some-room k) (w .x) (w .y) (w .rule) (s .args .budget) (c .if3 .taken)
+
+add-if4 : tie.Need-add-if4
+add-if4 c =
+    let k = c .before in
+    let T = begun k .pre .0 in
+    let t = begun k .pre .1 in
+    omega (arith, to-count k T t, words k T t .to .short, from-count k T t, words k T t .from .short)
+
+returns-4 : tie.Need-returns-4
+returns-4 c T t =
+    let k = c .before .before in
+    let s = begun k in
+    let w = words k T t in
+    letters-wide T (s .args .room) (s .args .a) (s .args .b) (some-room k) (w .x) (w .y) (w .rule) (s .args .budget) (c .before .if3 .left)
+    (omega (arith, to-count k T t, from-count k T t, c .if4 .taken))
+
+returns-5 : tie.Need-returns-5
+returns-5 c T t =
+    let k = c .before .before in
+    let s = begun k in
+    let w = words k T t in
+    ap Found (to-count k T t)
+    ∙ letters-found T (s .args .room) (s .args .a) (s .args .b) (some-room k) (w .x) (w .y) (w .rule) (s .args .budget) (c .before .if3 .left)
+    (omega (arith, to-count k T t, from-count k T t, c .if4 .left))
 
 pub letter-residue-spec : {M : Type 1} → statement M
 letter-residue-spec =
     tie.close
     (tie.spec
     returns
-    add-bytes
-    slice-write-bytes
-    sub-bytes
-    slice-write-bytes-2
-    sub-t12
-    reversing-requires
-    residue-of-requires
-    same-length
-    returns-2)
+    cell-at-requires
+    cell-at-requires-2
+    shared-slice-read-x
+    cast-x
+    shared-slice-read-y
+    cast-y
+    returns-2
+    returns-3
+    add-if4
+    returns-4
+    returns-5)

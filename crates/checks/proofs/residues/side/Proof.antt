@@ -1,120 +1,125 @@
 -- `checks::residues::side` meets its contract.
-use mathlib.Core.Path.{ap, subst, _∙_}
+use mathlib.Core.Path.{_≡_, refl, sym, ap, _∙_}
 use mathlib.Core.List.{[], _∷_}
+use mathlib.Core.Logic.{⊎-elim}
+use native.Mathlib.Omega.{arith}
+use denote.Enum.Declared.{tagOf}
+use types.Run.{OneOf}
 use lib.ListN.{length}
-use Rattle.model.specs.Checks.{under}
-use Rattle.checks.specs.Residues.{Works}
-use Rattle.checks.proofs.Sides.{was-found, first-missing, first-halted, second-missing, second-halted, both-found, found-rule, found-cell}
+use Rattle.model.specs.Word.{Positive, positive}
+use Rattle.model.specs.Presentation.{Presentation}
+use Rattle.model.specs.Checks.{Residue, residue, under}
+use Rattle.cells.specs.Stands.{Serves}
+use Rattle.checks.specs.declared.residues.Residue.{Residue as ResidueAnswer}
+use Rattle.checks.specs.declared.residues.Residue.the-variants.{Word, Missing, Halted}
+use Rattle.checks.proofs.residues.Residue.{the-type}
+use Rattle.checks.proofs.Sides.{without-third, without-second, NoWord, a-word, first-ends, second-ends, both-found, found-rule, found-cell}
 use borrow.Author.Needs.{needs}
 use Rattle.checks.proofs.residues.side.Statement.{statement}
 use Rattle.checks.proofs.residues.side.Tie as tie
 
+abbrev start : tie.After-letter-residue → tie.Start
+start c = c .before .before .before
+
+abbrev Three : tie.After-letter-residue → Presentation → Type 0
+Three c T = Serves (start c .args .cells .now) (positive (start c .args .a ∷ start c .args .b ∷ start c .args .c ∷ [])) T
+
+abbrev to-b : tie.After-letter-residue → Presentation → Residue
+to-b c T = under T (start c .args .budget) (length (start c .args .bytes .now)) (start c .args .a ∷ []) (start c .args .b ∷ [])
+
+abbrev to-c : tie.After-letter-residue → Presentation → Residue
+to-c c T = under T (start c .args .budget) (length (start c .args .bytes .now)) (start c .args .a ∷ []) (start c .args .c ∷ [])
+
+abbrev first : tie.After-enum-told → tie.After-letter-residue
+first c = c .before .before
+
+abbrev second : tie.After-letter-residue2 → tie.After-enum-told
+second c = c .before
+
+abbrev both : tie.After-enum-told2 → tie.After-letter-residue2
+both c = c .before .before
+
+-- the inner complements, where they are words
+word-b : (c : tie.After-enum-told) (T : Presentation) → Three (first c) T → (x : Positive) × (to-b (first c) T ≡ residue x)
+word-b c T t =
+    a-word (to-b (first c) T) (c .enum-told .given .0 .0)
+    (sym (c .enum-told .given .1) ∙ first c .letter-residue .ensures T (without-third t))
+
+word-c : (c : tie.After-enum-told2) (T : Presentation) → Three (first (second (both c))) T → (y : Positive) × (to-c (first (second (both c))) T ≡ residue y)
+word-c c T t =
+    a-word (to-c (first (second (both c))) T) (c .enum-told2 .given .0 .0)
+    (sym (c .enum-told2 .given .1) ∙ both c .letter-residue2 .ensures T (without-second t))
+
+-- the other variants than `Word`
+no-word : (r : ResidueAnswer) → OneOf (1 ∷ 2 ∷ []) (tagOf the-type r) → NoWord r
+no-word (Word k) h = ⊎-elim (λ e. omega arith) (λ e. omega arith) h
+no-word Missing h = tt
+no-word (Halted s) h = tt
+
 letter-residue-requires : tie.Need-letter-residue-requires
-letter-residue-requires c κs = let s = c .before .before .before in (s .pre .0, record { stands = s .pre .1 .stands; lettered = (s .pre .1 .lettered .0, (s .pre .1 .lettered .1 .0, tt)) })
+letter-residue-requires c κs = let s = c .before .before in (s .pre .0, without-third (s .pre .1))
 
 enum-told : tie.Need-enum-told
 enum-told c = search needs
 
-enum-known-to-b : tie.Need-enum-known-to-b
-enum-known-to-b c = search needs
+returns : tie.Need-returns
+returns c =
+    let k = c .before in
+    let a = start k .args in (
+      refl,
+      λ T t. first-ends T (a .budget) (length (a .bytes .now)) (a .a) (a .b) (a .c) (a .bytes .now) (k .letter-residue .result)
+          (no-word (k .letter-residue .result) (c .match .keys2)) (k .letter-residue .ensures T (without-third t)),
+    )
+
+letter-residue-requires-2 : tie.Need-letter-residue-requires-2
+letter-residue-requires-2 c κs = let s = start (first c) in (s .pre .0, without-second (s .pre .1))
 
 enum-told-2 : tie.Need-enum-told-2
 enum-told-2 c = search needs
 
-letter-residue-requires-2 : tie.Need-letter-residue-requires-2
-letter-residue-requires-2 c κs = let s = c .before .before .before .before .before .before .before .before .before in (s .pre .0, record { stands = s .pre .1 .stands; lettered = (s .pre .1 .lettered .0, (s .pre .1 .lettered .1 .1 .0, tt)) })
-
-enum-told-3 : tie.Need-enum-told-3
-enum-told-3 c = search needs
-
-enum-known-to-c : tie.Need-enum-known-to-c
-enum-known-to-c c = search needs
-
-enum-told-4 : tie.Need-enum-told-4
-enum-told-4 c = search needs
+returns-2 : tie.Need-returns-2
+returns-2 c =
+    let k = c .before in
+    let a = start (first (second k)) .args in (
+      refl,
+      λ T t. let x = word-b (second k) T t in
+          second-ends T (a .budget) (length (a .bytes .now)) (a .a) (a .b) (a .c) (x .0) (x .1) (a .bytes .now) (k .letter-residue2 .result)
+          (no-word (k .letter-residue2 .result) (c .match2 .keys2)) (k .letter-residue2 .ensures T (without-second t)),
+    )
 
 word-residue-requires : tie.Need-word-residue-requires
 word-residue-requires c κs =
-    let s = c .before .before .before .before .before .before .before .before .before .before .before .before .before .before .before in
-    let v = c .before .before .before .before .before .before .before .before .before .before .before .letter-residue in
-    let u = c .before .before .before .before .before .letter-residue2 in
+    let k = c .before in
+    let s = start (first (second (both k))) in
+    let a = s .args in
     let T = s .pre .0 in
-    let t = s .pre .1 in
-    let w = (was-found (under T (s .args .budget) (length (v .last .1 .0)) (s .args .a ∷ []) (s .args .b ∷ [])) (c .before .before .before .before .before .before .before .enum-told2 .given .0 .0) (subst (Works (T .size) (under T (s .args .budget) (length (v .last .1 .0)) (s .args .a ∷ []) (s .args .b ∷ [])) (v .last .1 .0)) (c .before .before .before .before .before .before .before .enum-told2 .given .1) (v .ensures .1 T (record { stands = t .stands; lettered = (t .lettered .0, (t .lettered .1 .0, tt)) })))) in
-    let z = (was-found (under T (s .args .budget) (length (u .last .1 .0)) (s .args .a ∷ []) (s .args .c ∷ [])) (c .before .enum-told4 .given .0 .0) (subst (Works (T .size) (under T (s .args .budget) (length (u .last .1 .0)) (s .args .a ∷ []) (s .args .c ∷ [])) (u .last .1 .0)) (c .before .enum-told4 .given .1) (u .ensures .1 T (record { stands = t .stands; lettered = (t .lettered .0, (t .lettered .1 .1 .0, tt)) })))) in (
+    let t = s .pre .1 in (
       s .pre,
       (
-        found-cell T (s .args .budget) (length (v .last .1 .0)) (s .args .a) (s .args .b) (w .is) t (t .lettered .0) (t .lettered .1 .0),
-        found-cell T (s .args .budget) (length (u .last .1 .0)) (s .args .a) (s .args .c) (z .is) t (t .lettered .0) (t .lettered .1 .1 .0),
+        found-cell T (a .budget) (length (a .bytes .now)) (a .a) (a .b) (word-b (second (both k)) T t .1) t (t .lettered .0) (t .lettered .1 .0),
+        found-cell T (a .budget) (length (a .bytes .now)) (a .a) (a .c) (word-c k T t .1) t (t .lettered .0) (t .lettered .1 .1 .0),
       ),
     )
 
 same-length : tie.Need-same-length
-same-length c = c .before .before .before .before .letter-residue .kept .1 .0
-
-returns : tie.Need-returns
-returns c =
-    let s = c .before .before .before .before .before .before .before .before in
-    let v = c .before .before .before .before .letter-residue in
-    (v .ensures .0, λ T t. first-missing T (s .args .budget) (s .args .a) (s .args .b) (s .args .c) (v .last .1 .0) (subst (Works (T .size) (under T (s .args .budget) (length (v .last .1 .0)) (s .args .a ∷ []) (s .args .b ∷ [])) (v .last .1 .0)) (c .enum-told .given .1) (v .ensures .1 T (record { stands = t .stands; lettered = (t .lettered .0, (t .lettered .1 .0, tt)) }))))
-
-same-length-2 : tie.Need-same-length-2
-same-length-2 c = c .before .before .before .before .before .letter-residue .kept .1 .0
-
-returns-2 : tie.Need-returns-2
-returns-2 c =
-    let s = c .before .before .before .before .before .before .before .before .before in
-    let v = c .before .before .before .before .before .letter-residue in
-    (v .ensures .0, λ T t. first-halted T (s .args .budget) (s .args .a) (s .args .b) (s .args .c) (v .last .1 .0) (c .before .to-b .given .0 .0) (subst (Works (T .size) (under T (s .args .budget) (length (v .last .1 .0)) (s .args .a ∷ []) (s .args .b ∷ [])) (v .last .1 .0)) (c .before .to-b .given .1) (v .ensures .1 T (record { stands = t .stands; lettered = (t .lettered .0, (t .lettered .1 .0, tt)) }))))
-
-same-length-3 : tie.Need-same-length-3
-same-length-3 c =
-    c .before .before .before .before .letter-residue2 .kept .1 .0 ∙
-    c .before .before .before .before .before .before .before .before .before .before .letter-residue .kept .1 .0
+same-length c = search needs
 
 returns-3 : tie.Need-returns-3
 returns-3 c =
-    let s = c .before .before .before .before .before .before .before .before .before .before .before .before .before .before in
-    let v = c .before .before .before .before .before .before .before .before .before .before .letter-residue in
-    let u = c .before .before .before .before .letter-residue2 in (
-      u .ensures .0 ∙ v .ensures .0,
-      λ T t. let w = (was-found (under T (s .args .budget) (length (v .last .1 .0)) (s .args .a ∷ []) (s .args .b ∷ [])) (c .before .before .before .before .before .before .enum-told2 .given .0 .0) (subst (Works (T .size) (under T (s .args .budget) (length (v .last .1 .0)) (s .args .a ∷ []) (s .args .b ∷ [])) (v .last .1 .0)) (c .before .before .before .before .before .before .enum-told2 .given .1) (v .ensures .1 T (record { stands = t .stands; lettered = (t .lettered .0, (t .lettered .1 .0, tt)) })))) in second-missing T (s .args .budget) (s .args .a) (s .args .b) (s .args .c) (u .last .1 .0) (w .word) (ap (λ i. under T (s .args .budget) i (s .args .a ∷ []) (s .args .b ∷ [])) (u .ensures .0) ∙ w .is) (subst (Works (T .size) (under T (s .args .budget) (length (u .last .1 .0)) (s .args .a ∷ []) (s .args .c ∷ [])) (u .last .1 .0)) (c .enum-told3 .given .1) (u .ensures .1 T (record { stands = t .stands; lettered = (t .lettered .0, (t .lettered .1 .1 .0, tt)) }))),
-    )
-
-same-length-4 : tie.Need-same-length-4
-same-length-4 c =
-    c .before .before .before .before .before .letter-residue2 .kept .1 .0 ∙
-    c .before .before .before .before .before .before .before .before .before .before .before .letter-residue .kept .1 .0
-
-returns-4 : tie.Need-returns-4
-returns-4 c =
-    let s = c .before .before .before .before .before .before .before .before .before .before .before .before .before .before .before in
-    let v = c .before .before .before .before .before .before .before .before .before .before .before .letter-residue in
-    let u = c .before .before .before .before .before .letter-residue2 in (
-      u .ensures .0 ∙ v .ensures .0,
-      λ T t. let w = (was-found (under T (s .args .budget) (length (v .last .1 .0)) (s .args .a ∷ []) (s .args .b ∷ [])) (c .before .before .before .before .before .before .before .enum-told2 .given .0 .0) (subst (Works (T .size) (under T (s .args .budget) (length (v .last .1 .0)) (s .args .a ∷ []) (s .args .b ∷ [])) (v .last .1 .0)) (c .before .before .before .before .before .before .before .enum-told2 .given .1) (v .ensures .1 T (record { stands = t .stands; lettered = (t .lettered .0, (t .lettered .1 .0, tt)) })))) in second-halted T (s .args .budget) (s .args .a) (s .args .b) (s .args .c) (u .last .1 .0) (w .word) (ap (λ i. under T (s .args .budget) i (s .args .a ∷ []) (s .args .b ∷ [])) (u .ensures .0) ∙ w .is) (c .before .to-c .given .0 .0) (subst (Works (T .size) (under T (s .args .budget) (length (u .last .1 .0)) (s .args .a ∷ []) (s .args .c ∷ [])) (u .last .1 .0)) (c .before .to-c .given .1) (u .ensures .1 T (record { stands = t .stands; lettered = (t .lettered .0, (t .lettered .1 .1 .0, tt)) }))),
-    )
-
-same-length-5 : tie.Need-same-length-5
-same-length-5 c =
-    c .before .before .word-residue .kept .1 .0 ∙ c .before .before .before .before .before .before .before .before .letter-residue2 .kept .1 .0 ∙
-    c .before .before .before .before .before .before .before .before .before .before .before .before .before .before .letter-residue .kept .1 .0
-
-returns-5 : tie.Need-returns-5
-returns-5 c =
-    let s = c .before .before .before .before .before .before .before .before .before .before .before .before .before .before .before .before .before .before in
-    let v = c .before .before .before .before .before .before .before .before .before .before .before .before .before .before .letter-residue in
-    let u = c .before .before .before .before .before .before .before .before .letter-residue2 in
+    let k = c .before .before .before .before in
+    let a = start (first (second (both k))) .args in
     let q = c .before .before .word-residue in (
-      q .ensures .0 ∙ (u .ensures .0 ∙ v .ensures .0),
+      q .ensures .0,
       λ T t.
-          let w = (was-found (under T (s .args .budget) (length (v .last .1 .0)) (s .args .a ∷ []) (s .args .b ∷ [])) (c .before .before .before .before .before .before .before .before .before .before .enum-told2 .given .0 .0) (subst (Works (T .size) (under T (s .args .budget) (length (v .last .1 .0)) (s .args .a ∷ []) (s .args .b ∷ [])) (v .last .1 .0)) (c .before .before .before .before .before .before .before .before .before .before .enum-told2 .given .1) (v .ensures .1 T (record { stands = t .stands; lettered = (t .lettered .0, (t .lettered .1 .0, tt)) })))) in
-          let z = (was-found (under T (s .args .budget) (length (u .last .1 .0)) (s .args .a ∷ []) (s .args .c ∷ [])) (c .before .before .before .before .enum-told4 .given .0 .0) (subst (Works (T .size) (under T (s .args .budget) (length (u .last .1 .0)) (s .args .a ∷ []) (s .args .c ∷ [])) (u .last .1 .0)) (c .before .before .before .before .enum-told4 .given .1) (u .ensures .1 T (record { stands = t .stands; lettered = (t .lettered .0, (t .lettered .1 .1 .0, tt)) })))) in
-          let ex = found-rule T (s .args .budget) (length (v .last .1 .0)) (s .args .a) (s .args .b) (w .is) in
-          let ey = found-rule T (s .args .budget) (length (u .last .1 .0)) (s .args .a) (s .args .c) (z .is) in
-          rw (both-found T (s .args .budget) (s .args .a) (s .args .b) (s .args .c) (q .last .1 .0) (w .word) (ap (λ i. under T (s .args .budget) i (s .args .a ∷ []) (s .args .b ∷ [])) (q .ensures .0 ∙ u .ensures .0) ∙ w .is) (z .word)
-          (ap (λ i. under T (s .args .budget) i (s .args .a ∷ []) (s .args .c ∷ [])) (q .ensures .0) ∙ z .is))
-          (q .ensures .1 T t (w .word) _ (z .word) _ ex ey),
+          let x = word-b (second (both k)) T t in
+          let y = word-c k T t in
+          let x-rule = found-rule T (a .budget) (length (a .bytes .now)) (a .a) (a .b) (x .1) in
+          let y-rule = found-rule T (a .budget) (length (a .bytes .now)) (a .a) (a .c) (y .1) in
+          let whole =
+          both-found T (a .budget) (length (q .last .1 .0)) (a .a) (a .b) (a .c)
+          (x .0) (ap (λ i. under T (a .budget) i (a .a ∷ []) (a .b ∷ [])) (q .ensures .0) ∙ x .1)
+          (y .0) (ap (λ i. under T (a .budget) i (a .a ∷ []) (a .c ∷ [])) (q .ensures .0) ∙ y .1) in
+          rw whole (q .ensures .1 T t (x .0) _ (y .0) _ x-rule y-rule),
     )
 
 pub side-spec : {M : Type 1} → statement M
@@ -123,20 +128,10 @@ side-spec =
     (tie.spec
     letter-residue-requires
     enum-told
-    enum-known-to-b
-    enum-told-2
+    returns
     letter-residue-requires-2
-    enum-told-3
-    enum-known-to-c
-    enum-told-4
+    enum-told-2
+    returns-2
     word-residue-requires
     same-length
-    returns
-    same-length-2
-    returns-2
-    same-length-3
-    returns-3
-    same-length-4
-    returns-4
-    same-length-5
-    returns-5)
+    returns-3)
