@@ -79,16 +79,27 @@ fn residue(ending: Ending) -> Residue {
     }
 }
 
+/// a\b in `room` bytes, read off the cells of the pair.
+fn letter_residue(cells: &Cells, room: usize, a: u8, b: u8, allowance: u16) -> Residue {
+    let (x, y) = (cells[cell(a, b)], cells[cell(b, a)]);
+    if room < 2 {
+        Residue::Stopped(12)
+    } else if x == OPEN {
+        Residue::Missing
+    } else if allowance == 0 {
+        Residue::Stopped(11)
+    } else if room < usize::from(x) + usize::from(y) {
+        Residue::Stopped(12)
+    } else {
+        Residue::Word(x.into())
+    }
+}
+
 /// (a\b)\(a\c), at the start of `bytes`.
 fn side(cells: &Cells, bytes: &mut [u8], a: u8, b: u8, c: u8, allowance: u16) -> Residue {
     let end = bytes.len();
     for to in [b, c] {
-        if end < 2 {
-            return Residue::Stopped(12);
-        }
-        bytes[0] = 128 + a;
-        bytes[end - 1] = to;
-        match residue(reversing(cells, bytes, 1, end - 1, allowance)) {
+        match letter_residue(cells, end, a, to, allowance) {
             Residue::Word(_) => {}
             other => return other,
         }
