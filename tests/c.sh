@@ -1,5 +1,5 @@
 #!/bin/sh
-# The C interface: what the archive wants of a linker, the version that the specification names, the example of README and a program that joins two programs,
+# The C interface: what the archive wants of a linker, the version that the specification names, the example of docs/SERVICES.md and a program that joins two programs,
 # the header's sizes and stack, long texts, then each call from C and from C++, all compiled with the strictest warnings as errors. The last line is
 # 'N passed, M failed' over all of it.
 cd "$(dirname "$0")/.." || exit 1
@@ -33,10 +33,10 @@ sheet() {
     failed=$((failed + $2))
 }
 
-sed -n '/^```c$/,/^```$/p' README.md | sed '1d;$d' > target/example.c
+sed -n '/^```c$/,/^```$/p' docs/SERVICES.md | sed '1d;$d' > target/example.c
 gcc -std=c11 $strict target/example.c $library -o target/example || exit 1
 [ "$(target/example)" = "result 0, steps 5" ]
-one "the example of README" $?
+one "the example of docs/SERVICES.md" $?
 gcc -std=c11 $strict tests/joined.c $library -o target/joined || exit 1
 [ "$(target/joined)" = "same after 5 steps
 a chain of 5 bytes joins them" ]

@@ -11,17 +11,25 @@ listed() {
     echo
     echo 'Each is one wrong version of a crate, which the check must refuse because a fact no longer holds. Made from the edits by `sh tests/edits.sh --write`.'
     echo
-    echo 'The fourth column names an input at which the version is wrong. Tables B, S, O and so on, W, A, k and z are those of section 10 of'
+    echo 'Behind each stands an input at which the version is wrong. Tables B, S, O and so on, W, A, k and z are those of section 10 of'
     echo '`SPECIFICATION.md`; what is not named is as in 2.4 there. An edit is of `src/` or `specs/`. What it changes in a proof beside that only fits the'
     echo 'proof to the edited shape, so that the fact alone is refused, and its line `# fits the proof:` says what. An edit of `proofs/` alone changes what a'
     echo 'public law there states, and its line `# wrong law:` names the law. Versions of different functions or definitions may be tried in one edit, which'
-    echo 'the last column names; then each has a line `# refused at:` with the file and the need where it is refused, and `tests/looks.sh` demands every such'
+    echo 'stands in brackets; then each has a line `# refused at:` with the file and the need where it is refused, and `tests/looks.sh` demands every such'
     echo 'refusal.'
     echo
-    echo '| crate | version | wrong version | where it is wrong | tried in |'
-    echo '|---|---|---|---|---|'
-    awk -f tests/versions.awk "$1"/crates/*/must-fail/*.edit | sed 's/|/\\|/g' |
-        awk -F '\t' '{ printf "| `%s` | `%s` | %s | %s | %s |\n", $1, $3, $4, $5, $2 == $3 ? "" : "`" $2 "`" }'
+    awk -f tests/versions.awk "$1"/crates/*/must-fail/*.edit | awk -F '\t' '
+        # The words of a text in lines of at most 160 characters.
+        function wrapped(text, begin, words, n, i, line) {
+            n = split(text, words, " ")
+            line = begin words[1]
+            for (i = 2; i <= n; i++) {
+                if (length(line) + 1 + length(words[i]) > 160) { print line; line = "  " words[i] } else line = line " " words[i]
+            }
+            print line
+        }
+        $1 != crate { if (crate != "") print ""; crate = $1; print "## `" crate "`"; print "" }
+        { wrapped("**`" $3 "`**" ($2 == $3 ? "" : " (`" $2 "`)") ": " $4 ". Wrong at: " $5 ".", "- ") }'
 }
 
 # faults TREE: each version that does not say in its comments what it must

@@ -21,13 +21,13 @@ heads() {
 # Every public function promises something of what it returns or leaves.
 promises() { heads "$1" | grep -v ' ensures ' | cut -d' ' -f1,2; }
 
-# A service, as README names it, and a function for C ask nothing of their caller.
+# A service, as docs/SERVICES.md names it, and a function for C ask nothing of their caller.
 asks_nothing() {
-    sed -n 's/^| [^|]* | `\([a-z_]*\)::\([a-z_]*\)::\([a-z_]*\)` |.*/crates\/\1\/src\/\2.rt \3/p' "$1/README.md" > "$2/services"
+    sed -n 's/^| [^|]* | `\([a-z_]*\)::\([a-z_]*\)::\([a-z_]*\)` |.*/crates\/\1\/src\/\2.rt \3/p' "$1/docs/SERVICES.md" > "$2/services"
     heads "$1" > "$2/heads"
-    [ "$(wc -l < "$2/services")" -ge 9 ] || echo "README names fewer than nine services"
+    [ "$(wc -l < "$2/services")" -ge 9 ] || echo "docs/SERVICES.md names fewer than nine services"
     while read -r file name; do
-        grep -q "^$file $name " "$2/heads" || echo "$file $name: named in README and not there"
+        grep -q "^$file $name " "$2/heads" || echo "$file $name: named in docs/SERVICES.md and not there"
         grep "^$file $name .* requires " "$2/heads" | cut -d' ' -f1,2
     done < "$2/services"
     grep ' extern "C" fn ' "$2/heads" | grep ' requires ' | cut -d' ' -f1,2
@@ -115,10 +115,11 @@ sees() {
     mkdir -p "$work/tree/crates/x/src" "$work/tree/target/log" "$work/tree/.ci"
 }
 
-# puts README and the files of the services that it names into the tree
+# puts the list of services and the files that it names into the tree
 services() {
-    cp README.md "$work/tree/"
-    for file in $(sed -n 's/^| [^|]* | `\([a-z_]*\)::\([a-z_]*\)::[a-z_]*` |.*/crates\/\1\/src\/\2.rt/p' README.md); do
+    mkdir -p "$work/tree/docs"
+    cp docs/SERVICES.md "$work/tree/docs/"
+    for file in $(sed -n 's/^| [^|]* | `\([a-z_]*\)::\([a-z_]*\)::[a-z_]*` |.*/crates\/\1\/src\/\2.rt/p' docs/SERVICES.md); do
         mkdir -p "$work/tree/$(dirname "$file")"
         cp "$file" "$work/tree/$file"
     done
