@@ -1,6 +1,8 @@
 -- What a word of either sign does to positive words from the left: a forward letter a puts a before a word, a back letter a takes it off, the last letter of
 -- the word first. Words that a chain of steps joins (specification 6.18) act alike on a word that is long enough; so a numerator and a denominator are
 -- equivalent where the empty word is joined to the one followed by the undoing of the other. No group of fractions is made.
+-- From cancelling on both sides and common right multiples, which Signed.antt supplies.
+-- Main names: `Acts`, `Multiple`, `carried-on`, `fraction-equal`.
 use mathlib.Core.Path.{_≡_, sym, subst}
 use mathlib.Core.List.{[], _∷_, _++_, append-assoc, append-nil}
 use Prim.Native.Nat.{ℕ}

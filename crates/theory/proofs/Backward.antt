@@ -1,5 +1,6 @@
 -- Where a table has a mirror, words are joined exactly if they are joined under the mirror when read backward: each relation of the one is a
--- relation of the other, read backward.
+-- relation of the other, read backward (specification 3.8).
+-- From what model/proofs/Mirrors.antt says of relations by their last letters, and the definitions. Main name: `joined-backward`.
 use mathlib.Core.Path.{_≡_, refl, sym, ap, ap₂, subst, _∙_}
 use mathlib.Core.Logic.{_≢_}
 use mathlib.Core.List.{List, [], _∷_, _++_, reverse, append-assoc, reverse-cons, reverse-append, reverse-reverse, List·Memᴰ, List·Memᴰ·head, List·Memᴰ·tail}

@@ -1,5 +1,7 @@
 -- Under relations whose sides weigh the same, the weight of the forward letters less that of the back letters is the same at every word of a
 -- reversing, in any order of steps: a step takes b away from the one and a from the other, and adds C(a,b) and C(b,a).
+-- From the weight check (`checked-homogeneous`), after the norm of [D1] Lemma 1.4.
+-- Main names: `balance-kept`, `ends-weigh-alike`, `weight-balanced`, `weight-meaning`.
 use mathlib.Core.Path.{_≡_, refl, ap, _∙_}
 use mathlib.Core.List.{[], _∷_, _++_}
 use Prim.Native.Nat.{ℕ, _+_}

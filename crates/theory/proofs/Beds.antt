@@ -1,5 +1,6 @@
--- Beds under the braid table (specification 6.11): joined words and the words of a reversing leave equal beds; what the totals add up to; and that an
--- answer's bytes are read as the bed.
+-- Under the braid table (specification 6.11) joined words and the words of a reversing leave equal beds, from every bed of as many places.
+-- From the definitions: the relations of 2.4 hold of crossings (Crossings.antt), and the test for the braid table tells them (Braiding.antt).
+-- Main name: `equal-beds`.
 use mathlib.Core.Path.{_≡_, refl, sym, ap, subst, _∙_}
 use mathlib.Core.Logic.{_≢_}
 use mathlib.Core.List.{[], _∷_, _++_}

@@ -1,4 +1,5 @@
 -- What the test for the braid table says (specification 2.4): every pair of the table is as there, or one is not.
+-- From the definitions alone. Main names: `braid-pairs`, `braid-words`, `all-braid`, `not-braid`.
 use mathlib.Core.Path.{_≡_, refl, ap, _∙_}
 use mathlib.Core.Logic.{_≢_}
 use mathlib.Core.List.{List, [], _∷_, _++_, List·Memᴰ, List·Memᴰ·head, List·Memᴰ·tail}

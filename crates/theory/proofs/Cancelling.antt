@@ -1,5 +1,6 @@
 -- Where equivalent words reverse to the empty word: u m is equivalent to v exactly if the diagram of u and v has an empty denominator and a
 -- numerator equivalent to m. So what follows u in a word is determined up to equivalence, and u can be cancelled on the left ([D1] section 1).
+-- From the laws of diagrams (Grid.antt), after [D1] Lemmas 1.3 and 1.4. Main names: `multiple`, `divides`, `quotients-agree`, `cancel-left`.
 use mathlib.Core.Path.{_≡_, refl, sym}
 use mathlib.Core.List.{[], _++_, append-nil, append-eq-nil-iff}
 use Prim.Native.Nat.{ℕ}

@@ -1,5 +1,7 @@
 -- What the checks of specification 4 show: each reversing, each side and each triple, and from the lists of pairs and triples all of them. A
 -- triple passes only where the cube rule holds and fails only where it does not. A triple's rule is the cube property of [D2].
+-- From the endings of a reversing (model/proofs/Endings.antt) and that a side is one word at most (Residuals.antt).
+-- Main names: `triple-says`, `checked-weight`, `checked-rule`, `cube-exactly`.
 use mathlib.Core.Path.{_≡_, refl, ap, subst₂}
 use mathlib.Core.Logic.{_≢_}
 use mathlib.Core.List.{List, [], _∷_, _++_, List·Memᴰ, List·Memᴰ·head, List·Memᴰ·tail}

@@ -1,5 +1,7 @@
 -- A table that the weight check passes is homogeneous; one that `cleared` passes, at any budget and room, also satisfies the cube rule on all
 -- different letters in every order. So it satisfies the condition on letters from which completeness follows ([D3] Prop. 4.4; [D2] Prop. 6.1).
+-- From what the checks show (Checked.antt), and completeness (Completeness.antt).
+-- Main names: `checked-homogeneous`, `clear-homogeneous`, `clear-rule`, `clear-cube`, `clear-complete`.
 use mathlib.Core.Path.{_≡_, refl, sym, ap, _∙_}
 use mathlib.Core.Logic.{_≢_}
 use mathlib.Core.List.{[], _∷_}

@@ -1,5 +1,7 @@
 -- What a comparison's outcome means once the table clears: joined words reverse to the empty word and no others do, so each verdict is right
 -- and every other outcome is a stop ([D3] Prop. 4.4 and [D2] Prop. 6.1, for the tables that the two checks pass).
+-- From `clear-complete` for joined words, and from `derives-empty` for those that reverse to the empty word.
+-- Main names: `joined-empties`, `empties-joined`, `comparison-means`, `same-joined`, `different-apart`.
 use mathlib.Core.Path.{_≡_, refl, sym, ap, subst, _∙_}
 use mathlib.Core.Logic.{_≢_}
 use mathlib.Core.List.{[], _∷_, _++_}

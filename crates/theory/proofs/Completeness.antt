@@ -1,5 +1,7 @@
 -- Where the cube condition holds on letters and relations keep weight, equivalent words reverse to the empty word: by induction on the weight
 -- of a diagram, as [D1] proves Lemma 1.4 from coherence, and [D3] (Prop. 4.4) and [D2] (Prop. 6.1) restate it.
+-- From the laws of diagrams (Grid.antt): a letter against both sides of a relation, then a word against them, then one swap, then a chain of swaps.
+-- Main names: `Cube`, `Changed`, `one-letter`, `middle`, `one-swap`, `follows`, `complete-for`.
 use mathlib.Core.Path.{_≡_, refl, sym, ap, _∙_}
 use mathlib.Core.Logic.{_≢_}
 use mathlib.Core.List.{[], _∷_, _++_, append-nil}

@@ -1,5 +1,6 @@
 -- How crossings at places follow each other: one undoes its opposite, distant ones may be made in either order, and three at neighbouring
 -- places meet the same pairs of bobbins whether they begin on the left or on the right (specification 6.11).
+-- From the definitions alone. Main names: `crossed-back`, `crossed-far`, `crossed-three`.
 use mathlib.Core.Path.{_≡_, refl, sym, ap, _∙_}
 use mathlib.Core.Logic.{_≢_}
 use mathlib.Core.List.{List, [], _∷_}

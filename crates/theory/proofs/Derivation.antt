@@ -1,5 +1,7 @@
 -- From a reversing of u's inverse, then v, that ends empty follows, constructively, a list of entries that leads from u to v: [D1]
 -- Lemma 1.2 (ii), with the steps counted. It has one entry for each step on two different letters, and no other.
+-- From the diagram of the reversing (Diagram.antt), read cell by cell (`derives-empty`).
+-- Main names: `Derivation`, `run-derivation`, `reversing-derivation`.
 use mathlib.Core.Path.{_≡_, _∙_}
 use mathlib.Core.List.{List, [], _∷_, _++_}
 use Prim.Native.Nat.{ℕ, _≤_, _<_}

@@ -1,5 +1,6 @@
 -- Steps in any order: two sites of a word do not overlap, so steps at different sites commute, one step for one step. So every order that
 -- comes to a word without a site comes to the same word in as many steps ([D1] Lemma 1.1), and an open pair stays for ever.
+-- From the definitions of a site and a step alone. Main names: `apart`, `diamond`, `goes-on`, `open-unending`, `follows-too`.
 use mathlib.Core.Path.{_≡_, refl, sym, ap, _∙_, subst}
 use mathlib.Core.List.{[], _∷_, _++_, append-assoc}
 use Prim.Native.Nat.{ℕ, zero, suc, _+_}

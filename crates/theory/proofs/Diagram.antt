@@ -1,5 +1,6 @@
 -- The diagram of positive u and v is the leftmost reversing of u's inverse, then v: one is there exactly where the other is, with the same
 -- numerator, denominator and steps. It is [D1] Lemma 1.3 along the leftmost strategy: reduce a first part, then the rest.
+-- From the laws of leftmost runs (model/proofs/Leftmost.antt). Main names: `diagram-exactly`, its halves `finishes` and `draw`, `run-diagram`.
 use mathlib.Core.Path.{_≡_, refl, sym, ap, ap₂, _∙_}
 use mathlib.Core.Logic.{_↔_}
 use mathlib.Core.List.{[], _∷_, _++_, append-assoc, append-nil}

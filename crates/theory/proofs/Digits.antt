@@ -1,4 +1,5 @@
 -- Numbers in texts (specification 6.17): the bytes of digits, and how a number of one digit or two is written.
+-- From the definitions alone. Main names: `digit-from`, `decimal-one`, `decimal-two`, `digits-of`.
 use mathlib.Core.Path.{_≡_, ap, _∙_}
 use mathlib.Core.Logic.{_⊎_, inl, inr}
 use mathlib.Core.List.{List, [], _∷_}

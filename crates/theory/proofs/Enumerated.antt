@@ -1,5 +1,6 @@
 -- Every pair and every triple of different letters, the first two in order, is among those that the two checks of a table go through,
 -- so that what a check says of each member of its list holds of all of them (specification 4.1).
+-- From the definitions alone. Main names: `pairs-have`, `triples-have`.
 use mathlib.Core.Path.{_≡_, sym, ap, _∙_}
 use mathlib.Core.Logic.{_≢_}
 use mathlib.Core.List.{List, _∷_, map, List·Memᴰ, List·Memᴰ·head, List·Memᴰ·tail, Memᴰ·append-left, Memᴰ·append-right, Memᴰ·map}

@@ -1,5 +1,7 @@
 -- Reversing diagrams: `Grid f u v n d k` says that the inverse of u, then v, is reversed to n, then the inverse of d, in k steps.
 -- They compose and split ([D1] Lemma 1.3), turn, are determined by u and v (1.1), and u n is equivalent to v d (1.2).
+-- For every f that gives completions; where a law asks for it, f a a is two empty words, and f b a is f a b with its words exchanged.
+-- Main names: `Grid`; `beside`, `below`, `split`, `unstack`; `turned`; `same-grid`; `itself`; `sound`, `derives-empty`.
 use mathlib.Core.Path.{_≡_, refl, sym, ap, _∙_, subst₂}
 use mathlib.Core.List.{[], _∷_, _++_, append-assoc, append-nil}
 use Prim.Native.Nat.{ℕ, suc, _+_}

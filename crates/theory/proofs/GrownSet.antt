@@ -1,5 +1,6 @@
 -- The set of words that the comparison of words of either sign grows (specification 6.18) is closed once it is answered: every two of its words have been
 -- taken as a pair, the words of earlier pairs stay in their places, and there are never more words than places that are looked at.
+-- From the definitions alone. Main name: `set-closed`.
 use mathlib.Core.Path.{_≡_, refl, sym, ap, subst, subst₂, _∙_}
 use mathlib.Core.Logic.{_⊎_, inl, inr}
 use mathlib.Core.List.{List, [], _∷_, _++_, map, append-nil, append-assoc, List·Memᴰ, List·Memᴰ·head, List·Memᴰ·tail, List·Memᴰ·cases-cons, List·Memᴰ·not-nil, Memᴰ·append-left, Memᴰ·append-right, Memᴰ·map}

@@ -1,4 +1,5 @@
 -- Words whose letters are all of the table's: such words joined and taken apart, with their signs, and undone.
+-- From the definitions alone. Main names: `all-append`, `all-first`, `all-second`, `positive-lettered`, `inverse-lettered`, `negative-lettered`.
 use mathlib.Core.Path.{sym, subst}
 use mathlib.Core.List.{List, [], _∷_, _++_, map, List·Memᴰ, List·Memᴰ·head, List·Memᴰ·tail}
 use Prim.Native.Nat.{ℕ}

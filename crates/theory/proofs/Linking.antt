@@ -1,5 +1,6 @@
 -- Chains of steps between words of either sign (specification 6.18): they can be put one after another, turned and made after any word; joined positive words
 -- have one, and so has a word and each word that reversing brings it to.
+-- From the definitions alone. Main names: `linked-then`, `linked-turned`, `linked-after`, `equiv-linked`, `reduces-linked`.
 use mathlib.Core.Path.{_≡_, refl, sym, ap, _∙_, subst}
 use mathlib.Core.List.{[], _∷_, _++_, map, append-assoc, reverse-cons}
 use Prim.Native.Nat.{ℕ}

@@ -1,5 +1,6 @@
 -- What clearing a table's mirror says of the mirror (specification 6.13). Its relations are those of the table read backward, so that it passes the weight
 -- check where the table does.
+-- From `joined-backward`, and of the mirror what the checks show of a table (`cube-exactly`). Main names: `mirror-weights`, `mirror-cube`, `mirror-meaning`.
 use mathlib.Core.Path.{_≡_, refl, sym, ap, subst, _∙_}
 use mathlib.Core.List.{List, [], _∷_, _++_, append-nil, reverse, reverse-cons, reverse-reverse}
 use mathlib.Core.Bool.{Bool, true, false, cond}

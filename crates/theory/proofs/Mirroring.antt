@@ -1,5 +1,7 @@
 -- Left reversing is right reversing of the word read backward, under the mirror: the sites correspond, the words after a step correspond, and so
--- the four endings do.
+-- the four endings do (specification 3.8).
+-- From the mirror's completions (model/proofs/Mirrors.antt), and the definitions.
+-- Main names: `sites-correspond`, `steps-correspond`, `left-is-right`.
 use mathlib.Core.Path.{_≡_, refl, sym, ap, ap₂, _∙_}
 use mathlib.Core.List.{[], _∷_, _++_, map, reverse, append-assoc, append-nil, reverse-cons, reverse-append, reverse-reverse}
 use mathlib.Core.Bool.{Bool, true, false, cond}

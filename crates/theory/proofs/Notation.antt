@@ -1,5 +1,6 @@
 -- Texts of patterns (specification 6.17), whole: what is written is read, what is read was written so, every other text is refused with 19, and the moves of
 -- a pattern are as many as it is counted to have.
+-- From `text-read` and `text-back`. Main name: `notation-meaning`.
 use mathlib.Core.Path.{_≡_, refl, sym, ap, subst, _∙_}
 use mathlib.Core.List.{List, [], _∷_, map}
 use mathlib.Core.Bool.{Bool, true, false, cond}

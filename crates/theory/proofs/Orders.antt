@@ -1,4 +1,5 @@
--- In whatever order the steps are taken, the answer is that of the leftmost ones (specification 3.7): `any-order`.
+-- In whatever order the steps are taken, the answer is that of the leftmost ones (specification 3.7); and what reverse's outcome says of every order.
+-- From steps that commute (Descent.antt), after [D1] Lemma 1.1. Main names: `leftmost-too`, `any-order`, `order-meaning`.
 use mathlib.Core.Path.{_≡_, refl, sym, ap, subst, _∙_}
 use mathlib.Core.Logic.{_↔_}
 use mathlib.Core.List.{[], _∷_, _++_}

@@ -1,5 +1,6 @@
 -- Checking a chain answers just what `Passes` says (specification 6.7); and of a table that clears, a chain whose first word weighs no more
 -- than the workspace has bytes is followed to its end.
+-- From the definitions alone, the second from joined words' equal weights (`joined-weight`). Main names: `passage-exactly`, `lead-joins`.
 use mathlib.Core.Path.{_≡_, refl, sym, ap, ap₂, subst, _∙_}
 use mathlib.Core.Logic.{_≢_, _↔_}
 use mathlib.Core.List.{List, [], _∷_, _++_, append-nil}

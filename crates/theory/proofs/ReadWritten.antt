@@ -1,4 +1,5 @@
 -- What the reader of patterns (specification 6.17) reads from a text, written, is that text, and is in range. It is shown of each reader in turn.
+-- From the definitions, and how numbers are written (Digits.antt). Main name: `text-back`.
 use mathlib.Core.Path.{_≡_, refl, sym, ap, subst, _∙_}
 use mathlib.Core.Logic.{_⊎_, inl, inr}
 use mathlib.Core.List.{List, [], _∷_, _++_, append-assoc, append-nil}

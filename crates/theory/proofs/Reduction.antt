@@ -1,5 +1,6 @@
 -- Each leftmost step is a step of Dehornoy's R-reduction ([D1] section 1), which may be taken anywhere in a word.
 -- So a reversing that finishes is an R-reduction from its word to the numerator, then the inverse of the denominator, in its number of steps.
+-- From where the leftmost site stands (`site-split`). Main names: `reduces`, `finished-reduces`.
 use mathlib.Core.Path.{_≡_}
 use mathlib.Core.List.{_++_}
 use Prim.Native.Nat.{ℕ}

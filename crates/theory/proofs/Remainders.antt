@@ -1,5 +1,6 @@
 -- What the outcome of remainder means once the table clears: u divides v on the left exactly if the reversing of u's inverse, then v, finishes
 -- with an empty denominator, and then the numerator is the quotient, up to equivalence ([D1] section 1, for the tables that the checks pass).
+-- From `clear-complete` and the laws of Cancelling.antt, after [D1] Lemmas 1.3 and 1.4. Main names: `quotient-meaning`, `left-cancelling`.
 use mathlib.Core.Path.{_≡_, refl, sym, ap, subst, _∙_}
 use mathlib.Core.List.{[], _∷_, _++_}
 use mathlib.Core.Bool.{Bool, true, false, cond}

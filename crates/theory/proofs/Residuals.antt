@@ -1,5 +1,6 @@
 -- Residuals u\v and the sides (a\b)\(a\c) of the cube rule: they are determined by their letters, and told by diagrams.
 -- A side is there exactly where both inner complements are and their diagram is ([D1], coherence; [D2], the cube property).
+-- From diagrams and what they determine (Grid.antt, Diagram.antt). Main names: `side-grid`, `grid-side`, `same-side`, `rule-turned`, `open-rule`.
 use mathlib.Core.Path.{_≡_, refl, ap, _∙_}
 use mathlib.Core.List.{[]}
 use Prim.Native.Nat.{ℕ}

@@ -1,5 +1,7 @@
 -- What the reversing of one word's undoing, followed by another word, says of two words of either sign (specification 6.18): no open pair is met, and the
 -- words are joined exactly if numerator and denominator are. For that words can be cancelled on both sides, and have common right multiples.
+-- From `left-cancelling` ([D1] section 1), for the right side that of the mirror (`joined-backward`), `common-multiple` and `fraction-equal`.
+-- Main names: `right-cancelling`, `finished-by-some`, `ends-are-joined`, `signed-meaning`.
 use mathlib.Core.Path.{_≡_, sym, subst, subst₂}
 use mathlib.Core.List.{List, [], _∷_, _++_, reverse, append-nil, reverse-append, List·Memᴰ}
 use Prim.Native.Nat.{ℕ}

@@ -1,6 +1,7 @@
 -- Specification 6.18 of the model's `signedComparison`, for every table in range, words of its letters, budget and room: what its outcome says of the two
 -- words. Once the set is closed the first reversing meets no open pair and comes to N and D, which are joined exactly if the words are; that is what the
 -- comparison of N and D as positive words decides.
+-- From `set-closed`, `signed-meaning`, and of N and D `comparison-means`. Main name: `comparison-signed`.
 use mathlib.Core.Path.{_≡_, refl, sym, ap, subst, _∙_}
 use mathlib.Core.List.{List, [], _++_}
 use Prim.Native.Nat.{ℕ}

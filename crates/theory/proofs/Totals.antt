@@ -1,4 +1,5 @@
 -- What the totals of a bed add up to, how far from 0 they are, and that an answer's bytes are read as the bed (specification 6.11).
+-- From the laws of the bed (model/proofs/Beds.antt, Positions.antt) and `equal-beds`. Main names: `bed-laws`, `bed-meaning`.
 use mathlib.Core.Path.{_≡_, refl, sym, ap, subst, _∙_}
 use mathlib.Core.List.{List, [], _∷_}
 use mathlib.Core.Bool.{true, cond}

@@ -1,5 +1,6 @@
 -- Specification 6.5 of the model's `comparison`, for every presentation, positive words, budget and room; and of every way to tell its verdict.
 -- Reversing decides equivalence under a table that clears ([D3] Prop. 4.4; [D2] Prop. 6.1); the parts are proved in Comparison.antt.
+-- Main names: `demand-three`; `demand-three-told` for a service that may refuse a verdict, as chain does with 13.
 use mathlib.Core.Path.{_≡_, refl, ap}
 use Prim.Native.Nat.{ℕ}
 use native.Mathlib.Omega.{arith}

@@ -1,5 +1,7 @@
 -- The listing of all words joined to a program (specification 6.14) is in order, has joined words only and has all of them; no other list does.
 -- It ends since words of one weight are numbers of so many digits: in order, they are numbers that rise.
+-- From the definitions, and that joined words weigh the same, the norm of [D1] Lemma 1.4.
+-- Main names: `listing-meaning`, `listing-closed`, `lists-once`, `words-in-order`.
 use mathlib.Core.Path.{_≡_, refl, sym, ap, subst}
 use mathlib.Core.Logic.{_≢_, _⊎_, inl, inr}
 use mathlib.Core.List.{List, [], _∷_, _++_, map, List·Memᴰ, List·Memᴰ·head, List·Memᴰ·tail, List·Memᴰ·not-nil, List·Memᴰ·eq-of-singleton, List·Memᴰ·append-cases, Memᴰ·map}

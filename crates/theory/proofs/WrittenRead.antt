@@ -1,5 +1,6 @@
 -- The reader of patterns (specification 6.17) reads the text of every tree in range as that tree.
 -- It is shown of each reader in turn, with any text behind what it reads that may stand there.
+-- From the definitions, and how numbers are written (Digits.antt). Main name: `text-read`.
 use mathlib.Core.Path.{_≡_, refl, sym, ap, subst, _∙_}
 use mathlib.Core.Logic.{_⊎_, inl, inr}
 use mathlib.Core.List.{List, [], _∷_, _++_, append-assoc, append-nil}

@@ -1,4 +1,6 @@
--- Specification 4.2: what the weight check says of every word of a reversing.
+-- Specification 4.2: what the weight check says of every word of a reversing: forward weight less back weight is the same at each.
+-- The promise of clear cites it. Proved in proofs/Balance.antt as `weight-balanced` and `weight-meaning`, after the norm of [D1] Lemma 1.4.
+-- Main names: `Balanced`, `WeightMeaning`.
 use mathlib.Core.List.{_++_}
 use mathlib.Core.Path.{_≡_}
 use Prim.Native.Nat.{ℕ, _+_}

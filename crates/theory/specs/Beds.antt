@@ -1,4 +1,6 @@
 -- Specification 6.11: what holds of beds, and what the bytes of an answer say of them.
+-- The promise of bed cites it. Proved from the definitions alone: `equal-beds` in proofs/Beds.antt, `bed-laws` and `bed-meaning` in proofs/Totals.antt.
+-- Main names: `EqualBeds`, `BedLaws`, `BedMeaning`.
 use mathlib.Core.Path.{_≡_}
 use mathlib.Core.List.{List, [], _∷_, _++_}
 use mathlib.Core.Bool.{cond}

@@ -1,4 +1,6 @@
 -- Specification 4.6: what the outcome of the cube check says of the cube rule.
+-- The promise of clear cites it. Proved in proofs/Checked.antt as `triple-says` and `cube-exactly`. A triple's rule is the cube property of [D2].
+-- Main names: `Obeys`, `Says`, `FirstBroken`, `CubeMeaning`.
 use mathlib.Core.List.{List, _∷_, _++_}
 use mathlib.Core.Path.{_≡_}
 use Prim.Native.Nat.{ℕ}

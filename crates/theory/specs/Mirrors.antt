@@ -1,5 +1,7 @@
 -- Specification 3.8 and 6.13, as statements: left reversing against right reversing under the mirror, joined words read backward, and what clearing the
--- mirror says of it.
+-- mirror says of it. The promises of left_reverse and mirror_clear cite them.
+-- Proved from the definitions: `left-is-right` in proofs/Mirroring.antt, `joined-backward` in Backward.antt; `mirror-meaning` in MirrorClearing.antt.
+-- Main names: `LeftIsRight`, `JoinedBackward`, `MirrorMeaning`.
 use mathlib.Core.List.{reverse}
 use mathlib.Core.Logic.{_↔_}
 use mathlib.Core.Path.{_≡_}

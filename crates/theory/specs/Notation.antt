@@ -1,4 +1,5 @@
 -- Specification 6.17, as statements: the reader reads exactly the texts of trees in range, each as the one tree that is written so.
+-- The promise of import cites it. Proved from the definitions alone as `notation-meaning` in proofs/Notation.antt. Main name: `NotationMeaning`.
 use mathlib.Core.List.{List}
 use mathlib.Core.Path.{_≡_}
 use Prim.Native.Nat.{ℕ}

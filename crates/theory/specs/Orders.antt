@@ -1,4 +1,6 @@
 -- Specification 3.7: in whatever order the steps are taken, the answer is that of the leftmost ones. Allowance and room are left aside.
+-- The promises of reverse and left_reverse cite it. After [D1] Lemma 1.1; proved as `any-order` and `order-meaning` in proofs/Orders.antt.
+-- Main names: `AnyOrder`, `OrderMeaning`; rules that pick a site are `Strategy`, and the rightmost site is `lastSite`.
 use mathlib.Core.Path.{_≡_}
 use mathlib.Core.Logic.{_↔_}
 use mathlib.Core.List.{[], _∷_, _++_}

@@ -1,4 +1,5 @@
 -- Specification 6.7: what checking a chain answers, each outcome by what the entries do.
+-- The promise of check cites it. Proved from the definitions alone as `passage-exactly` in proofs/Passages.antt. Main name: `Passes`.
 use mathlib.Core.List.{List, _∷_, _++_}
 use mathlib.Core.Logic.{_≢_}
 use mathlib.Core.Option.{none, some}

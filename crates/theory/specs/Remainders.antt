@@ -1,4 +1,6 @@
 -- Specification 6.10, whole, as one statement: what the outcome of remainder says of u, the part done, and v, the pattern.
+-- The promise of remainder cites it. After [D1] Lemmas 1.3 and 1.4; proved as `quotient-meaning` in proofs/Remainders.antt.
+-- Main names: `Completes`, `QuotientMeaning`.
 use mathlib.Core.List.{[], _++_}
 use mathlib.Core.Path.{_≡_}
 use Prim.Native.Nat.{ℕ, _<_}

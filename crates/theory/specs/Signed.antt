@@ -1,5 +1,7 @@
 -- Specification 6.18, as statements: what the reversing of one word's undoing, followed by another word, says of two words of either sign, once the table
 -- and its mirror clear and a closed set of words is known; and what the outcome of the whole comparison says of them.
+-- The promise of compare_signed cites them. Proved as `signed-meaning` in proofs/Signed.antt and `comparison-signed` in SignedComparison.antt.
+-- Main names: `ClosedSet`, `Settles`, `SignedReversings`, `ComparisonSigned`.
 use mathlib.Core.List.{List, [], _∷_, _++_, List·Memᴰ}
 use mathlib.Core.Path.{_≡_}
 use Prim.Native.Nat.{ℕ}

@@ -1,4 +1,6 @@
 -- Specification 6.5, whole, as one statement: what the outcome of a comparison says of the two words.
+-- The promises of compare and chain cite it. After [D3] Prop. 4.4 and [D2] Prop. 6.1; proved as `demand-three` in proofs/Verdicts.antt.
+-- Main name: `DemandThree`.
 use mathlib.Core.List.{[], _++_}
 use mathlib.Core.Path.{_≡_}
 use Prim.Native.Nat.{ℕ}

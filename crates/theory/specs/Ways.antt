@@ -1,4 +1,6 @@
 -- Specification 6.14, as statements: what the listing of all words joined to a program says, and that nothing else says it.
+-- The promise of ways cites them. Proved as `listing-meaning` and `words-in-order` in proofs/Ways.antt, from the definitions and the norm of [D1] Lemma 1.4.
+-- Main names: `Lists`, `ListingMeaning`, `WordsInOrder`.
 use mathlib.Core.List.{List, [], _++_, List·Memᴰ}
 use mathlib.Core.Logic.{_⊎_}
 use mathlib.Core.Bool.{true}
