@@ -26,6 +26,7 @@ abbrev pub packed : ℕ → List ℕ → List ℕ
 packed zero bits = []
 packed (suc k) bits = number 0 (take 8 (bits ++ replicate 7 0)) ∷ packed k (drop 8 bits)
 
+-- 5.1: the bytes that so many bits take, and bits in as many bytes as they take
 abbrev pub bytesFor : ℕ → ℕ
 bytesFor bits = (bits + 7) / 8
 
@@ -49,6 +50,7 @@ pub record Read (A : Type 0) : Type 0 where
 unfoldable pub field : ℕ → ℕ → List ℕ → Outcome (Read ℕ)
 field early width bits = unless (ltb (length bits) width) early (record { value = number 0 (take width bits); rest = drop width bits })
 
+-- 5.3: whether every bit is 0
 abbrev pub allZero : List ℕ → Bool
 allZero [] = true
 allZero (b ∷ bs) = eqb b 0 && allZero bs

@@ -9,10 +9,12 @@ abbrev pub range : ℕ → ℕ → List ℕ
 range from zero = []
 range from (suc k) = from ∷ range (suc from) k
 
+-- the lists made of each element, one after another
 abbrev pub concatMap : {A B : Type 0} → (A → List B) → List A → List B
 concatMap f [] = []
 concatMap f (x ∷ xs) = f x ++ concatMap f xs
 
+-- a pair and a triple of numbers
 pub record Two : Type 0 where
   pub a : ℕ
   pub b : ℕ

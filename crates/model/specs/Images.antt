@@ -82,7 +82,7 @@ letterField early wrong n bits =
     field early (letterWidth n) bits >>= λ r.
     unless (leb n (r .value)) wrong (record { value = r .value + 1; rest = r .rest })
 
--- a reader as often as said
+-- 5.3: a reader as often as said
 abbrev pub several : {A : Type 0} → (List ℕ → Outcome (Read A)) → ℕ → List ℕ → Outcome (Read (List A))
 several reader zero input = answered (record { value = []; rest = input })
 several reader (suc k) input =
@@ -90,6 +90,7 @@ several reader (suc k) input =
     several reader k (r .rest) >>= λ rs.
     answered (record { value = r .value ∷ rs .value; rest = rs .rest })
 
+-- 5.4: a completion, both completions of a pair that is not open, and a pair
 abbrev pub wordField : ℕ → List ℕ → Outcome (Read Positive)
 wordField n bits = field 1 lengthWidth bits >>= λ k. several (letterField 1 2 n) (k .value) (k .rest)
 
@@ -120,6 +121,7 @@ readTable bytes =
     rowsOf (pairField (head .value + 1)) (head .value + 1) (ws .rest) >>= λ rs.
     finish 3 (record { value = record { size = head .value + 1; excess = ws .value; rows = rs .value }; rest = rs .rest })
 
+-- 5.5: a letter by its sign bit and its number, and as it is read
 abbrev pub signed : ℕ → ℕ → Letter
 signed sign a = cond (eqb sign 0) (forward a) (back a)
 
@@ -136,6 +138,7 @@ readProgram n bytes =
     several (signedField n) (k .value) (k .rest) >>= λ w.
     finish 6 w
 
+-- 5.6: an entry: its offset, then a and b
 abbrev pub entryField : ℕ → List ℕ → Outcome (Read Entry)
 entryField n bits =
     field 4 offsetWidth bits >>= λ at.

@@ -33,6 +33,7 @@ abbrev pub relationEnding : ℕ → ℕ → ℕ → ℕ → Complement → Compl
 relationEnding p q a b undefined = undefined
 relationEnding p q a b (complement x y) = endingIn p q (fromEnd a x) (fromEnd b y)
 
+-- the first of two that is defined
 abbrev pub orElse : Complement → Complement → Complement
 orElse undefined d = d
 orElse (complement x y) d = complement x y
@@ -58,6 +59,7 @@ mirror T =
       rows = map (λ p. map (λ q. backward (found T p q (pairs (T .size)))) (range (suc p) (T .size - p))) (range 1 (T .size));
     }
 
+-- whether a pair is defined
 abbrev pub isDefined : Complement → Bool
 isDefined undefined = false
 isDefined (complement x y) = true

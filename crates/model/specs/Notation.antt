@@ -67,6 +67,7 @@ abbrev pub times : Option ℕ → ℕ
 times none = 1
 times (some k) = k
 
+-- a word, or its undoing where a minus is written
 abbrev pub undone : Bool → Word → Word
 undone true w = inverse w
 undone false w = w
@@ -97,6 +98,7 @@ abbrev mutual
   bodyMoves (move a) = 1
   bodyMoves (bracket p) = moves p
 
+-- the larger of two numbers
 abbrev pub larger : ℕ → ℕ → ℕ
 larger a b = cond (ltb a b) b a
 
@@ -169,6 +171,7 @@ abbrev mutual
 abbrev pub noPattern : {A : Type 0} → Outcome A
 noPattern = refused 19 unplaced
 
+-- whether a byte is a digit
 abbrev pub isDigit : ℕ → Bool
 isDigit x = leb zeroByte x && leb x (zeroByte + 9)
 

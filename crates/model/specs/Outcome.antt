@@ -19,6 +19,7 @@ placeNumbers (triple-of a b c) = a ∷ b ∷ c ∷ []
 placeNumbers (mirror-triple-of a b c) = a ∷ b ∷ c ∷ []
 placeNumbers the-set = []
 
+-- 7: an answer, or a refusal by its number, with its place
 pub data Outcome (A : Type 0) : Type 0 where
   answered : A → Outcome A
   refused : ℕ → Place → Outcome A

@@ -11,7 +11,7 @@ use Rattle.model.specs.Outcome.{unplaced, Outcome, answered, refused, _>
 use Rattle.model.specs.Bits.{Read}
 use Rattle.model.specs.Images.{several, rowsOf}
 
--- the byte of an open pair (5.7), the largest weight of a letter and the most letters of a program (1.3)
+-- 1.3, 5.7: the byte of an open pair, the largest weight of a letter and the most letters of a program
 abbrev pub openByte : ℕ
 openByte = 255
 
@@ -23,6 +23,7 @@ mostLetters = 4095
 
 -- WRITING (5.7, 5.8)
 
+-- 5.7: a completion: its length, then its letters; and a pair, open or both completions
 abbrev pub plainWord : Positive → List ℕ
 plainWord x = length x ∷ x
 
@@ -34,6 +35,7 @@ plainPair (complement x y) = plainWord x ++ plainWord y
 unfoldable pub plainTable : Presentation → List ℕ
 plainTable T = T .size ∷ (map suc (T .excess) ++ concatMap (concatMap plainPair) (T .rows))
 
+-- 5.8: a byte a letter
 abbrev pub plainProgram : Word → List ℕ
 plainProgram w = map byte w
 
@@ -64,6 +66,7 @@ plainDefined n k input =
     plainLetters n (j .value) (j .rest) >>= λ y.
     answered (record { value = complement (x .value) (y .value); rest = y .rest })
 
+-- 5.7: a pair, open or not
 abbrev pub plainPairAt : ℕ → List ℕ → Outcome (Read Complement)
 plainPairAt n input =
     nextByte input >>= λ k.

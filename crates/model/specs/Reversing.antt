@@ -66,7 +66,7 @@ pub data Ending : Type 0 where
 abbrev pub ended : Word → ℕ → ℕ → Ending
 ended w k r = finished (forwards w) (reverse (backs w)) k r
 
--- one more step on two different letters; a step on two equal ones adds nothing
+-- 6.6: one more step on two different letters; a step on two equal ones adds nothing
 abbrev pub count : ℕ → ℕ → ℕ → ℕ
 count a b r = cond (eqb a b) r (suc r)
 
@@ -97,12 +97,12 @@ pub data Leftmost (T : Presentation) : Word → Word → ℕ → Type 0 where
   go : {w p s w′ : Word} {a b k : ℕ} {x y : Positive} → site w ≡ at p a b s → complete T a b ≡ complement x y
       → Leftmost T (replaced p x y s) w′ k → Leftmost T w w′ (suc k)
 
--- how many of them are on two different letters
+-- 6.6: how many of them are on two different letters
 abbrev pub differing : {T : Presentation} {w w′ : Word} {k : ℕ} → Leftmost T w w′ k → ℕ
 differing Leftmost.stay = 0
 differing (Leftmost.go {a} {b} e c l) = count a b (differing l)
 
--- k steps, each at any site: Dehornoy's R-reduction ([D1] section 1)
+-- 3.7: k steps, each at any site: Dehornoy's R-reduction ([D1] section 1)
 pub data Reduces (T : Presentation) : Word → Word → ℕ → Type 0 where
   stay : {w : Word} → Reduces T w w 0
   go : (p : Word) (a b : ℕ) (s : Word) {w w′ : Word} {k : ℕ} {x y : Positive} → w ≡ p ++ (back a ∷ forward b ∷ s)

@@ -19,6 +19,7 @@ use Rattle.model.specs.Plain.{plainTable, plainProgram, readPlainTable, 
 
 -- REVERSE (6.2)
 
+-- 6.2: N, D and the steps
 pub record Fraction : Type 0 where
   pub numerator : Positive
   pub denominator : Positive
@@ -31,6 +32,7 @@ fractionOf area (finished n d k r) = unless (ltb area (length n + length d)) 13 
 fractionOf area (open-pair a b k) = refused 10 (pair-of a b)
 fractionOf area (stopped s) = refused (stopNumber s) unplaced
 
+-- 6.2: the table's tests come before those of the program
 unfoldable pub reverse : List ℕ → List ℕ → ℕ → ℕ → ℕ → Outcome Fraction
 reverse table program steps width area =
     readTable table >>= λ T.
@@ -54,6 +56,7 @@ sizesOf (finished n d k r) = answered (record { numerator = length n; denominato
 sizesOf (open-pair a b k) = refused 10 (pair-of a b)
 sizesOf (stopped s) = refused (stopNumber s) unplaced
 
+-- 6.15: a program under a table, each as it is read
 unfoldable pub enquire : List ℕ → List ℕ → ℕ → ℕ → Outcome Sizes
 enquire table program steps width =
     readTable table >>= λ T.
@@ -68,6 +71,7 @@ agree z y = eqb (z .numerator) (y .numerator) && (eqb (z .denominator) (y .denom
 abbrev pub committedOf : Sizes → ℕ → Ending → Outcome Fraction
 committedOf z area e = sizesOf e >>= λ y. cond (agree z y) (fractionOf area e) (refused 18 unplaced)
 
+-- 6.16: a program under a table, each as it is read
 unfoldable pub commit : List ℕ → List ℕ → ℕ → ℕ → Sizes → ℕ → Outcome Fraction
 commit table program steps width z area =
     readTable table >>= λ T.
@@ -80,6 +84,7 @@ commit table program steps width z area =
 unfoldable pub leftFraction : Presentation → Word → ℕ → ℕ → ℕ → Outcome Fraction
 leftFraction T w steps width area = mirrorCheck T >>= λ ok. fractionOf area (leftReversing T steps width w)
 
+-- 6.12: the tests of both images come before 16
 unfoldable pub leftReverse : List ℕ → List ℕ → ℕ → ℕ → ℕ → Outcome Fraction
 leftReverse table program steps width area =
     readTable table >>= λ T.
@@ -88,6 +93,7 @@ leftReverse table program steps width area =
 
 -- CLEAR (6.3)
 
+-- 6.3: the table is read, and must clear
 unfoldable pub clear : List ℕ → ℕ → ℕ → Outcome (Unit {0})
 clear table steps width = readTable table >>= λ T. cleared T steps width
 
@@ -113,11 +119,13 @@ mirrorCleared T steps width =
     weightCheck T (pairs (T .size)) >>= λ ok.
     ofMirror (cubeCheck (mirror T) steps width (triples (T .size)))
 
+-- 6.13: the table is read, and its mirror must clear
 unfoldable pub mirrorClear : List ℕ → ℕ → ℕ → Outcome (Unit {0})
 mirrorClear table steps width = readTable table >>= λ T. mirrorCleared T steps width
 
 -- COMPARE (6.4)
 
+-- 6.4: whether a word has forward letters alone
 abbrev pub isForward : Word → Bool
 isForward [] = true
 isForward (forward a ∷ w) = isForward w
@@ -261,6 +269,7 @@ check table first second entries width =
 abbrev pub fitted : ℕ → List ℕ → Outcome (List ℕ)
 fitted area bytes = unless (ltb area (length bytes)) 13 bytes
 
+-- 6.8: the image of a plain table, and the plain form of an image
 unfoldable pub packTable : List ℕ → ℕ → Outcome (List ℕ)
 packTable plain area = readPlainTable plain >>= λ T. fitted area (tableImage T)
 
@@ -274,6 +283,7 @@ programUnder table program = readTable table >>= λ T. readProgram (T .size) pro
 abbrev pub plainProgramUnder : List ℕ → List ℕ → Outcome Word
 plainProgramUnder table plain = readTable table >>= λ T. readPlainProgram (T .size) plain
 
+-- 6.8: the image of a plain program under a table image, and the plain form of an image
 unfoldable pub packProgram : List ℕ → List ℕ → ℕ → Outcome (List ℕ)
 packProgram table plain area =
     readTable table >>= λ T.
