@@ -57,7 +57,7 @@ enum {
     BRAID_BACK = 128,               /* a back move's byte is its number and this */
     BRAID_OPEN = 255,               /* stands for an open pair in a plain table */
     BRAID_VALUES = 4,               /* values that every call sets */
-    BRAID_STACK = 13312             /* bytes of stack that suffice for any call */
+    BRAID_STACK = 10240             /* bytes of stack that suffice for any call */
 };
 
 /* Bits of a move field under a table of n moves (5.2). */
