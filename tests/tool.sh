@@ -164,6 +164,8 @@ gives 2 'refused 10 1 2\n' reverse samples/open2.table samples/open2.program
 told '-1 2 is met after 0 steps'
 gives 2 'refused 10 1 2\n' reverse samples/open2.table '=-1 1 -1 2'
 told 'is met after 1 steps'
+gives 2 'refused 10 2 1\n' reverse --left samples/open2.table '=1 2 -2 -2'
+told '1 -2 is met after 1 steps from the finished end'
 gives 2 'refused 11\n' reverse $t '=-3 1 -2 1 2' --allowance 4
 gives 2 'refused 12\n' reverse $t '=-3 1 -2 1 2' --workspace 8
 gives 2 'refused 11 1 2 3\n' clear $t --allowance 4

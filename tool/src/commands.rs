@@ -16,7 +16,7 @@ use braid::Refusal;
 
 /// A refusal of a call, with what helps a person.
 fn explained<'a>(table: &'a Table, programs: &'a [&'a Program], arguments: &'a Arguments) -> impl Fn(Refusal) -> End + 'a {
-    move |refusal| End::Refused(refusal, explain::of_refusal(table, programs, arguments.limits(), refusal))
+    move |refusal| End::Refused(refusal, explain::of_refusal(table, programs, arguments.limits(), refusal, arguments.left))
 }
 
 /// Runs a command; of a tray the lines have been written, and only the status is left.

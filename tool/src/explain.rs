@@ -123,13 +123,18 @@ fn faulty<'a>(table: &Table, programs: &[&'a Program], refusal: Refusal) -> Opti
     })
 }
 
-/// The least allowance at which a program gives this refusal.
-fn least_allowance(table: &Table, program: &Program, limits: Limits, refusal: Refusal) -> u32 {
+/// The least allowance at which reversing a program, from its start or from the finished end, gives this refusal.
+fn least_allowance(table: &Table, program: &Program, limits: Limits, refusal: Refusal, left: bool) -> u32 {
     let (mut less, mut enough) = (-1_i64, i64::from(limits.allowance));
     while enough - less > 1 {
         let middle = (less + enough) / 2;
         let tried = Limits { allowance: middle as u16, ..limits };
-        if braid::enquire(&table.image, &program.image, tried) == Err(refusal) {
+        let given = if left {
+            braid::left_reverse(&table.image, &program.image, tried).err()
+        } else {
+            braid::enquire(&table.image, &program.image, tried).err()
+        };
+        if given == Some(refusal) {
             enough = middle;
         } else {
             less = middle;
@@ -138,8 +143,8 @@ fn least_allowance(table: &Table, program: &Program, limits: Limits, refusal: Re
     enough as u32
 }
 
-/// Of a refusal of a call with a table and programs.
-pub fn of_refusal(table: &Table, programs: &[&Program], limits: Limits, refusal: Refusal) -> Vec<String> {
+/// Of a refusal of a call with a table and programs; `left` where it reverses from the finished end.
+pub fn of_refusal(table: &Table, programs: &[&Program], limits: Limits, refusal: Refusal, left: bool) -> Vec<String> {
     let said = refusal.reason.text();
     let weigh = |side: &[u8], weights: &[u8]| side.iter().map(|m| u32::from(weights[usize::from(*m) - 1])).sum::<u32>();
     let shown =
@@ -165,8 +170,12 @@ pub fn of_refusal(table: &Table, programs: &[&Program], limits: Limits, refusal:
         }
         (Reason::OpenPair, Place::Pair(a, b)) => {
             if let Some(program) = programs.first() {
-                let steps = least_allowance(table, program, limits, refusal);
-                lines.push(format!("-{a} {b} is met after {steps} steps, and the pair {a}, {b} has no relation"));
+                let steps = least_allowance(table, program, limits, refusal, left);
+                lines.push(if left {
+                    format!("{b} -{a} is met after {steps} steps from the finished end, and no relation has sides that end in {b} and {a}")
+                } else {
+                    format!("-{a} {b} is met after {steps} steps, and the pair {a}, {b} has no relation")
+                });
             }
         }
         (Reason::NoMirror, Place::Pair(a, b)) => {
