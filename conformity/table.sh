@@ -35,7 +35,7 @@ function order(section,    part, n) {
 END {
     print "# What the vectors cover\n\nMade from the file by `sh conformity/table.sh`. An outcome is the number of the result, with what tells outcomes"
     print "of one result apart.\n"
-    print "| call | cases | cases of each outcome |\n|---|---|---|"
+    print "## Of each call, with the cases of each outcome\n"
     for (i = 1; i <= called; i++) {
         call = calls[i]
         # by result, then as they came
@@ -43,11 +43,15 @@ END {
             for (k = j; k > 1 && names[call, k] + 0 < names[call, k - 1] + 0; k--) {
                 swap = names[call, k]; names[call, k] = names[call, k - 1]; names[call, k - 1] = swap
             }
-        line = ""
-        for (j = 1; j <= kinds[call]; j++) line = line (j > 1 ? ", " : "") "`" names[call, j] "` " count[call, names[call, j]]
-        print "| `" call "` | " cases[call] " | " line " |"
+        line = "- `" call "`, " cases[call] " cases:"
+        for (j = 1; j <= kinds[call]; j++) {
+            item = " `" names[call, j] "` " count[call, names[call, j]] (j < kinds[call] ? "," : "")
+            if (length(line item) > 120) { print line; line = " " }
+            line = line item
+        }
+        print line
     }
-    print "| all | " all " | |\n\n| section | cases |\n|---|---|"
+    print "- all calls, " all " cases\n\n## Of each section of the specification\n\n| section | cases |\n|---|---|"
     for (i = 2; i <= sectioned; i++)
         for (k = i; k > 1 && order(sections[k]) < order(sections[k - 1]); k--) {
             swap = sections[k]; sections[k] = sections[k - 1]; sections[k - 1] = swap
