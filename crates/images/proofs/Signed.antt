@@ -115,3 +115,7 @@ module _ (image : List ℕ) (at size width : ℕ) (of : WidthOf size width) wher
               (below-or (v / 2 ^ width) 1);
           after = subst (λ n. ReadsFrom image n r) (omega arith) (t .after);
         }
+
+    -- where no field of a wrong letter can stand
+    pub signed-known : (signedField size (from image at) ≡ refused 5 unplaced → ⊥) → v % 2 ^ width < size
+    signed-known never = ⊎-elim (λ (below : v % 2 ^ width < size). below) (λ (above : size ≤ v % 2 ^ width). absurd (never (signed-wrong above))) (below-or (v % 2 ^ width) size)

@@ -132,7 +132,7 @@ pub fn letter_at(image: &[u8], size: u8, width: u32, i: usize) -> u8
     }
 }
 
-// Writes the letters' bytes of an accepted program into an area, from a place on.
+// Writes the letters' bytes of an accepted program into an area, from a place on. That every field names a letter is known, and not tested again.
 pub fn unpack_letters(image: &[u8], size: u8, count: u16, area: &mut [u8], at: usize)
     requires { ⌜ Accepted (now image) size count × (at + count ≤ length (now area)) ⌝ }
     ensures length { λ r. ⌜ length (now (area .exit)) ≡ length (now (area .entry)) ⌝ }
@@ -142,15 +142,15 @@ pub fn unpack_letters(image: &[u8], size: u8, count: u16, area: &mut [u8], at: u
     let mut reader = reader_at(image, COUNT_BITS);
     let mut i: u16 = 0;
     while i < count {
-        match next_signed(image, reader, size, width) {
-            SignedField::Ends => return,
-            SignedField::Wrong => return,
-            SignedField::Letter {
-                sign,
-                number,
+        match take(image, reader, 1 + width) {
+            Taken::Ends => return,
+            Taken::Value {
+                value,
                 reader: after,
             } => {
-                area[at + (i as usize)] = sign * BACK + number;
+                let sign = (value >> width) as u8;
+                let number = (value % (1 << width)) as u8;
+                area[at + (i as usize)] = sign * BACK + number + 1;
                 reader = after;
                 i += 1;
             }

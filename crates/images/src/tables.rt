@@ -1,7 +1,9 @@
 // Table images: read once into cells, from which the engine takes complements.
 
+use crate::bit_reader::Taken;
 use crate::bit_reader::TakenLetter;
 use crate::bit_reader::reader_at;
+use crate::bit_reader::take;
 use crate::bit_reader::take_letter;
 use crate::fields;
 use crate::fields::Field;
@@ -52,30 +54,35 @@ pub fn read_word(
     ensures length { λ r. ⌜ length (now (cells .exit)) ≡ length (now (cells .entry)) ⌝ }
     ensures word { λ r. ⌜ WordDone (now (image .entry)) at size (now (cells .entry)) cell (now (cells .exit)) r ⌝ }
 {
-    let Field::Value(value) = fields::next_field(image, at, LENGTH_BITS) else {
-        return TablePart::Ends;
-    };
-    cells[cell] = value as u8;
-    let count = value as usize;
-    let mut next = at + 4;
-    let mut reader = reader_at(image, next);
-    let mut k: usize = 0;
-    while k < count {
-        match take_letter(image, reader, size, width as u32) {
-            TakenLetter::Ends => return TablePart::Ends,
-            TakenLetter::Wrong => return TablePart::Wrong,
-            TakenLetter::Letter {
-                letter,
-                reader: after,
-            } => {
-                cells[cell + 1 + k] = letter;
-                reader = after;
-                next = next + width;
-                k += 1;
+    match take(image, reader_at(image, at), LENGTH_BITS as u32) {
+        Taken::Ends => TablePart::Ends,
+        Taken::Value {
+            value,
+            reader: behind,
+        } => {
+            cells[cell] = value as u8;
+            let count = value as usize;
+            let mut next = at + LENGTH_BITS;
+            let mut reader = behind;
+            let mut k: usize = 0;
+            while k < count {
+                match take_letter(image, reader, size, width as u32) {
+                    TakenLetter::Ends => return TablePart::Ends,
+                    TakenLetter::Wrong => return TablePart::Wrong,
+                    TakenLetter::Letter {
+                        letter,
+                        reader: after,
+                    } => {
+                        cells[cell + 1 + k] = letter;
+                        reader = after;
+                        next = next + width;
+                        k += 1;
+                    }
+                }
             }
+            TablePart::Next(next)
         }
     }
-    TablePart::Next(next)
 }
 
 // A pair of a table image, into the cells of a, b and of b, a.

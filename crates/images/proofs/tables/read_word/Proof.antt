@@ -7,9 +7,11 @@ use borrow.Author.Needs.{needs}
 use lib.ListN.{length, length-set}
 use Rattle.model.specs.Outcome.{unplaced, refused}
 use Rattle.model.specs.Images.{letterField, wordField}
-use Rattle.images.specs.Fields.{FieldDone, FieldAt, from}
-use Rattle.images.specs.BitReader.{place, ReadsFrom, LetterBehind, LetterTakenDone}
+use Rattle.images.specs.Fields.{FieldAt, from}
+use Rattle.images.specs.BitReader.{place, ReadsFrom, TakenAt, TakenDone, LetterBehind, LetterTakenDone}
+use Rattle.images.specs.declared.bit_reader.Taken.{Taken}
 use Rattle.images.specs.declared.bit_reader.TakenLetter.{TakenLetter}
+use Rattle.images.proofs.Reading.{field-answered, field-ends}
 use Rattle.images.proofs.Words.{Filled, length-ends, word-is, letters-none, letters-more, letters-refused, word-from}
 use Rattle.images.proofs.tables.read_word.Statement.{statement}
 use Rattle.images.proofs.tables.read_word.Tie as tie
@@ -22,11 +24,14 @@ abbrev μ-loop : tie.MeasureT-loop
 μ-loop image at size width cells₀ cell value count next₀ reader₀ k₀ cells next reader k = count - k
 
 abbrev start : tie.After-known-told Inv-loop μ-loop → tie.Start Inv-loop μ-loop
-start c = c .before .before .before .before .before .before
+start c = c .before .before .before .before .before .before .before
 
 -- the length that was read
 abbrev read : tie.At-loop Inv-loop μ-loop → tie.After-known-told Inv-loop μ-loop
-read c = c .before .before
+read c = c .before
+
+abbrev begun : tie.After-take Inv-loop μ-loop → tie.Start Inv-loop μ-loop
+begun c = c .before .before .before .before
 
 abbrev count : tie.After-known-told Inv-loop μ-loop → ℕ
 count c = c .before .value .given .0 .0
@@ -38,8 +43,17 @@ loop c = c .before .before
 abbrev turn : tie.After-known-told2 Inv-loop μ-loop → tie.After-take-letter Inv-loop μ-loop
 turn c = c .before .before .before
 
+first : (c : tie.After-take Inv-loop μ-loop) (r : Taken) → c .take .result ≡ r → TakenDone (begun c .args .image .now) (c .before .reader-at .result) 4 r
+first c r e = subst (TakenDone (begun c .args .image .now) (c .before .reader-at .result) 4) e (c .take .ensures)
+
+length-taken : (c : tie.After-known-told Inv-loop μ-loop) → TakenAt (start c .args .image .now) (start c .args .at) 4 (count c) (c .before .value .given .0 .1 .0)
+length-taken c =
+    let t = c .before .before .before in
+    subst (λ n. TakenAt (start c .args .image .now) n 4 (count c) (c .before .value .given .0 .1 .0)) (t .before .reader-at .ensures .place-is)
+    (first t _ (c .before .value .given .1))
+
 length-at : (c : tie.After-known-told Inv-loop μ-loop) → FieldAt (start c .args .image .now) (start c .args .at) 4 (count c)
-length-at c = subst (FieldDone (start c .args .image .now) (start c .args .at) 4) (c .before .value .given .1) (c .before .before .before .next-field .ensures)
+length-at c = field-answered (start c .args .image .now) (start c .args .at) 4 (length-taken c .inside) (count c) (length-taken c .value-is)
 
 near : (c : tie.At-loop Inv-loop μ-loop) → c .loop .next ≤ start (read c) .args .at + 64
 near c = omega (arith, c .loop .inv .0 .near, c .loop .inv .0 .some-left, length-at (read c) .small)
@@ -74,22 +88,20 @@ refused-by c n e =
     (s .args .cells .now) (s .args .cell) (count k) (s .pre .1) (length-at k .small) (l .loop .cells) (l .loop .next) (l .loop .k) (l .loop .inv .0) n
     (c .before .loop-test .taken) e
 
-next-field-requires : tie.Need-next-field-requires Inv-loop μ-loop
-next-field-requires c κs = record { narrow = omega arith; inside = c .before .before .pre .0 .inside; small = omega (arith, c .before .before .pre .0 .small) }
+reader-at-requires : tie.Need-reader-at-requires Inv-loop μ-loop
+reader-at-requires c κs = c .before .before .pre .0 .inside
 
-enum-known-value : tie.Need-enum-known-value Inv-loop μ-loop
-enum-known-value c = search needs
+cast-take : tie.Need-cast-take Inv-loop μ-loop
+cast-take c = omega arith
+
+take-requires : tie.Need-take-requires Inv-loop μ-loop
+take-requires c κs = (c .reader-at .ensures .reads, omega arith)
 
 enum-told : tie.Need-enum-told Inv-loop μ-loop
 enum-told c = search needs
 
-returns : tie.Need-returns Inv-loop μ-loop
-returns c =
-    let s = c .before .before .before .before .before in (
-      refl,
-      length-ends (s .args .image .now) (s .args .at) (s .args .size)
-          (subst (FieldDone (s .args .image .now) (s .args .at) 4) (c .enum-told .given .1) (c .before .before .next-field .ensures)),
-    )
+enum-known-value : tie.Need-enum-known-value Inv-loop μ-loop
+enum-known-value c = search needs
 
 cast-cells : tie.Need-cast-cells Inv-loop μ-loop
 cast-cells c = omega (arith, length-at c .small)
@@ -103,16 +115,13 @@ cast-count c = omega (arith, length-at c .small)
 add-next : tie.Need-add-next Inv-loop μ-loop
 add-next c = omega (arith, start c .pre .0 .small)
 
-reader-at-requires : tie.Need-reader-at-requires Inv-loop μ-loop
-reader-at-requires c κs = length-at c .inside
-
 loop-holds : tie.Need-loop-holds Inv-loop μ-loop
 loop-holds c =
-    let k = c .before in
+    let k = c in
     let s = start k in (
       letters-none (letterField 1 2 (s .args .size)) (from (s .args .image .now)) (8 * length (s .args .image .now)) (s .args .at + 4) (s .args .size)
           (s .args .cells .now) (s .args .cell) (count k) (s .pre .1) (length-at k .small) (length-at k .inside),
-      c .reader-at .ensures,
+      length-taken k .after,
     )
 
 cast-take-letter : tie.Need-cast-take-letter Inv-loop μ-loop
@@ -129,8 +138,8 @@ enum-told-2 c = search needs
 same-length : tie.Need-same-length Inv-loop μ-loop
 same-length c = kept-length (loop (c .before .before))
 
-returns-2 : tie.Need-returns-2 Inv-loop μ-loop
-returns-2 c = (kept-length (loop (c .before .before)), refused-by (c .before .before) 1 (told (c .before .before) _ (c .enum-told2 .given .1) 1 2))
+returns : tie.Need-returns Inv-loop μ-loop
+returns c = (kept-length (loop (c .before .before)), refused-by (c .before .before) 1 (told (c .before .before) _ (c .enum-told2 .given .1) 1 2))
 
 enum-told-3 : tie.Need-enum-told-3 Inv-loop μ-loop
 enum-told-3 c = search needs
@@ -138,8 +147,8 @@ enum-told-3 c = search needs
 same-length-2 : tie.Need-same-length-2 Inv-loop μ-loop
 same-length-2 c = kept-length (loop (c .before .before))
 
-returns-3 : tie.Need-returns-3 Inv-loop μ-loop
-returns-3 c = (kept-length (loop (c .before .before)), refused-by (c .before .before) 2 (told (c .before .before) _ (c .enum-told3 .given .1) 1 2))
+returns-2 : tie.Need-returns-2 Inv-loop μ-loop
+returns-2 c = (kept-length (loop (c .before .before)), refused-by (c .before .before) 2 (told (c .before .before) _ (c .enum-told3 .given .1) 1 2))
 
 enum-known-letter : tie.Need-enum-known-letter Inv-loop μ-loop
 enum-known-letter c = search needs
@@ -181,6 +190,16 @@ loop-again c =
       t .after,
     )
 
+returns-3 : tie.Need-returns-3 Inv-loop μ-loop
+returns-3 c =
+    let t = c .before .before in
+    let s = begun t in (
+      refl,
+      length-ends (s .args .image .now) (s .args .at) (s .args .size)
+      (field-ends (s .args .image .now) (s .args .at) 4 (s .pre .0 .inside)
+      (omega (arith, first t _ (c .enum-told .given .1), t .before .reader-at .ensures .place-is))),
+    )
+
 same-length-3 : tie.Need-same-length-3 Inv-loop μ-loop
 same-length-3 c = kept-length (c .before)
 
@@ -202,24 +221,24 @@ read-word-spec =
     (tie.spec
     Inv-loop
     μ-loop
-    next-field-requires
-    enum-known-value
+    reader-at-requires
+    cast-take
+    take-requires
     enum-told
-    returns
+    enum-known-value
     cast-cells
     slice-write-cells
     cast-count
     add-next
-    reader-at-requires
     loop-holds
     cast-take-letter
     take-letter-requires
     enum-told-2
     same-length
-    returns-2
+    returns
     enum-told-3
     same-length-2
-    returns-3
+    returns-2
     enum-known-letter
     add-cells
     add-cells-2
@@ -228,5 +247,6 @@ read-word-spec =
     add-k
     loop-less
     loop-again
+    returns-3
     same-length-3
     returns-4)
