@@ -20,9 +20,10 @@ use Rattle.sets.specs.declared.growing.Grown.{Grown}
 use Rattle.sets.specs.declared.growing.Held.{Held}
 use Rattle.sets.specs.declared.growing.Step.{Step}
 use Rattle.sets.specs.declared.growing.Step.the-variants.{Going, Ended}
+use Rattle.sets.specs.declared.places.Side.the-variants.{Second, First}
 use Rattle.sets.specs.Words.{HasEnd, EndFound}
 use Rattle.sets.specs.Growing.{stoppedAs, grownAs, Growing, Grew, StepMeans}
-use Rattle.sets.specs.Places.{laterSecond, laterFirst, firsts, LaterWord}
+use Rattle.sets.specs.Places.{sidedPair, sided, LaterWord}
 use Rattle.sets.proofs.Spelling.{used-is, place-below, start-more, word-has-end, word-inside, word-placed, next-start}
 use Rattle.sets.proofs.FirstWords.{first-count, first-named, first-bytes}
 use Rattle.sets.proofs.Taking.{pair-stops}
@@ -53,8 +54,9 @@ module _ (T : Presentation) (steps width : ℕ) where
   -- the words alone are longer than the workspace, and a place is left
   long-places : (m : ℕ) (vs : List Positive) (after : List Positive → Outcome (Unit {0})) → width < setBytes vs
       → (takenPairs T steps width (placesAt m) vs >>= after) ≡ stoppedAs Room
-  long-places zero vs after h = pair-stops T steps width vs (laterFirst 0 0) [] after h
-  long-places (suc m) vs after h = pair-stops T steps width vs (laterSecond (suc m) 0) (map (laterSecond (suc m)) (range 1 m) ++ firsts (suc m)) after h
+  long-places zero vs after h = pair-stops T steps width vs (sidedPair First 0 0) [] after h
+  long-places (suc m) vs after h =
+      pair-stops T steps width vs (sidedPair Second (suc m) 0) (map (sidedPair Second (suc m)) (range 1 m) ++ sided First (suc m)) after h
 
   long-stops : (rounds m : ℕ) (vs : List Positive) → 1 ≤ rounds → m < length vs → width < setBytes vs
       → told (grownFrom T steps width rounds m vs) ≡ stoppedAs Room

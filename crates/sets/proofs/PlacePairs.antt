@@ -4,9 +4,12 @@ use mathlib.Core.List.{List, _++_, append-assoc}
 use Prim.Native.Nat.{ℕ, suc, _+_, _-_, _≤_, _<_}
 use native.Mathlib.Omega.{arith}
 use native.Mathlib.Decide.{decLt}
+use mathlib.Core.Bool.{true, false}
+use borrow.Author.Tests.{ltb-true, ltb-false, leb-true, leb-false}
 use lib.ListN.{length, length-append}
 use Rattle.model.specs.Word.{Positive}
 use Rattle.model.specs.Presentation.{Presentation}
+use Rattle.model.specs.Enumeration.{Two}
 use Rattle.model.specs.Outcome.{Outcome, _>>=_}
 use Rattle.model.specs.Signed.{placesAt, takenPairs}
 use Rattle.sets.specs.declared.words.Span.{Span}
@@ -14,10 +17,12 @@ use Rattle.sets.specs.declared.growing.Grown.{Grown}
 use Rattle.sets.specs.declared.growing.Held.{Held}
 use Rattle.sets.specs.declared.growing.Step.{Step}
 use Rattle.sets.specs.declared.growing.Step.the-variants.{Going, Ended}
+use Rattle.sets.specs.declared.places.Side.{Side}
+use Rattle.sets.specs.declared.places.Side.the-variants.{Second, First}
 use Rattle.sets.specs.Words.{EndFound}
 use Rattle.sets.specs.Listed.{Placed}
 use Rattle.sets.specs.Growing.{Grew, StopsLong, StepMeans, Paired}
-use Rattle.sets.specs.Places.{laterSecond, laterFirst, seconds, firsts, LaterWord}
+use Rattle.sets.specs.Places.{isTaken, chosenOf, sidedPair, sidedCount, sided, LaterWord, Later, PlacesMean}
 use Rattle.sets.proofs.Spelling.{place-below, place-above, placed-more}
 use Rattle.sets.proofs.Taking.{then-assoc, taken-both, stops-before, Taking, taking-placed}
 
@@ -41,81 +46,79 @@ module _ {cells old : List ℕ} {start : Held} {later : Span} {T : Presentation}
   still-placed : {words : List Positive} (added : List Positive) → words ≡ vs ++ added → Placed words m later
   still-placed added e = subst (λ l. Placed l m later) (sym e) (placed-more vs added m later (w .placed))
 
-  pub still-later : {area : List ℕ} {h : Held} {o : Outcome (List Positive)} (g : Grew (T .size) area vs o h) → LaterWord cells area h later T (g .words) m
+  still-later : {area : List ℕ} {h : Held} {o : Outcome (List Positive)} (g : Grew (T .size) area vs o h) → LaterWord cells area h later T (g .words) m
   still-later g = record { stands = w .stands; growing = g .growing; placed = still-placed (g .added) (g .extends) }
 
-  pub second-few : m ≤ length vs
-  second-few = omega (arith, w .placed .inside)
-
-  pub first-few : suc m ≤ length vs
-  first-few = w .placed .inside
+  pub sided-few : (side : Side) → sidedCount side m ≤ length vs
+  sided-few Second = omega (arith, w .placed .inside)
+  sided-few First = w .placed .inside
 
   module _ {steps width : ℕ} {area : List ℕ} {h : Held} {at : ℕ} where
-    module _ (k : Taking T steps width vs (laterSecond m) m area h at) where
-      pub second-all : later .at ≤ at → m ≤ k .passed
-      second-all l = go (decLt (k .passed) (length vs))
-        where
-          go : Dec (k .passed < length vs) → m ≤ k .passed
-          go (yes p) = place-above vs (k .passed) m p (omega (arith, k .at-is, w .placed .at-is))
-          go (no p) = omega (arith, w .placed .inside)
+    pub sided-all : (side : Side) (k : Taking T steps width vs (sidedPair side m) (sidedCount side m) area h at)
+        → isTaken side at (later .at) ≡ false → sidedCount side m ≤ k .passed
+    sided-all Second k l = go (decLt (k .passed) (length vs))
+      where
+        go : Dec (k .passed < length vs) → m ≤ k .passed
+        go (yes p) = place-above vs (k .passed) m p (omega (arith, ltb-false at (later .at) l, k .at-is, w .placed .at-is))
+        go (no p) = omega (arith, w .placed .inside)
+    sided-all First k l = place-below vs m (k .passed) (omega (arith, leb-false at (later .at) l, k .at-is, w .placed .at-is))
 
-      pub second-on : at < later .at → k .passed < m
-      second-on l = place-below vs (k .passed) m (omega (arith, k .at-is, w .placed .at-is))
+    pub sided-on : (side : Side) (k : Taking T steps width vs (sidedPair side m) (sidedCount side m) area h at)
+        → isTaken side at (later .at) ≡ true → k .passed < sidedCount side m
+    sided-on Second k l = place-below vs (k .passed) m (omega (arith, ltb-true at (later .at) l, k .at-is, w .placed .at-is))
+    sided-on First k l =
+        let r : k .passed ≤ m = place-above vs m (k .passed) (w .placed .inside) (omega (arith, leb-true at (later .at) l, k .at-is, w .placed .at-is)) in
+        omega arith
 
-      pub second-paired : (l : at < later .at) (end : ℕ) → EndFound area at end
-          → Paired cells area h (record { at = at; letters = end - at }) later T (k .words) (laterSecond m (k .passed))
-      second-paired l end f =
-          record {
-            stands = w .stands;
-            growing = k .growing;
-            first = taking-placed k second-few (second-on l) end f;
-            second = still-placed (k .added) (k .extends);
-          }
+    pub sided-paired : (side : Side) (k : Taking T steps width vs (sidedPair side m) (sidedCount side m) area h at)
+        → isTaken side at (later .at) ≡ true → {end : ℕ} → EndFound area at end → {u v : Span}
+        → u ≡ chosenOf side later (record { at = at; letters = end - at }) → v ≡ chosenOf side (record { at = at; letters = end - at }) later
+        → Paired cells area h u v T (k .words) (sidedPair side m (k .passed))
+    sided-paired side k l {end} f eu ev =
+        let placed = both side (still-placed (k .added) (k .extends)) (taking-placed k (sided-few side) (sided-on side k l) end f) in
+        record {
+          stands = w .stands;
+          growing = k .growing;
+          first = subst (Placed (k .words) (sidedPair side m (k .passed) .a)) (sym eu) (placed .0);
+          second = subst (Placed (k .words) (sidedPair side m (k .passed) .b)) (sym ev) (placed .1);
+        }
+      where
+        both : {words : List Positive} {i : ℕ} {other : Span} (s : Side) → Placed words m later → Placed words i other
+            → Placed words (sidedPair s m i .a) (chosenOf s later other) × Placed words (sidedPair s m i .b) (chosenOf s other later)
+        both Second l o = (o, l)
+        both First l o = (l, o)
 
-    module _ (k : Taking T steps width vs (laterFirst m) (suc m) area h at) where
-      pub first-all : later .at < at → suc m ≤ k .passed
-      first-all l = place-below vs m (k .passed) (omega (arith, k .at-is, w .placed .at-is))
+-- all pairs of a place, where those with the later word second were taken
+module _ (cells area : List ℕ) (start : Held) (later : Span) (steps : ℕ) (mid : List ℕ) (first : Step) (same : length mid ≡ length area)
+    (means : PlacesMean (sided Second) cells area start later steps mid first) where
+  abbrev taken : Presentation → List Two → List Positive → Outcome (List Positive)
+  taken T = takenPairs T steps (length area)
 
-      pub first-on : at ≤ later .at → k .passed < suc m
-      first-on l =
-          let r : k .passed ≤ m = place-above vs m (k .passed) (w .placed .inside) (omega (arith, k .at-is, w .placed .at-is)) in
-          omega arith
+  both-parts : (T : Presentation) (m : ℕ) (vs : List Positive) → taken T (placesAt m) vs ≡ (taken T (sided Second m) vs >>= taken T (sided First m))
+  both-parts T m vs = taken-both T steps (length area) (sided Second m) (sided First m) vs
 
-      pub first-paired : (l : at ≤ later .at) (end : ℕ) → EndFound area at end
-          → Paired cells area h later (record { at = at; letters = end - at }) T (k .words) (laterFirst m (k .passed))
-      first-paired l end f =
-          record {
-            stands = w .stands;
-            growing = k .growing;
-            first = still-placed (k .added) (k .extends);
-            second = taking-placed k first-few (first-on l) end f;
-          }
+  pub place-ended : {g : Grown} → first ≡ Ended g → PlacesMean placesAt cells area start later steps mid (Ended g)
+  place-ended {g} e T vs m w go stops =
+      let ended : StepMeans (T .size) mid vs (taken T (sided Second m) vs) (Ended g) =
+      subst (StepMeans (T .size) mid vs (taken T (sided Second m) vs)) e (means T vs m w) in
+      let long : StopsLong (length mid) vs (λ ws. taken T (sided First m) ws >>= go) =
+      subst (λ i. StopsLong i vs (λ ws. taken T (sided First m) ws >>= go)) (sym same)
+      (stops-before T steps (length area) vs vs (sided First m) go (omega arith) (subst (λ i. StopsLong i vs go) same stops)) in
+      ended (λ ws. taken T (sided First m) ws >>= go) long
+      ∙ (sym (then-assoc (taken T (sided Second m) vs) (taken T (sided First m)) go) ∙ ap (λ o. o >>= go) (sym (both-parts T m vs)))
 
--- all pairs of a place
-module _ (T : Presentation) (steps width m : ℕ) (vs : List Positive) where
-  both-parts : takenPairs T steps width (placesAt m) vs ≡ (takenPairs T steps width (seconds m) vs >>= takenPairs T steps width (firsts m))
-  both-parts = taken-both T steps width (seconds m) (firsts m) vs
+  module _ {h : Held} (e : first ≡ Going h) where
+    half : {T : Presentation} {vs : List Positive} {m : ℕ} → LaterWord cells area start later T vs m
+        → Grew (T .size) mid vs (taken T (sided Second m) vs) h
+    half {T} {vs} {m} w = subst (StepMeans (T .size) mid vs (taken T (sided Second m) vs)) e (means T vs m w)
 
-  -- the first part was taken
-  module _ (mid : List ℕ) (first : Step) (same : length mid ≡ width) (means : StepMeans (T .size) mid vs (takenPairs T steps width (seconds m) vs) first) where
-    pub place-ended : (g : Grown) → first ≡ Ended g → StepMeans (T .size) mid vs (takenPairs T steps width (placesAt m) vs) (Ended g)
-    place-ended g e go stops =
-        let ended : StepMeans (T .size) mid vs (takenPairs T steps width (seconds m) vs) (Ended g) =
-        subst (StepMeans (T .size) mid vs (takenPairs T steps width (seconds m) vs)) e means in
-        let later : StopsLong (length mid) vs (λ ws. takenPairs T steps width (firsts m) ws >>= go) =
-        subst (λ i. StopsLong i vs (λ ws. takenPairs T steps width (firsts m) ws >>= go)) (sym same)
-        (stops-before T steps width vs vs (firsts m) go (omega arith) (subst (λ i. StopsLong i vs go) same stops)) in
-        ended (λ ws. takenPairs T steps width (firsts m) ws >>= go) later
-        ∙ (sym (then-assoc (takenPairs T steps width (seconds m) vs) (takenPairs T steps width (firsts m)) go) ∙ ap (λ o. o >>= go) (sym both-parts))
+    pub place-half : Later cells area start later → Later cells mid h later
+    place-half (T, vs, m, w) = (T, half w .words, m, still-later w (half w))
 
-    module _ (h : Held) (e : first ≡ Going h) where
-      pub place-half : Grew (T .size) mid vs (takenPairs T steps width (seconds m) vs) h
-      place-half = subst (StepMeans (T .size) mid vs (takenPairs T steps width (seconds m) vs)) e means
-
-      pub place-taken : (after : List ℕ) (r : Step)
-          → StepMeans (T .size) after (place-half .words) (takenPairs T steps (length mid) (firsts m) (place-half .words)) r
-          → StepMeans (T .size) after vs (takenPairs T steps width (placesAt m) vs) r
-      place-taken after r next =
-          subst (λ o. StepMeans (T .size) after vs o r) (sym both-parts)
-          (step-then place-half after (takenPairs T steps width (firsts m)) r
-          (subst (λ i. StepMeans (T .size) after (place-half .words) (takenPairs T steps i (firsts m) (place-half .words)) r) same next))
+    pub place-taken : (after : List ℕ) (r : Step) → PlacesMean (sided First) cells mid h later steps after r
+        → PlacesMean placesAt cells area start later steps after r
+    place-taken after r next T vs m w =
+        let g = half w in
+        subst (λ o. StepMeans (T .size) after vs o r) (sym (both-parts T m vs))
+        (step-then g after (taken T (sided First m)) r
+        (subst (λ i. StepMeans (T .size) after (g .words) (takenPairs T steps i (sided First m) (g .words)) r) same (next T (g .words) m (still-later w g))))

@@ -1,7 +1,7 @@
 // The pairs of a listed word with itself and with those before it.
 ghost use mathlib.Core.Path.{_≡_};
 ghost use lib.ListN.{length};
-ghost use Rattle.sets.specs.Places.{Later, seconds, firsts, PlacesMean};
+ghost use Rattle.sets.specs.Places.{isTaken, chosenOf, sided, Later, PlacesMean};
 ghost use Rattle.model.specs.Signed.{placesAt};
 use crate::growing::Held;
 use crate::growing::Step;
@@ -9,49 +9,57 @@ use crate::growing::take_pair;
 use crate::words::Span;
 use crate::words::word_end;
 
-// Each word before the later one, then the later one.
-pub fn take_second(cells: &[u8], area: &mut [u8], held: Held, later: Span, budget: u16) -> Step
-    requires { ⌜ Later (now cells) (now area) held later ⌝ }
-    ensures length { λ r. ⌜ length (now (area .exit)) ≡ length (now (area .entry)) ⌝ }
-    ensures taken { λ r. ⌜ PlacesMean seconds (now (cells .entry)) (now (area .entry)) held later budget (now (area .exit)) r ⌝ }
-{
-    let last = later.at;
-    let mut current = held;
-    let mut at: usize = 0;
-    while at < last {
-        let end = word_end(area, at);
-        let u = Span {
-            at,
-            letters: end - at,
-        };
-        let step = take_pair(cells, area, current, u, later, budget);
-        match step {
-            Step::Ended(answer) => return Step::Ended(answer),
-            Step::Going(next) => {
-                current = next;
-                at = end + 1;
-            }
-        }
-    }
-    Step::Going(current)
+// Which of the two words of a pair the later one is.
+pub enum Side {
+    Second,
+    First,
 }
 
-// The later word, then each word up to it.
-pub fn take_first(cells: &[u8], area: &mut [u8], held: Held, later: Span, budget: u16) -> Step
+// Whether the word that begins at a byte is taken with the later one: those before it are, and where it is first, so is it itself.
+pub fn is_taken(side: Side, at: usize, last: usize) -> bool
+    ensures { λ r. ⌜ r ≡ isTaken side at last ⌝ }
+{
+    match side {
+        Side::Second => at < last,
+        Side::First => at <= last,
+    }
+}
+
+// Of two words, the one where the later word is first, and the other where it is second.
+pub fn chosen(side: Side, one: Span, other: Span) -> Span
+    ensures { λ r. ⌜ r ≡ chosenOf side one other ⌝ }
+{
+    match side {
+        Side::Second => other,
+        Side::First => one,
+    }
+}
+
+// The later word, on its side, with each word before it, and then with itself where it is first.
+pub fn take_side(
+    cells: &[u8],
+    area: &mut [u8],
+    held: Held,
+    later: Span,
+    side: Side,
+    budget: u16,
+) -> Step
     requires { ⌜ Later (now cells) (now area) held later ⌝ }
     ensures length { λ r. ⌜ length (now (area .exit)) ≡ length (now (area .entry)) ⌝ }
-    ensures taken { λ r. ⌜ PlacesMean firsts (now (cells .entry)) (now (area .entry)) held later budget (now (area .exit)) r ⌝ }
+    ensures taken { λ r. ⌜ PlacesMean (sided side) (now (cells .entry)) (now (area .entry)) held later budget (now (area .exit)) r ⌝ }
 {
     let last = later.at;
     let mut current = held;
     let mut at: usize = 0;
-    while at <= last {
+    while is_taken(side, at, last) {
         let end = word_end(area, at);
-        let v = Span {
+        let other = Span {
             at,
             letters: end - at,
         };
-        let step = take_pair(cells, area, current, later, v, budget);
+        let u = chosen(side, later, other);
+        let v = chosen(side, other, later);
+        let step = take_pair(cells, area, current, u, v, budget);
         match step {
             Step::Ended(answer) => return Step::Ended(answer),
             Step::Going(next) => {
@@ -69,9 +77,9 @@ pub fn take_place(cells: &[u8], area: &mut [u8], held: Held, later: Span, budget
     ensures length { λ r. ⌜ length (now (area .exit)) ≡ length (now (area .entry)) ⌝ }
     ensures taken { λ r. ⌜ PlacesMean placesAt (now (cells .entry)) (now (area .entry)) held later budget (now (area .exit)) r ⌝ }
 {
-    let step = take_second(cells, area, held, later, budget);
+    let step = take_side(cells, area, held, later, Side::Second, budget);
     match step {
         Step::Ended(answer) => Step::Ended(answer),
-        Step::Going(next) => take_first(cells, area, next, later, budget),
+        Step::Going(next) => take_side(cells, area, next, later, Side::First, budget),
     }
 }
