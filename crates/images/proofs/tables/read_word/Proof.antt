@@ -196,8 +196,8 @@ returns-3 c =
     let s = begun t in (
       refl,
       length-ends (s .args .image .now) (s .args .at) (s .args .size)
-      (field-ends (s .args .image .now) (s .args .at) 4 (s .pre .0 .inside)
-      (omega (arith, first t _ (c .enum-told .given .1), t .before .reader-at .ensures .place-is))),
+          (field-ends (s .args .image .now) (s .args .at) 4 (s .pre .0 .inside)
+          (omega (arith, first t _ (c .enum-told .given .1), t .before .reader-at .ensures .place-is))),
     )
 
 same-length-3 : tie.Need-same-length-3 Inv-loop μ-loop
