@@ -1,6 +1,6 @@
 #!/bin/sh
-# The C interface: what the archive wants of a linker, the version that the specification names, the example of docs/SERVICES.md and a program that joins two programs,
-# the header's sizes and stack, long texts, then each call from C and from C++, all compiled with the strictest warnings as errors. The last line is
+# The C interface: what the archive wants of a linker, the version that the specification names, the example of docs/SERVICES.md and a program that joins two
+# programs, the header's sizes and stack, long texts, then each call from C and from C++, all compiled with the strictest warnings as errors. The last line is
 # 'N passed, M failed' over all of it.
 cd "$(dirname "$0")/.." || exit 1
 sh tests/library.sh || exit 1

@@ -2,8 +2,7 @@
 # The list of must-fail edits in docs/MUST_FAIL.md is made from the edits: looks that it is the current one, or with --write makes it.
 # Then that each edit says what it must and fits its text, and a case for each fault that these looks must find. The last line is 'N passed, M failed'.
 cd "$(dirname "$0")/.." || exit 1
-passed=0
-failed=0
+. tests/made.sh
 
 # listed TREE: the page, from the comments of the edits
 listed() {
@@ -108,25 +107,7 @@ fits() {
 
 mkdir -p target
 listed . > target/must-fail.md
-if [ "$1" = --write ]; then
-    cp target/must-fail.md docs/MUST_FAIL.md
-    exit 0
-fi
-if cmp -s target/must-fail.md docs/MUST_FAIL.md; then
-    passed=$((passed + 1))
-else
-    failed=$((failed + 1))
-    echo "failed: docs/MUST_FAIL.md is not what the edits say: sh tests/edits.sh --write"
-fi
-# held WHAT WANT FOUND: what a look found is what it must find
-held() {
-    if [ "$3" = "$2" ]; then
-        passed=$((passed + 1))
-    else
-        failed=$((failed + 1))
-        printf 'failed: of %s it must find: %s; it finds:\n%s\n' "$1" "${2:-nothing}" "$3"
-    fi
-}
+made docs/MUST_FAIL.md target/must-fail.md "$1" tests/edits.sh
 held 'what the edits say' '' "$(faults .)"
 held 'the texts of the edits' '' "$(fits .)"
 
@@ -177,5 +158,4 @@ fitting '' 'old: pub named\nnew: pub another\nold: another :\nnew: one\n'
 fitting 'not' 'old: missing\nnew: one\n'
 fitting 'more than once' 'old: pub\nnew: one\n'
 
-echo "$passed passed, $failed failed"
-[ "$failed" -eq 0 ]
+counted

@@ -1,12 +1,11 @@
 #!/bin/sh
 # docs/INDEX.md is made from the comments of the definitions and from the contracts: looks that it is the current one, or with --write makes it.
-# Then that each definition has its section, that the theory's files begin as they must, and that what docs/MATHEMATICS.md and these beginnings name is there;
-# and a case for each fault that these looks must find. The last line is 'N passed, M failed'.
+# Then that each definition has its section, that the theory's files begin as they must, that what docs/MATHEMATICS.md and these beginnings name is there,
+# and that no line of a document is over 160 characters; and a case for each fault that these looks must find. The last line is 'N passed, M failed'.
 cd "$(dirname "$0")/.." || exit 1
+. tests/made.sh
 LC_ALL=C
 export LC_ALL
-passed=0
-failed=0
 work=$(mktemp -d) || exit 1
 trap 'rm -rf "$work"' EXIT
 mkdir -p "$work/all/versions"
@@ -84,38 +83,20 @@ missing() {
     done
 }
 
-# long TREE: the lines of the two pages that have more than 160 characters
+# long TREE: the lines of documents that have more than 160 characters
 long() {
-    for file in "$1/docs/INDEX.md" "$1/docs/MATHEMATICS.md"; do
+    find "$1" \( -name target -o -name .git \) -prune -o -name '*.md' -print | sort | while read -r file; do
         LC_ALL=C.UTF-8 grep -nE '^.{161,}' "$file" | sed "s|:.*||; s|^|${file#"$1"/}: line |; s|\$| is longer than 160 characters|"
     done
 }
 
 mkdir -p target
 page > target/index.md
-if [ "$1" = --write ]; then
-    cp target/index.md docs/INDEX.md
-    exit 0
-fi
-if cmp -s target/index.md docs/INDEX.md; then
-    passed=$((passed + 1))
-else
-    failed=$((failed + 1))
-    echo "failed: docs/INDEX.md is not what the crates say: sh tests/index.sh --write"
-fi
-# held WHAT WANT FOUND: what a look found is what it must find
-held() {
-    if [ "$3" = "$2" ]; then
-        passed=$((passed + 1))
-    else
-        failed=$((failed + 1))
-        printf 'failed: of %s it must find: %s; it finds:\n%s\n' "$1" "${2:-nothing}" "$3"
-    fi
-}
+made docs/INDEX.md target/index.md "$1" tests/index.sh
 held 'the sections of definitions and services' '' "$(indexed . 1)"
 held 'the beginnings of the files of the theory' '' "$(heads .)"
 held 'what the page of mathematics and the files of the theory name' '' "$(missing .)"
-held 'the lines of the pages' '' "$(long .)"
+held 'the lines of the documents' '' "$(long .)"
 
 # a small tree, in which each look finds what is planted and nothing else
 small=$work/small
@@ -199,5 +180,4 @@ docs/MATHEMATICS.md: no name one in crates/theory/proofs/L.antt' "$(missing "$sm
 planted "$sound" "$clause" "$statement" "$(printf '%161s' '' | tr ' ' u)\n"
 held 'a line that is too long' 'docs/MATHEMATICS.md: line 1 is longer than 160 characters' "$(long "$small")"
 
-echo "$passed passed, $failed failed"
-[ "$failed" -eq 0 ]
+counted

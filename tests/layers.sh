@@ -2,7 +2,7 @@
 # The picture of the layers, docs/pictures/layers.svg, is made from crates.txt: looks that it is the current one, or with --write makes it. A crate stands one
 # row above the highest of those that it rests on. The last line is 'N passed, M failed'.
 cd "$(dirname "$0")/.." || exit 1
-picture=docs/pictures/layers.svg
+. tests/made.sh
 
 # drawn FILE: the picture of the crates that FILE lists
 drawn() {
@@ -13,14 +13,24 @@ drawn() {
         function row(name,    i, highest, below) {
             if (name in rows) return rows[name]
             highest = 0
-            for (i = 1; i <= many[name]; i++) if (many[needs[name, i]] != "" || needs[name, i] in known) { below = row(needs[name, i]); if (below > highest) highest = below }
+            for (i = 1; i <= many[name]; i++) {
+                if (!(needs[name, i] in known)) continue
+                below = row(needs[name, i])
+                if (below > highest) highest = below
+            }
             return rows[name] = highest + 1
         }
         END {
             for (i = 1; i <= count; i++) known[names[i]] = 1
-            for (i = 1; i <= count; i++) { r = row(names[i]); if (r > top) top = r; stands[r] = stands[r] " " names[i]; if (split(stands[r], part, " ") > widest) widest = split(stands[r], part, " ") }
+            for (i = 1; i <= count; i++) {
+                r = row(names[i])
+                if (r > top) top = r
+                stands[r] = stands[r] " " names[i]
+                if (++standing[r] > widest) widest = standing[r]
+            }
             width = 40 + 150 * widest
-            printf "<svg xmlns=\"http://www.w3.org/2000/svg\" viewBox=\"0 0 %d %d\" font-family=\"sans-serif\" font-size=\"14\" role=\"img\">\n", width, 40 + 46 * top
+            printf "<svg xmlns=\"http://www.w3.org/2000/svg\" viewBox=\"0 0 %d %d\"", width, 40 + 46 * top
+            print " font-family=\"sans-serif\" font-size=\"14\" role=\"img\">"
             print "<title>The crates in rows: each rests on some of those in the rows below it</title>"
             printf "<rect width=\"%d\" height=\"%d\" fill=\"#ffffff\"/>\n", width, 40 + 46 * top
             for (r = top; r >= 1; r--) {
@@ -36,12 +46,7 @@ drawn() {
         }' "$1"
 }
 
-if [ "$1" = --write ]; then
-    drawn crates.txt > $picture
-    exit
-fi
-if drawn crates.txt | cmp -s - $picture; then echo '1 passed, 0 failed'; else
-    echo "failed: $picture is not made from crates.txt as it stands: sh tests/layers.sh --write"
-    echo '0 passed, 1 failed'
-    exit 1
-fi
+mkdir -p target
+drawn crates.txt > target/layers.svg
+made docs/pictures/layers.svg target/layers.svg "$1" tests/layers.sh
+counted
