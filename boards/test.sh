@@ -154,7 +154,7 @@ on_board() {
 # are left out, and cases that take more memory are told as not run
 on_microbit() {
     awk '/^case / { block = ""; fits = 1 }
-        /^call (pack_table|unpack_table|left_reverse|mirror_clear|compare_signed)$/ { fits = 0 }
+        /^call (left_reverse|mirror_clear|compare_signed)$/ { fits = 0 }
         { block = block $0 "\n" }
         /^$/ { if (fits) { printf "%s", block; count++ } block = "" }
         /^braid vectors/ { print $0 "\n"; block = "" ; fits = 0 }

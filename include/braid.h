@@ -11,9 +11,9 @@
  * The language is C99 or later, or C++. An allowance is 16 bits: a larger number is cut by the compiler before the call sees it.
  *
  * What linking needs. This, BRAID_STACK and BRAID_CALL are of this archive; all else in this file binds every maker of such a library (1.6).
- * The archive is for 64-bit x86 (System V calling convention). It wants memcpy and memset and no other symbol, and has no
- * writable data. Its code uses SSE2 and the red zone below the stack pointer: do not call it where either is forbidden, as in an interrupt
- * handler without a stack of its own. A call takes at most BRAID_STACK bytes of stack.
+ * The archive is for 64-bit x86 (System V calling convention); archives for other processors, and what each wants, are in boards/README.md. It wants memcpy
+ * and memset and no other symbol, and has no writable data. Its code uses SSE2 and the red zone below the stack pointer: do not call it where either is
+ * forbidden, as in an interrupt handler without a stack of its own. A call takes at most BRAID_STACK bytes of stack.
  */
 #ifndef BRAID_H
 #define BRAID_H
