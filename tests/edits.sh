@@ -71,6 +71,7 @@ faults() {
                 count++
                 next
             }
+            /^#   / { next }
             /^# wrong at: / { at++; if ($0 !~ /^# wrong at: .+: .+/) bare = 1; next }
             /^# fits the proof: ./ { fits++; next }
             /^# refused at: [^ ]+ ./ { refused++; place = $4 " " $5; sub(/:$/, "", place); next }

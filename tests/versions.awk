@@ -1,5 +1,6 @@
 # The wrong versions of must-fail edits, one to a line, in fields between tabs: crate, edit, version, what it is, where it is wrong, and the file, the need and
 # the words of the refusal that it names. An edit is one version of its own name, or has several, each under a line `# version: NAME`.
+# A line `#   WORDS` goes on with what the line before it says.
 # Usage: awk -f tests/versions.awk crates/*/must-fail/*.edit
 
 function told() {
@@ -26,7 +27,13 @@ FNR == 1 {
     begun(substr($0, 12))
     next
 }
-/^# wrong at: / { input = input (input == "" ? "" : " ") substr($0, 13); next }
+/^#   / {
+    if (part == "input") input = input " " substr($0, 5)
+    if (part == "words") words = words " " substr($0, 5)
+    if (part == "text") text = text " " substr($0, 5)
+    next
+}
+/^# wrong at: / { input = substr($0, 13); part = "input"; next }
 /^# refused at: / {
     place = substr($0, 15)
     file = place
@@ -35,8 +42,9 @@ FNR == 1 {
     words = need
     if (need ~ /: /) sub(/^[^:]*: /, "", words); else words = ""
     sub(/: .*/, "", need)
+    part = "words"
     next
 }
-/^# fits the proof: / || /^# wrong law: / { next }
-/^# ./ { text = text (text == "" ? "" : " ") substr($0, 3) }
+/^# fits the proof: / || /^# wrong law: / { part = ""; next }
+/^# ./ { text = text (text == "" ? "" : " ") substr($0, 3); part = "text" }
 END { told() }

@@ -34,4 +34,5 @@ copy-more a from to i before inside =
 
 -- a copy, as bytes put in their place
 pub paste-written : (a : List ℕ) (to : ℕ) (s : List ℕ) (n : ℕ) → n ≤ length s → paste a to s n ≡ written a to (take n s)
-paste-written a to s n h = append-assoc (take to a) (take n s) (drop (to + n) a) ∙ ap (λ k. take to a ++ (take n s ++ drop (to + k) a)) (sym (length-take-le n s h))
+paste-written a to s n h = append-assoc (take to a) (take n s) (drop (to + n) a) ∙ ap (λ k. take to a ++ (take n s ++ drop (to + k) a))
+    (sym (length-take-le n s h))

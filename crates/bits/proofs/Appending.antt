@@ -30,7 +30,8 @@ appended-none before at =
 pub wrote-byte : (old : List ℕ) (at v : ℕ) → at < length old → set old at v ≡ written old at (v ∷ [])
 wrote-byte old at v h = set-split old at v h ∙ ap (λ n. take at old ++ (v ∷ drop n old)) (sym (add-one at))
 
-pub written-more : (old : List ℕ) (at : ℕ) (xs ys : List ℕ) → at + length xs ≤ length old → written (written old at xs) (at + length xs) ys ≡ written old at (xs ++ ys)
+pub written-more : (old : List ℕ) (at : ℕ) (xs ys : List ℕ) → at + length xs ≤ length old → written (written old at xs) (at + length xs) ys ≡ written old at
+    (xs ++ ys)
 written-more old at xs ys h =
     let front : length (take at old) ≡ at = length-take-le at old (omega arith) in
     let both : length (take at old ++ xs) ≡ at + length xs = length-append (take at old) xs ∙ ap (λ n. n + length xs) front in
@@ -59,7 +60,8 @@ appended-more before at xs mid ys after h p q =
     }
 
 -- at a position and with bits that are the same
-pub appended-as : {before after : List ℕ} {at at′ : ℕ} {bits bits′ : List ℕ} → at ≡ at′ → bits ≡ bits′ → Appended before at bits after → Appended before at′ bits′ after
+pub appended-as : {before after : List ℕ} {at at′ : ℕ} {bits bits′ : List ℕ} → at ≡ at′ → bits ≡ bits′ → Appended before at bits after
+    → Appended before at′ bits′ after
 appended-as e f p = rw (← e, ← f) p
 
 -- the bits of a place are told

@@ -58,7 +58,8 @@ pub number-digits : (u width v : ℕ) → number u (digits width v) ≡ u * 2 ^ 
 number-digits u zero v = omega (arith, mod-one v)
 number-digits u (suc width) v =
     let b = v / 2 ^ width % 2 in
-    let l : number (u * 2 + v / 2 ^ width % 2) (digits width v) ≡ (u * 2 + v / 2 ^ width % 2) * 2 ^ width + v % 2 ^ width = number-digits (u * 2 + v / 2 ^ width % 2) width v in
+    let l : number (u * 2 + v / 2 ^ width % 2) (digits width v) ≡ (u * 2 + v / 2 ^ width % 2) * 2 ^ width + v % 2 ^ width =
+    number-digits (u * 2 + v / 2 ^ width % 2) width v in
     let s : (u * 2 + v / 2 ^ width % 2) * 2 ^ width ≡ u * (2 ^ width * 2) + v / 2 ^ width % 2 * 2 ^ width = shifted u (v / 2 ^ width % 2) (2 ^ width) in
     let d : u * 2 ^ suc width ≡ u * (2 ^ width * 2) = ap (λ x. u * x) (pow-suc 2 width) in
     let e : v % 2 ^ suc width ≡ v / 2 ^ width % 2 * 2 ^ width + v % 2 ^ width = ap (λ x. v % 2 ^ x) (omega arith) ∙ mod-pow-add v 1 width in
@@ -68,7 +69,8 @@ number-digits u (suc width) v =
 pub digits-number : (u : ℕ) (bs : List ℕ) → AreBits bs → digits (length bs) (number u bs) ≡ bs
 digits-number u [] h = refl
 digits-number u (b ∷ bs) h =
-    let l : number (u * 2 + b) bs / 2 ^ length bs ≡ u * 2 + b = ap (λ x. x / 2 ^ length bs) (number-after (u * 2 + b) bs) ∙ high (u * 2 + b) (length bs) (number-bound bs (h .1)) in
+    let l : number (u * 2 + b) bs / 2 ^ length bs ≡ u * 2 + b = ap (λ x. x / 2 ^ length bs) (number-after (u * 2 + b) bs)
+    ∙ high (u * 2 + b) (length bs) (number-bound bs (h .1)) in
     let d : number (u * 2 + b) bs / 2 ^ length bs % 2 ≡ b = omega (arith, h .0) in
     ap (λ x. x ∷ digits (length bs) (number (u * 2 + b) bs)) d ∙ ap (λ x. b ∷ x) (digits-number (u * 2 + b) bs (h .1))
 

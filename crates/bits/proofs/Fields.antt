@@ -39,7 +39,8 @@ module _ (bytes : List ℕ) (at width : ℕ) (inside : Inside bytes at width) wh
 
   -- a run more
   module _ (i c : ℕ) (more : i + c ≤ width) where
-    pub field-more : number 0 (take (i + c) (drop at (bitsOf bytes))) ≡ number 0 (take i (drop at (bitsOf bytes))) * 2 ^ c + number 0 (take c (drop (at + i) (bitsOf bytes)))
+    pub field-more : number 0 (take (i + c) (drop at (bitsOf bytes))) ≡ number 0 (take i (drop at (bitsOf bytes))) * 2 ^ c + number 0
+        (take c (drop (at + i) (bitsOf bytes)))
     field-more =
         let bits = drop at (bitsOf bytes) in
         let l : i ≤ length (drop at (bitsOf bytes)) = omega (arith, length-drop at (bitsOf bytes), length-bits bytes, inside .inside) in
@@ -50,7 +51,8 @@ module _ (bytes : List ℕ) (at width : ℕ) (inside : Inside bytes at width) wh
         ap (number 0) two
         ∙ (number-append 0 (take i bits) (take c (drop (at + i) (bitsOf bytes)))
         ∙ (number-after (number 0 (take i bits)) (take c (drop (at + i) (bitsOf bytes)))
-        ∙ ap (λ n. number 0 (take i bits) * 2 ^ n + number 0 (take c (drop (at + i) (bitsOf bytes)))) (length-take-le c (drop (at + i) (bitsOf bytes)) (omega (arith, rest-long i (omega arith))))))
+        ∙ ap (λ n. number 0 (take i bits) * 2 ^ n + number 0 (take c (drop (at + i) (bitsOf bytes))))
+        (length-take-le c (drop (at + i) (bitsOf bytes)) (omega (arith, rest-long i (omega arith))))))
 
     -- what is computed on the way fits
     pub shift-exact : number 0 (take i (drop at (bitsOf bytes))) * 2 ^ c % 65536 ≡ number 0 (take i (drop at (bitsOf bytes))) * 2 ^ c

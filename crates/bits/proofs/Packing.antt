@@ -40,7 +40,8 @@ next-length bits h = length-take-le 8 (bits ++ replicate 7 0) (omega (arith, len
 
 next-bits : (bits : List ℕ) → 1 ≤ length bits → AreBits bits → digits 8 (number 0 (take 8 (bits ++ replicate 7 0))) ≡ take 8 (bits ++ replicate 7 0)
 next-bits bits h r =
-    digits-of-number 8 (take 8 (bits ++ replicate 7 0)) (next-length bits h) (bits-take 8 (bits ++ replicate 7 0) (bits-append bits (replicate 7 0) r (zeros-are-bits 7)))
+    digits-of-number 8 (take 8 (bits ++ replicate 7 0)) (next-length bits h)
+    (bits-take 8 (bits ++ replicate 7 0) (bits-append bits (replicate 7 0) r (zeros-are-bits 7)))
 
 pub packed-bits : (k : ℕ) (bits : List ℕ) → length bits ≤ 8 * k → 8 * k < length bits + 8 → AreBits bits
     → bitsOf (packed k bits) ≡ bits ++ replicate (8 * k - length bits) 0

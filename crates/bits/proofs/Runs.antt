@@ -152,5 +152,6 @@ module _ (xs : List ℕ) (at c v : ℕ) where
             bits-store xs q stored h
             ∙ (ap (λ ds. bitsOf (take (at / 8) xs) ++ (ds ++ after)) now
             ∙ (regroup (bitsOf (take (at / 8) xs)) head (digits c v) tail after
-            ∙ sym (replaced before old (tail ++ after) (digits c v) (bitsOf xs) at c (run-among inside place) (before-length inside) (length-digits c (getD xs (at / 8) 0 / 2 ^ (8 - at % 8 - c))))));
+            ∙ sym (replaced before old (tail ++ after) (digits c v) (bitsOf xs) at c (run-among inside place) (before-length inside)
+            (length-digits c (getD xs (at / 8) 0 / 2 ^ (8 - at % 8 - c))))));
       }

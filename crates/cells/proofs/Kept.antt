@@ -30,11 +30,13 @@ apart p q a b k lp la d h =
     (below-or (cellAt p q) (cellAt a b))
 
 -- a byte stored in a cell
-pub kept-store : (before : List ℕ) (cell : ℕ) (cells : List ℕ) (i v : ℕ) → KeptOutside before cell cells → cell ≤ i → i < cell + 16 → KeptOutside before cell (set cells i v)
+pub kept-store : (before : List ℕ) (cell : ℕ) (cells : List ℕ) (i v : ℕ) → KeptOutside before cell cells → cell ≤ i → i < cell + 16
+    → KeptOutside before cell (set cells i v)
 kept-store before cell cells i v k low high j o =
     getD-set-other cells i j v 0 (λ e. ⊎-elim (λ (h : j < cell). omega arith) (λ (h : cell + 16 ≤ j). omega arith) o) ∙ k j o
 
-pub kept-cell : (before after : List ℕ) (p q a b : ℕ) → Letters p q → Letters a b → ((p ≡ a) × (q ≡ b) → ⊥) → KeptOutside before (cellAt a b) after → SameCell before after p q
+pub kept-cell : (before after : List ℕ) (p q a b : ℕ) → Letters p q → Letters a b → ((p ≡ a) × (q ≡ b) → ⊥) → KeptOutside before (cellAt a b) after
+    → SameCell before after p q
 kept-cell before after p q a b lp la d kept k h = kept (cellAt p q + k) (apart p q a b k lp la d h)
 
 pub same-cell-after : (before mid after : List ℕ) (p q : ℕ) → SameCell before mid p q → SameCell mid after p q → SameCell before after p q
@@ -47,7 +49,8 @@ first-byte before after p q s =
     subst (λ i. getD after i 0 ≡ getD before i 0) zero-th (s 0 (omega arith))
 
 -- what a cell holds stays as long as its bytes do
-pub holds-word-kept : (size : ℕ) (before after : List ℕ) (p q : ℕ) (x : Positive) → SameCell before after p q → HoldsWord size before (cellAt p q) x → HoldsWord size after (cellAt p q) x
+pub holds-word-kept : (size : ℕ) (before after : List ℕ) (p q : ℕ) (x : Positive) → SameCell before after p q → HoldsWord size before (cellAt p q) x
+    → HoldsWord size after (cellAt p q) x
 holds-word-kept size before after p q x s h =
     record {
       count = first-byte before after p q s ∙ h .count;
@@ -57,7 +60,8 @@ holds-word-kept size before after p q x s h =
       in-range = h .in-range;
     }
 
-pub holds-kept : (size : ℕ) (before after : List ℕ) (p q : ℕ) (c : Complement) → SameCell before after p q → HoldsFirst size before (cellAt p q) c → HoldsFirst size after (cellAt p q) c
+pub holds-kept : (size : ℕ) (before after : List ℕ) (p q : ℕ) (c : Complement) → SameCell before after p q → HoldsFirst size before (cellAt p q) c
+    → HoldsFirst size after (cellAt p q) c
 holds-kept size before after p q undefined s h = first-byte before after p q s ∙ h
 holds-kept size before after p q (complement x y) s h = holds-word-kept size before after p q x s h
 
@@ -86,11 +90,16 @@ module _ (before : List ℕ) (a b : ℕ) (letters : Letters a b) where
 
   pub undefined-kept : KeptPair before a b (set (set before (cellAt a b) 255) (cellAt b a) 255)
   undefined-kept p q l d₁ d₂ k h =
-      getD-set-other (set before (cellAt a b) 255) (cellAt b a) (cellAt p q + k) 255 0 (λ e. ⊎-elim (λ (x : cellAt p q + k < cellAt b a). omega arith) (λ (x : cellAt b a + 16 ≤ cellAt p q + k). omega arith) (apart p q b a k l turned d₂ h))
-      ∙ getD-set-other before (cellAt a b) (cellAt p q + k) 255 0 (λ e. ⊎-elim (λ (x : cellAt p q + k < cellAt a b). omega arith) (λ (x : cellAt a b + 16 ≤ cellAt p q + k). omega arith) (apart p q a b k l letters d₁ h))
+      getD-set-other (set before (cellAt a b) 255) (cellAt b a) (cellAt p q + k) 255 0
+      (λ e. ⊎-elim (λ (x : cellAt p q + k < cellAt b a). omega arith) (λ (x : cellAt b a + 16 ≤ cellAt p q + k). omega arith)
+      (apart p q b a k l turned d₂ h))
+      ∙ getD-set-other before (cellAt a b) (cellAt p q + k) 255 0
+      (λ e. ⊎-elim (λ (x : cellAt p q + k < cellAt a b). omega arith) (λ (x : cellAt a b + 16 ≤ cellAt p q + k). omega arith)
+      (apart p q a b k l letters d₁ h))
 
   module _ (mid after : List ℕ) (first : KeptOutside before (cellAt a b) mid) (second : KeptOutside mid (cellAt b a) after) where
-    pub words-held : (size : ℕ) → a ≢ b → (x y : Positive) → HoldsWord size mid (cellAt a b) x → HoldsWord size after (cellAt b a) y → HoldsPair size after a b (complement x y)
+    pub words-held : (size : ℕ) → a ≢ b → (x y : Positive) → HoldsWord size mid (cellAt a b) x → HoldsWord size after (cellAt b a) y
+        → HoldsPair size after a b (complement x y)
     words-held size differ x y there back =
         record { there = holds-word-kept size mid after a b x (kept-cell mid after a b b a letters turned (λ e. differ (e .0)) second) there; back = back }
 

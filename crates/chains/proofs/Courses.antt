@@ -40,7 +40,8 @@ pub length-weight : (T : Presentation) (u : Positive) → length u ≤ weigh T u
 length-weight T = length-total (weightOf T) (λ a. omega arith)
 
 -- every entry of a chain fits its fields
-pub entries-fit : (T : Presentation) → Even T → (u : Positive) (es : List Entry) (v : Positive) → weigh T u < 2 ^ offsetWidth → Leads T u es v → All (EntryInRange (T .size)) es
+pub entries-fit : (T : Presentation) → Even T → (u : Positive) (es : List Entry) (v : Positive) → weigh T u < 2 ^ offsetWidth → Leads T u es v
+    → All (EntryInRange (T .size)) es
 entries-fit T even u [] v short h = tt
 entries-fit T even u (e ∷ es) v short h =
     let p = applied-applies T u e (h .0) (h .1) in
@@ -91,7 +92,8 @@ module _ {t : Task} {size total : ℕ} where
 
   -- IT MEETS THE FIRST LETTER OF THE REST
 
-  module _ {a b : ℕ} {rest done left : Positive} {faces : List Face} {entries : List Entry} (c : Course t size total (b ∷ []) (a ∷ rest) faces done left entries) where
+  module _ {a b : ℕ} {rest done left : Positive} {faces : List Face} {entries : List Entry}
+      (c : Course t size total (b ∷ []) (a ∷ rest) faces done left entries) where
     abbrev relations : ℕ
     relations = length entries + length faces
 
@@ -133,7 +135,8 @@ module _ {t : Task} {size total : ℕ} where
           named = c .named .1;
         }
 
-  pub never-empty : {b : ℕ} {done left : Positive} {faces : List Face} {entries : List Entry} {A : Type 0} → Course t size total (b ∷ []) [] faces done left entries → A
+  pub never-empty : {b : ℕ} {done left : Positive} {faces : List Face} {entries : List Entry} {A : Type 0}
+      → Course t size total (b ∷ []) [] faces done left entries → A
   never-empty {b} {left} {faces} {entries} c = some-rest t total b (below faces left) (length entries + length faces) (c .running)
 
   -- A FACE IS DONE

@@ -129,7 +129,8 @@ module _ {t : Task} {cells : List ℕ} {size total : ℕ} {bytes answer : List �
     pub offset-is : offset ≡ length (passedOf (top .others) (s .done))
     offset-is = omega (arith, passed-is, to-count to et)
 
-    pub emitted-here : {after pushed : List ℕ} → Appended answer (entryPosition size (at .emitted)) (entryBits size (record { offset = offset; a = a; b = b })) after
+    pub emitted-here : {after pushed : List ℕ} → Appended answer (entryPosition size (at .emitted)) (entryBits size (record { offset = offset; a = a; b = b }))
+        after
         → Pushed (inverse (letters (take (getD cells from 0) (drop (from + 1) cells)))) bytes (at .left + getD cells from 0) (getD cells from 0) pushed
         → Situation t cells size total [] pushed after
         (record {
@@ -141,7 +142,8 @@ module _ {t : Task} {cells : List ℕ} {size total : ℕ} {bytes answer : List �
         })
     emitted-here {after} {pushed} p q =
         let word : inverse (letters (take (getD cells from 0) (drop (from + 1) cells))) ≡ negative (f .other) =
-        ap inverse (cell-letters (s .settled .stands .few) (from-cell (s .settled) course) (from + 1) (getD cells from 0) (ap (λ i. i + 1) (from-is from ef)) (from-count from ef)) in
+        ap inverse (cell-letters (s .settled .stands .few) (from-cell (s .settled) course) (from + 1) (getD cells from 0) (ap (λ i. i + 1) (from-is from ef))
+        (from-count from ef)) in
         record {
           settled = s .settled;
           rest = f .other ++ s .rest;

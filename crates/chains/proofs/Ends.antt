@@ -10,7 +10,8 @@ use native.Mathlib.Nat.{le-trans}
 use lib.ListN.{length}
 use Rattle.model.specs.Word.{Word, Positive, forward, back, positive, negative}
 use Rattle.model.specs.Presentation.{Presentation, Complement, undefined, complement, complete}
-use Rattle.model.specs.Reversing.{Site, nowhere, at, site, beyond, replaced, Next, no-site, blocked, step, next, byComplement, bySite, budget, finished, ended, count, run}
+use Rattle.model.specs.Reversing.{Site, nowhere, at, site, beyond, replaced, Next, no-site, blocked, step, next, byComplement, bySite, budget, finished, ended}
+use Rattle.model.specs.Reversing.{count, run}
 use Rattle.model.proofs.Impossible.{impossible}
 use Rattle.model.proofs.Words.{negative-cons, fraction-at, fraction-nowhere, denominator-of}
 use Rattle.engine.proofs.Runs.{run-none, run-open, run-spent, run-room, run-step}

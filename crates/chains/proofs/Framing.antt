@@ -175,22 +175,26 @@ module _ (n total : ℕ) (area answer : List ℕ) (entries : List Entry) (h : La
   fits : chainBytes n total ≤ length answer
   fits = rw (h .same-length) room
 
-  parts : bitsOf (take (chainBytes n total) answer) ++ bitsOf (drop (chainBytes n total) answer) ≡ (image ++ zeros) ++ drop (8 * chainBytes n total) (bitsOf area)
+  parts : bitsOf (take (chainBytes n total) answer) ++ bitsOf (drop (chainBytes n total) answer) ≡ (image ++ zeros)
+      ++ drop (8 * chainBytes n total) (bitsOf area)
   parts = sym (split-bits (chainBytes n total) answer) ∙ all-bits
 
   front : bitsOf (take (chainBytes n total) answer) ≡ image ++ zeros
   front =
-      sym (take-at (bitsOf (take (chainBytes n total) answer)) (bitsOf (drop (chainBytes n total) answer)) (8 * chainBytes n total) (front-length (chainBytes n total) answer fits))
+      sym (take-at (bitsOf (take (chainBytes n total) answer)) (bitsOf (drop (chainBytes n total) answer)) (8 * chainBytes n total)
+      (front-length (chainBytes n total) answer fits))
       ∙ (ap (take (8 * chainBytes n total)) parts
       ∙ take-at (image ++ zeros) (drop (8 * chainBytes n total) (bitsOf area)) (8 * chainBytes n total) whole-length)
 
   back : bitsOf (drop (chainBytes n total) answer) ≡ bitsOf (drop (chainBytes n total) area)
   back =
-      sym (drop-at (bitsOf (take (chainBytes n total) answer)) (bitsOf (drop (chainBytes n total) answer)) (8 * chainBytes n total) (front-length (chainBytes n total) answer fits))
+      sym (drop-at (bitsOf (take (chainBytes n total) answer)) (bitsOf (drop (chainBytes n total) answer)) (8 * chainBytes n total)
+      (front-length (chainBytes n total) answer fits))
       ∙ (ap (drop (8 * chainBytes n total)) parts
       ∙ (drop-at (image ++ zeros) (drop (8 * chainBytes n total) (bitsOf area)) (8 * chainBytes n total) whole-length
       ∙ (ap (drop (8 * chainBytes n total)) (split-bits (chainBytes n total) area)
-      ∙ drop-at (bitsOf (take (chainBytes n total) area)) (bitsOf (drop (chainBytes n total) area)) (8 * chainBytes n total) (front-length (chainBytes n total) area room))))
+      ∙ drop-at (bitsOf (take (chainBytes n total) area)) (bitsOf (drop (chainBytes n total) area)) (8 * chainBytes n total)
+      (front-length (chainBytes n total) area room))))
 
   zeros-fill : filling zeros ≡ true
   unfolding zeros

@@ -35,7 +35,8 @@ image-end n total = up (entryPosition n total)
     up : (bits : ℕ) → bits ≤ 8 * bytesFor bits
     up bits = omega arith
 
-pub slot-fits : (n total : ℕ) (answer : List ℕ) → chainBytes n total ≤ length answer → (index : ℕ) → index < total → entryPosition n index + entryWidth n ≤ 8 * length answer
+pub slot-fits : (n total : ℕ) (answer : List ℕ) → chainBytes n total ≤ length answer → (index : ℕ) → index < total
+    → entryPosition n index + entryWidth n ≤ 8 * length answer
 slot-fits n total answer room index h =
     let m : suc index * entryWidth n ≤ total * entryWidth n = mul-le-mul-right (entryWidth n) (omega arith) in
     let e : suc index * entryWidth n ≡ index * entryWidth n + entryWidth n = suc-mul index (entryWidth n) in
@@ -174,7 +175,8 @@ module _ (n total : ℕ) (area : List ℕ) (entries : List Entry) where
     freed-rest : length (drop (entryWidth n) freed) ≡ h .free * entryWidth n
     freed-rest = length-drop (entryWidth n) freed ∙ part-left (entryWidth n) (h .free * entryWidth n) (length freed) freed-length
 
-    pub given-up : (e : Entry) {after : List ℕ} → Appended answer (entryPosition n (length entries)) (entryBits n e) after → Layout n total area (entries ++ (e ∷ [])) slots after
+    pub given-up : (e : Entry) {after : List ℕ} → Appended answer (entryPosition n (length entries)) (entryBits n e) after
+        → Layout n total area (entries ++ (e ∷ [])) slots after
     unfolding freed
     given-up e p =
         let b : bitsOf answer ≡ head ++ (take (entryWidth n) freed ++ (drop (entryWidth n) freed ++ (concatMap (entryBits n) slots ++ tail))) =
@@ -193,5 +195,6 @@ module _ (n total : ℕ) (area : List ℕ) (entries : List Entry) where
               appended-at p head (take (entryWidth n) freed) (drop (entryWidth n) freed ++ (concatMap (entryBits n) slots ++ tail)) b
               head-length (freed-first ∙ sym (length-entry n e))
               ∙ (entry-group count body (entryBits n e) (drop (entryWidth n) freed) (concatMap (entryBits n) slots ++ tail)
-              ∙ ap (λ l. count ++ (l ++ (drop (entryWidth n) freed ++ (concatMap (entryBits n) slots ++ tail)))) (sym (concat-append (entryBits n) entries (e ∷ []) ∙ ap (λ l. concatMap (entryBits n) entries ++ l) (append-nil (entryBits n e)))));
+              ∙ ap (λ l. count ++ (l ++ (drop (entryWidth n) freed ++ (concatMap (entryBits n) slots ++ tail))))
+              (sym (concat-append (entryBits n) entries (e ∷ []) ∙ ap (λ l. concatMap (entryBits n) entries ++ l) (append-nil (entryBits n e)))));
         }

@@ -102,94 +102,51 @@ faces-first : {t : Task} {size total b : ℕ} {faces : List Face} {done left : P
 faces-first bytes end [] c i h = never-empty c
 faces-first bytes end (a ∷ rest) c i h = record { a = a; rest = rest; course = c; first = first-letter bytes end a rest i h }
 
-module _ {t : Task} {cells : List ℕ} {size total b : ℕ} {bytes answer : List ℕ} {at : Progress} (s : Situation t cells size total (b ∷ []) bytes answer at) where
-  facing : Facing t size total b (s .faces) (s .done) (s .left) (s .entries) bytes (at .left)
-  facing = faces-first bytes (at .left) (s .rest) (s .course) (omega (arith, s .held .ordered, s .held .inside)) (s .held .rest-held)
+module _ {t : Task} {cells : List ℕ} {size total b : ℕ} {bytes answer : List ℕ} {at : Progress} (s : Situation t cells size total (b ∷ []) bytes answer at)
+  where
+    facing : Facing t size total b (s .faces) (s .done) (s .left) (s .entries) bytes (at .left)
+    facing = faces-first bytes (at .left) (s .rest) (s .course) (omega (arith, s .held .ordered, s .held .inside)) (s .held .rest-held)
 
-  -- its number, as the workspace has it
-  abbrev pub meeting : ℕ
-  meeting = getD bytes (at .left - 1) 0 - 128
+    -- its number, as the workspace has it
+    abbrev pub meeting : ℕ
+    meeting = getD bytes (at .left - 1) 0 - 128
 
-  meeting-is : facing .a ≡ meeting
-  meeting-is = omega (arith, facing .first .byte)
+    meeting-is : facing .a ≡ meeting
+    meeting-is = omega (arith, facing .first .byte)
 
-  pub byte-back : 128 ≤ getD bytes (at .left - 1) 0
-  byte-back = omega (arith, facing .first .byte)
+    pub byte-back : 128 ≤ getD bytes (at .left - 1) 0
+    byte-back = omega (arith, facing .first .byte)
 
-  pub left-some : 1 ≤ at .left
-  left-some = facing .first .some
+    pub left-some : 1 ≤ at .left
+    left-some = facing .first .some
 
-  pub left-inside : at .left ≤ length bytes
-  left-inside = omega (arith, s .held .ordered, s .held .inside)
+    pub left-inside : at .left ≤ length bytes
+    left-inside = omega (arith, s .held .ordered, s .held .inside)
 
-  pub passed-small : at .passed < 2 ^ offsetWidth
-  passed-small = omega (arith, s .held .passed, passed-within (s .settled) (s .course))
+    pub passed-small : at .passed < 2 ^ offsetWidth
+    passed-small = omega (arith, s .held .passed, passed-within (s .settled) (s .course))
 
-  pub a-here : InRange size meeting
-  a-here = subst (InRange size) meeting-is (facing .course .named .0)
+    pub a-here : InRange size meeting
+    a-here = subst (InRange size) meeting-is (facing .course .named .0)
 
-  pub b-here : InRange size b
-  b-here = taken-named (s .settled) b (s .faces) (s .done) (s .left) (s .course .stacked)
+    pub b-here : InRange size b
+    b-here = taken-named (s .settled) b (s .faces) (s .done) (s .left) (s .course .stacked)
 
-  pub stacked-small : at .stacked < 65536
-  stacked-small = omega (arith, s .held .stacked, relations-within t total (s .course .running), s .settled .few)
+    pub stacked-small : at .stacked < 65536
+    stacked-small = omega (arith, s .held .stacked, relations-within t total (s .course .running), s .settled .few)
 
-  pub met-equal-here : meeting ≡ b
-      → Situation t cells size total [] bytes answer
-      (record { left = at .left - 1; right = at .right; passed = at .passed + 1; emitted = at .emitted; stacked = at .stacked })
-  met-equal-here e =
-      record {
-        settled = s .settled;
-        rest = facing .rest;
-        faces = marked b (s .faces);
-        done = markedDone b (s .faces) (s .done);
-        left = s .left;
-        entries = s .entries;
-        course = met-equal (facing .course) (meeting-is ∙ e);
-        held =
-            record {
-              wide = s .held .wide;
-              ordered = omega (arith, s .held .ordered);
-              inside = s .held .inside;
-              rest-held = facing .first .fewer;
-              left-held = s .held .left-held;
-              passed =
-                  omega (arith, s .held .passed, ap length (passed-marked b (s .faces) (s .done)), length-append (passedOf (s .faces) (s .done)) (b ∷ []));
-              emitted = s .held .emitted;
-              stacked = s .held .stacked ∙ sym (length-marked b (s .faces));
-              layout = subst (λ l. Layout size total (t .area) (s .entries) l answer) (sym (slots-marked b (s .faces))) (s .held .layout);
-            };
-      }
-
-  module _ (differ : meeting ≡ b → ⊥) where
-    apart : facing .a ≡ b → ⊥
-    apart e = differ (sym meeting-is ∙ e)
-
-    pub slots-left : at .stacked + 1 ≤ total
-    slots-left = omega (arith, s .held .stacked, relations-within t total (met-different (facing .course) apart .running))
-
-    pub slot-here : EntryInside size (total - (at .stacked + 1)) answer
-    slot-here = slot-in (s .settled) (s .held .layout .same-length) (total - (at .stacked + 1)) (omega (arith, slots-left))
-
-    letters-of : (to : ℕ) → to ≡ cellAt meeting b → getD cells to 0 ≡ length (met (facing .course) .x)
-    letters-of to e =
-        ap (λ i. getD cells i 0) (e ∙ ap (λ a. cellAt a b) (sym meeting-is))
-        ∙ cell-of (s .settled) (facing .course .named .0) b-here (met (facing .course) .rule) .count
-
-    pub met-different-here : (to : ℕ) → to ≡ cellAt meeting b → {after : List ℕ}
-        → Appended answer (entryPosition size (total - (at .stacked + 1))) (entryBits size (record { offset = getD cells to 0; a = meeting; b = b })) after
-        → Situation t cells size total [] bytes after
-        (record { left = at .left - 1; right = at .right; passed = at .passed + 1; emitted = at .emitted; stacked = at .stacked + 1 })
-    met-different-here to e {after} p =
-        let many : length (map slotOf (s .faces)) ≡ length (s .faces) = length-map (s .faces) slotOf in
+    pub met-equal-here : meeting ≡ b
+        → Situation t cells size total [] bytes answer
+        (record { left = at .left - 1; right = at .right; passed = at .passed + 1; emitted = at .emitted; stacked = at .stacked })
+    met-equal-here e =
         record {
           settled = s .settled;
           rest = facing .rest;
-          faces = made (facing .course) ∷ s .faces;
-          done = s .done;
+          faces = marked b (s .faces);
+          done = markedDone b (s .faces) (s .done);
           left = s .left;
           entries = s .entries;
-          course = met-different (facing .course) apart;
+          course = met-equal (facing .course) (meeting-is ∙ e);
           held =
               record {
                 wide = s .held .wide;
@@ -197,13 +154,58 @@ module _ {t : Task} {cells : List ℕ} {size total b : ℕ} {bytes answer : List
                 inside = s .held .inside;
                 rest-held = facing .first .fewer;
                 left-held = s .held .left-held;
-                passed = omega (arith, s .held .passed, length-append (passedOf (s .faces) (s .done)) (facing .a ∷ []));
+                passed =
+                    omega (arith, s .held .passed, ap length (passed-marked b (s .faces) (s .done)), length-append (passedOf (s .faces) (s .done)) (b ∷ []));
                 emitted = s .held .emitted;
-                stacked = omega (arith, s .held .stacked);
-                layout =
-                    pushed size total (t .area) (s .entries) (s .held .layout) (omega (arith, slots-left, s .held .stacked, relations-within t total (met-different (facing .course) apart .running)))
-                    (slotOf (made (facing .course))) (total - (at .stacked + 1)) (omega (arith, slots-left, s .held .stacked))
-                    (appended-as refl
-                    (ap₂ (λ o a. entryBits size (record { offset = o; a = a; b = b })) (letters-of to e) (sym meeting-is)) p);
+                stacked = s .held .stacked ∙ sym (length-marked b (s .faces));
+                layout = subst (λ l. Layout size total (t .area) (s .entries) l answer) (sym (slots-marked b (s .faces))) (s .held .layout);
               };
         }
+
+    module _ (differ : meeting ≡ b → ⊥) where
+      apart : facing .a ≡ b → ⊥
+      apart e = differ (sym meeting-is ∙ e)
+
+      pub slots-left : at .stacked + 1 ≤ total
+      slots-left = omega (arith, s .held .stacked, relations-within t total (met-different (facing .course) apart .running))
+
+      pub slot-here : EntryInside size (total - (at .stacked + 1)) answer
+      slot-here = slot-in (s .settled) (s .held .layout .same-length) (total - (at .stacked + 1)) (omega (arith, slots-left))
+
+      letters-of : (to : ℕ) → to ≡ cellAt meeting b → getD cells to 0 ≡ length (met (facing .course) .x)
+      letters-of to e =
+          ap (λ i. getD cells i 0) (e ∙ ap (λ a. cellAt a b) (sym meeting-is))
+          ∙ cell-of (s .settled) (facing .course .named .0) b-here (met (facing .course) .rule) .count
+
+      pub met-different-here : (to : ℕ) → to ≡ cellAt meeting b → {after : List ℕ}
+          → Appended answer (entryPosition size (total - (at .stacked + 1))) (entryBits size (record { offset = getD cells to 0; a = meeting; b = b })) after
+          → Situation t cells size total [] bytes after
+          (record { left = at .left - 1; right = at .right; passed = at .passed + 1; emitted = at .emitted; stacked = at .stacked + 1 })
+      met-different-here to e {after} p =
+          let many : length (map slotOf (s .faces)) ≡ length (s .faces) = length-map (s .faces) slotOf in
+          record {
+            settled = s .settled;
+            rest = facing .rest;
+            faces = made (facing .course) ∷ s .faces;
+            done = s .done;
+            left = s .left;
+            entries = s .entries;
+            course = met-different (facing .course) apart;
+            held =
+                record {
+                  wide = s .held .wide;
+                  ordered = omega (arith, s .held .ordered);
+                  inside = s .held .inside;
+                  rest-held = facing .first .fewer;
+                  left-held = s .held .left-held;
+                  passed = omega (arith, s .held .passed, length-append (passedOf (s .faces) (s .done)) (facing .a ∷ []));
+                  emitted = s .held .emitted;
+                  stacked = omega (arith, s .held .stacked);
+                  layout =
+                      pushed size total (t .area) (s .entries) (s .held .layout)
+                      (omega (arith, slots-left, s .held .stacked, relations-within t total (met-different (facing .course) apart .running)))
+                      (slotOf (made (facing .course))) (total - (at .stacked + 1)) (omega (arith, slots-left, s .held .stacked))
+                      (appended-as refl
+                      (ap₂ (λ o a. entryBits size (record { offset = o; a = a; b = b })) (letters-of to e) (sym meeting-is)) p);
+                };
+          }

@@ -9,7 +9,8 @@ use Rattle.chains.specs.Faces.{Face, slotOf, passedOf}
 use Rattle.chains.specs.Layout.{Layout}
 use Rattle.chains.specs.Course.{Task, Course, Situation}
 
-module _ {t : Task} {cells : List ℕ} {size total : ℕ} {taken : Positive} {bytes answer : List ℕ} {at : Progress} (s : Situation t cells size total taken bytes answer at)
+module _ {t : Task} {cells : List ℕ} {size total : ℕ} {taken : Positive} {bytes answer : List ℕ} {at : Progress}
+    (s : Situation t cells size total taken bytes answer at)
     {faces : List Face} (is : s .faces ≡ faces) where
   pub course-of : Course t size total taken (s .rest) faces (s .done) (s .left) (s .entries)
   course-of = subst (λ l. Course t size total taken (s .rest) l (s .done) (s .left) (s .entries)) is (s .course)

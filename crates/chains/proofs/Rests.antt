@@ -33,7 +33,8 @@ pub record First (bytes : List ℕ) (left a : ℕ) (rest : Positive) : Type 0 wh
   pub byte : getD bytes (left - 1) 0 ≡ 128 + a
   pub fewer : letters (take (left - 1) bytes) ≡ negative rest
 
-pub first-letter : (bytes : List ℕ) (left a : ℕ) (rest : Positive) → left ≤ length bytes → letters (take left bytes) ≡ negative (a ∷ rest) → First bytes left a rest
+pub first-letter : (bytes : List ℕ) (left a : ℕ) (rest : Positive) → left ≤ length bytes → letters (take left bytes) ≡ negative (a ∷ rest)
+    → First bytes left a rest
 first-letter bytes left a rest h e =
     let n : left ≡ suc (length rest) = held-length bytes left (a ∷ rest) h e in
     let m : left ≡ suc (left - 1) = omega arith in

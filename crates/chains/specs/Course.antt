@@ -54,7 +54,8 @@ pub record Course (t : Task) (size total : ℕ) (taken rest : Positive) (faces :
   pub named : Lettered size (positive rest)
 
 -- the workspace and the answer area hold it
-pub record Held (t : Task) (size total : ℕ) (rest : Positive) (faces : List Face) (done left : Positive) (entries : List Entry) (bytes answer : List ℕ) (at : Progress) : Type 0 where
+pub record Held (t : Task) (size total : ℕ) (rest : Positive) (faces : List Face) (done left : Positive) (entries : List Entry) (bytes answer : List ℕ)
+    (at : Progress) : Type 0 where
   pub wide : length bytes ≡ t .width
   pub ordered : at .left ≤ at .right
   pub inside : at .right ≤ length bytes
@@ -97,7 +98,8 @@ abbrev pub ahead : ℕ → Progress → ℕ
 ahead total at = 16 * (total - at .emitted) + at .left
 
 -- a move: less is left to do, and every task goes on
-pub record Moves (cells : List ℕ) (size total : ℕ) (taken : Positive) (bytes answer : List ℕ) (at : Progress) (bytes′ answer′ : List ℕ) (at′ : Progress) : Type 0 where
+pub record Moves (cells : List ℕ) (size total : ℕ) (taken : Positive) (bytes answer : List ℕ) (at : Progress) (bytes′ answer′ : List ℕ)
+    (at′ : Progress) : Type 0 where
   pub falls : ahead total at′ < ahead total at
   pub situation : (t : Task) → Situation t cells size total taken bytes answer at → Situation t cells size total [] bytes′ answer′ at′
 

@@ -66,7 +66,8 @@ pub fn list(cells: &[u8], size: u8, bytes: &mut [u8], start: Gap, relations: u16
     requires { ⌜ Listable (now cells) size (now bytes) (start .left) (start .right) relations (length (now answer)) ⌝ }
     ensures length { λ r. ⌜ length (now (bytes .exit)) ≡ length (now (bytes .entry)) ⌝ }
     ensures room { λ r. ⌜ length (now (answer .exit)) ≡ length (now (answer .entry)) ⌝ }
-    ensures listed { λ r. ⌜ ListMeans (now (cells .entry)) size (now (bytes .entry)) (start .left) (start .right) relations (now (answer .entry)) (now (answer .exit)) ⌝ }
+    ensures listed { λ r. ⌜ ListMeans (now (cells .entry)) size (now (bytes .entry)) (start .left) (start .right) relations (now (answer .entry))
+        (now (answer .exit)) ⌝ }
 {
     prepare(answer, size, relations);
     let place = Progress {

@@ -31,7 +31,8 @@ pub fn meet(
     answer: &mut [u8],
 ) -> Progress
     requires { ⌜ Somewhere (now cells) size total (b ∷ []) (now bytes) (now answer) at ⌝ }
-    ensures { λ r. ⌜ Moves (now (cells .entry)) size total (b ∷ []) (now (bytes .entry)) (now (answer .entry)) at (now (bytes .entry)) (now (answer .exit)) r ⌝ }
+    ensures { λ r. ⌜ Moves (now (cells .entry)) size total (b ∷ []) (now (bytes .entry)) (now (answer .entry)) at (now (bytes .entry))
+        (now (answer .exit)) r ⌝ }
 {
     let left = at.left - 1;
     let a = bytes[left] - BACK;

@@ -44,7 +44,8 @@ module _ (T : Presentation) (p : Two) (ps : List Two) where
   pub pair-fails : balanced T (p .a) (p .b) (complete T (p .a) (p .b)) ≡ false → weightCheck T (p ∷ ps) ≡ refused 8 (pair-of (p .a) (p .b))
   pair-fails e = ap (λ t. cond t (weightCheck T ps) (refused 8 (pair-of (p .a) (p .b)))) e
 
-weights-by : (T : Presentation) (t : Bool) (p : Two) (x y : Outcome (Unit {0})) → (cond t x (refused 8 (pair-of (p .a) (p .b))) >>= λ ok. y) ≡ cond t (x >>= λ ok. y) (refused 8 (pair-of (p .a) (p .b)))
+weights-by : (T : Presentation) (t : Bool) (p : Two) (x y : Outcome (Unit {0})) → (cond t x (refused 8 (pair-of (p .a) (p .b))) >>= λ ok. y) ≡ cond t
+    (x >>= λ ok. y) (refused 8 (pair-of (p .a) (p .b)))
 weights-by T true p x y = refl
 weights-by T false p x y = refl
 

@@ -24,7 +24,8 @@ use Rattle.checks.specs.declared.residues.Residue.the-variants.{Missing,
 use Rattle.checks.specs.declared.residues.Residue.the-variants.{Word as Found}
 
 -- the numerator stands at the start
-ending-works : (size : ℕ) (e : Ending) (bytes : List ℕ) → LeavesWord e bytes → LeavesLetters size e → Works size (ofEnding e) bytes (fromEnding (endingAnswer e))
+ending-works : (size : ℕ) (e : Ending) (bytes : List ℕ) → LeavesWord e bytes → LeavesLetters size e
+    → Works size (ofEnding e) bytes (fromEnding (endingAnswer e))
 ending-works size (finished n d k r) bytes h l =
     record {
       answer = refl;

@@ -12,7 +12,8 @@ use Rattle.cells.specs.Stands.{Serves, Of}
 use Rattle.checks.specs.Cube.{CubeMeans}
 use Rattle.checks.specs.Table.{stoppedAs}
 use Rattle.checks.specs.declared.cube.CubeVerdict.the-variants.{Holds, Fails, Halts}
-use Rattle.checks.proofs.Remaining.{triple, firsts, seconds, thirds, triples-begin, firsts-some, firsts-none, seconds-some, seconds-none, thirds-none, third-is-first, third-is-second, third-counts}
+use Rattle.checks.proofs.Remaining.{triple, firsts, seconds, thirds, triples-begin, firsts-some, firsts-none, seconds-some, seconds-none, thirds-none}
+use Rattle.checks.proofs.Remaining.{third-is-first, third-is-second, third-counts}
 use Rattle.checks.proofs.Passing.{triple-passes, triple-fails, triple-halts, of-serves}
 
 abbrev pub Left : List ℕ → ℕ → ℕ → ℕ → List Three → Type 0
@@ -25,32 +26,38 @@ module _ (cells : List ℕ) (size steps width : ℕ) where
   pub left-all : Left cells size steps width (firsts size 1)
   left-all T o = ap (cubeCheck T steps width) (triples-begin size)
 
-  pub enter-first : (a : ℕ) → a ≤ size → Left cells size steps width (firsts size a) → Left cells size steps width (seconds size a (a + 1) ++ firsts size (a + 1))
+  pub enter-first : (a : ℕ) → a ≤ size → Left cells size steps width (firsts size a)
+      → Left cells size steps width (seconds size a (a + 1) ++ firsts size (a + 1))
   enter-first a h = left-as (firsts-some size a h)
 
-  pub leave-first : (a b : ℕ) → size < b → Left cells size steps width (seconds size a b ++ firsts size (a + 1)) → Left cells size steps width (firsts size (a + 1))
+  pub leave-first : (a b : ℕ) → size < b → Left cells size steps width (seconds size a b ++ firsts size (a + 1))
+      → Left cells size steps width (firsts size (a + 1))
   leave-first a b h = left-as (ap (λ l. l ++ firsts size (a + 1)) (seconds-none size a b h))
 
   pub enter-second : (a b : ℕ) → b ≤ size → Left cells size steps width (seconds size a b ++ firsts size (a + 1))
       → Left cells size steps width (thirds size a b 1 ++ (seconds size a (b + 1) ++ firsts size (a + 1)))
   enter-second a b h =
-      left-as (ap (λ l. l ++ firsts size (a + 1)) (seconds-some size a b h) ∙ mathlib.Core.List.append-assoc (thirds size a b 1) (seconds size a (b + 1)) (firsts size (a + 1)))
+      left-as (ap (λ l. l ++ firsts size (a + 1)) (seconds-some size a b h) ∙ mathlib.Core.List.append-assoc (thirds size a b 1) (seconds size a (b + 1))
+      (firsts size (a + 1)))
 
   pub leave-second : (a b c : ℕ) → size < c → Left cells size steps width (thirds size a b c ++ (seconds size a (b + 1) ++ firsts size (a + 1)))
       → Left cells size steps width (seconds size a (b + 1) ++ firsts size (a + 1))
   leave-second a b c h = left-as (ap (λ l. l ++ (seconds size a (b + 1) ++ firsts size (a + 1))) (thirds-none size a b c h))
 
-  pub all-hold : (a : ℕ) → size < a → Left cells size steps width (firsts size a) → (T : Presentation) → Of cells size T → answered tt ≡ cubeCheck T steps width (triples size)
+  pub all-hold : (a : ℕ) → size < a → Left cells size steps width (firsts size a) → (T : Presentation) → Of cells size T
+      → answered tt ≡ cubeCheck T steps width (triples size)
   all-hold a h l T o = sym (l T o ∙ ap (cubeCheck T steps width) (firsts-none size a h))
 
   module _ (a b c : ℕ) (h : c ≤ size) (rest : List Three) where
     pub skip-first : c ≡ a → Left cells size steps width (thirds size a b c ++ rest) → Left cells size steps width (thirds size a b (c + 1) ++ rest)
     skip-first e = left-as (ap (λ l. l ++ rest) (third-is-first size a b c h e))
 
-    pub skip-second : (c ≡ a → ⊥) → c ≡ b → Left cells size steps width (thirds size a b c ++ rest) → Left cells size steps width (thirds size a b (c + 1) ++ rest)
+    pub skip-second : (c ≡ a → ⊥) → c ≡ b → Left cells size steps width (thirds size a b c ++ rest)
+        → Left cells size steps width (thirds size a b (c + 1) ++ rest)
     skip-second f e = left-as (ap (λ l. l ++ rest) (third-is-second size a b c h f e))
 
-    module _ (f : c ≡ a → ⊥) (g : c ≡ b → ⊥) (l : Left cells size steps width (thirds size a b c ++ rest)) (la : 1 ≤ a) (ha : a ≤ size) (lb : 1 ≤ b) (hb : b ≤ size) (lc : 1 ≤ c) where
+    module _ (f : c ≡ a → ⊥) (g : c ≡ b → ⊥) (l : Left cells size steps width (thirds size a b c ++ rest)) (la : 1 ≤ a) (ha : a ≤ size) (lb : 1 ≤ b)
+        (hb : b ≤ size) (lc : 1 ≤ c) where
       here : Left cells size steps width (triple a b c ∷ (thirds size a b (c + 1) ++ rest))
       here = left-as (ap (λ l. l ++ rest) (third-counts size a b c h f g)) l
 

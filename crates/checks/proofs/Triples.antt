@@ -55,9 +55,11 @@ module _ (cells bytes mid last : List ℕ) (left right : ℕ) (T : Presentation)
 
   pub agree-serves : Serves cells (wordAt last left (length last - right)) T
   agree-serves =
-      load-serves last left (length last - right) l r (omega (arith, last-length, s .fit)) (omega arith) left-word right-word (s .stands) (s .l-named) (s .r-named)
+      load-serves last left (length last - right) l r (omega (arith, last-length, s .fit)) (omega arith) left-word right-word (s .stands) (s .l-named)
+      (s .r-named)
 
-  pub agree-verdict : (steps : ℕ) (after : List ℕ) (v : EndingAnswer) → length after ≡ length last → Reverses T (wordAt last left (length last - right)) steps after v
+  pub agree-verdict : (steps : ℕ) (after : List ℕ) (v : EndingAnswer) → length after ≡ length last
+      → Reverses T (wordAt last left (length last - right)) steps after v
       → verdictOf v ≡ cubeAnswer (empties (reversing T steps (length bytes) (negative l ++ positive r)))
   agree-verdict steps after v n p =
       let w : wordAt last left (length last - right) ≡ negative l ++ positive r =
@@ -87,7 +89,8 @@ module _ (T : Presentation) (steps width a b c : ℕ) where
     goes-on : cubeAt T steps width triple ≡ rest
     goes-on = at-triple ∙ ap (λ p. whereDefined p rest) e
 
-    pub left-halts : (s : Stop) (area : List ℕ) → Works (T .size) (side T steps width a b c) area (Halted s) → Halts s ≡ cubeAnswer (cubeAt T steps width triple)
+    pub left-halts : (s : Stop) (area : List ℕ) → Works (T .size) (side T steps width a b c) area (Halted s)
+        → Halts s ≡ cubeAnswer (cubeAt T steps width triple)
     unfolding against
     left-halts s area w =
         let h = was-halted (side T steps width a b c) s w in
@@ -114,9 +117,11 @@ module _ (T : Presentation) (steps width a b c : ℕ) where
       unfolding against
       there = goes-on ∙ ap (against T steps width a b c) el
 
-      pub right-missing : (area : List ℕ) → Works (T .size) (side T steps (width - length l) b a c) area Missing → Fails ≡ cubeAnswer (cubeAt T steps width triple)
+      pub right-missing : (area : List ℕ) → Works (T .size) (side T steps (width - length l) b a c) area Missing
+          → Fails ≡ cubeAnswer (cubeAt T steps width triple)
       right-missing area w =
-          sym (ap cubeAnswer (there ∙ ap (bothThere (λ r. empties (reversing T steps width (negative l ++ positive r)))) (was-missing (side T steps (width - length l) b a c) w)))
+          sym (ap cubeAnswer (there ∙ ap (bothThere (λ r. empties (reversing T steps width (negative l ++ positive r))))
+          (was-missing (side T steps (width - length l) b a c) w)))
 
       pub right-halts : (s : Stop) (area : List ℕ) → Works (T .size) (side T steps (width - length l) b a c) area (Halted s)
           → Halts s ≡ cubeAnswer (cubeAt T steps width triple)

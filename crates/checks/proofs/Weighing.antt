@@ -44,7 +44,8 @@ module _ (cells : List ℕ) (size : ℕ) (T : Presentation) (o : Of cells size T
 
     pub side-letter : (k : ℕ) → k < length x → InRange size (getD cells (cellAt a b + 1 + k) 0)
     side-letter k h =
-        subst (InRange size) (sym (completion .letters k h)) (subst (λ n. InRange n (getD x k 0)) (o .sized) (all-at (InRange (T .size)) x k 0 (completion .in-range .letters) h))
+        subst (InRange size) (sym (completion .letters k h))
+        (subst (λ n. InRange n (getD x k 0)) (o .sized) (all-at (InRange (T .size)) x k 0 (completion .in-range .letters) h))
 
     -- the first letter, and one letter more
     pub side-begun : suc (getD cells (weightAt a) 0) ≡ weigh T (a ∷ take 0 x)
@@ -53,7 +54,8 @@ module _ (cells : List ℕ) (size : ℕ) (T : Presentation) (o : Of cells size T
     pub side-more : (k : ℕ) → k < length x
         → weigh T (a ∷ take k x) + suc (getD cells (weightAt (getD cells (cellAt a b + 1 + k) 0)) 0) ≡ weigh T (a ∷ take (k + 1) x)
     side-more k h =
-        let next : suc (getD cells (weightAt (getD cells (cellAt a b + 1 + k) 0)) 0) ≡ weightOf T (getD x k 0) = letter-held (side-letter k h) ∙ ap (weightOf T) (completion .letters k h) in
+        let next : suc (getD cells (weightAt (getD cells (cellAt a b + 1 + k) 0)) 0) ≡ weightOf T (getD x k 0) = letter-held (side-letter k h)
+        ∙ ap (weightOf T) (completion .letters k h) in
         omega (arith, next, total-more (weightOf T) x k h)
 
     pub side-whole : (k : ℕ) → length x ≤ k → weigh T (a ∷ take k x) ≡ weigh T (a ∷ x)

@@ -63,7 +63,8 @@ module _ (bytes : List ℕ) (left right : ℕ) (h : AtLeftmost bytes left right)
 
       next-length : length (replaced prefix x y suffix) ≡ (left - 1) + (length x + (length y + (length bytes - (right + 1))))
       next-length =
-          simp (length-append, length-positive, length-negative, length-letters, length-take, length-drop) (omega (arith, h .some-before, h .ordered, h .some-after))
+          simp (length-append, length-positive, length-negative, length-letters, length-take, length-drop)
+          (omega (arith, h .some-before, h .ordered, h .some-after))
 
       -- the next word does not fit
       pub outgrows : right + 1 - (left - 1) < length x + length y → Outgrows T (wordAt bytes left right) (length bytes)

@@ -83,7 +83,12 @@ module _ {cells : List ℕ} {word : Word} {allowed width : ℕ} {bytes : List �
         → (r : EndingAnswer) → r ≡ endingAnswer e → LeavesWord e after → LeavesLetters (T .size) e → Reverses T word allowed after r
     answers T t e h r f held names =
         let g : reversing T allowed (length after) word ≡ e = ap (λ i. reversing T allowed i word) after-width ∙ (p .same T t ∙ h) in
-        record { answer = f ∙ sym (ap endingAnswer g); holds = subst (λ d. LeavesWord d after) (sym g) held; named = subst (LeavesLetters (T .size)) (sym g) names }
+        record {
+          answer = f ∙ sym (ap endingAnswer g);
+          holds = subst (λ d. LeavesWord d after) (sym g) held;
+          named =
+              subst (LeavesLetters (T .size)) (sym g) names;
+        }
 
     pub finishes : (g : Gap) (k : ℕ) → k ≡ length (forwards (letters (take (g .left) after))) → TurnMeans cells now (allowed - steps) after (Final g)
         → (T : Presentation) → Serves cells word T → Reverses T word allowed after (Finished k (g .left - k) steps relations)
@@ -100,7 +105,8 @@ module _ {cells : List ℕ} {word : Word} {allowed width : ℕ} {bytes : List �
     pub meets : (q : Pair) → TurnMeans cells now (allowed - steps) after (Turn·Undefined q)
         → (T : Presentation) → Serves cells word T → Reverses T word allowed after (Undefined q steps)
     meets q m T t =
-        answers T t (open-pair (q .a) (q .b) steps) (run-open T width (allowed - steps) steps relations now (m T (serves-now T t))) (Undefined q steps) refl tt tt
+        answers T t (open-pair (q .a) (q .b) steps) (run-open T width (allowed - steps) steps relations now (m T (serves-now T t))) (Undefined q steps) refl tt
+        tt
 
     pub stops : (s : Stop) → TurnMeans cells now (allowed - steps) after (Turn·Stopped s)
         → (T : Presentation) → Serves cells word T → Reverses T word allowed after (Stopped s)

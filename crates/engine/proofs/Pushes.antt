@@ -111,7 +111,8 @@ module _ (cells : List ℕ) (from count : ℕ) (inside : from + count ≤ length
     unfolding letters
     word-none =
         let e : count - 0 ≡ length (take count (drop from cells)) = omega (arith, length-word) in
-        pushed-as (sym (ap (λ j. letters (drop j (take count (drop from cells)))) e ∙ ap letters (drop-length (take count (drop from cells))))) refl (pushed-none bytes right)
+        pushed-as (sym (ap (λ j. letters (drop j (take count (drop from cells)))) e ∙ ap letters (drop-length (take count (drop from cells))))) refl
+        (pushed-none bytes right)
 
     pub word-all : (after : List ℕ) (i : ℕ) → i ≡ count → Pushed (letters (drop (count - i) (take count (drop from cells)))) bytes right i after
         → Pushed (letters (take count (drop from cells))) bytes right count after
@@ -152,6 +153,7 @@ module _ (cells : List ℕ) (from count : ℕ) (inside : from + count ≤ length
     inverse-all after i e p = pushed-as (ap (λ j. inverse (letters (take j (drop from cells)))) e) e p
 
 -- what stands before the place where letters were pushed
-pub pushed-kept : {w : Word} {bytes after : List ℕ} {right count : ℕ} → Pushed w bytes right count after → (k : ℕ) → k ≤ right - count → take k after ≡ take k bytes
+pub pushed-kept : {w : Word} {bytes after : List ℕ} {right count : ℕ} → Pushed w bytes right count after → (k : ℕ) → k ≤ right - count
+    → take k after ≡ take k bytes
 pushed-kept {bytes} {after} {right} {count} p k h =
     sym (take-take k (right - count) after h) ∙ (ap (take k) (p .before) ∙ take-take k (right - count) bytes h)

@@ -89,7 +89,8 @@ module _ (bytes : List ℕ) (left right : ℕ) (ordered : left ≤ right) (more 
   Passes = siteFrom (placeBefore left) word ≡ siteFrom (placeBefore (left + 1)) word
 
   by-letters : 0 < left → (x y : Letter) → letter (last bytes left) ≡ x → letter next ≡ y
-      → siteFrom (length (front bytes left)) (front bytes left ++ (x ∷ y ∷ rest)) ≡ siteFrom (suc (length (front bytes left))) (front bytes left ++ (x ∷ y ∷ rest))
+      → siteFrom (length (front bytes left)) (front bytes left ++ (x ∷ y ∷ rest)) ≡ siteFrom (suc (length (front bytes left)))
+      (front bytes left ++ (x ∷ y ∷ rest))
       → Passes
   by-letters some x y ex ey e =
       let w = at-gap some x y ex ey in
@@ -136,7 +137,8 @@ module _ (bytes : List ℕ) (left right : ℕ) (ordered : left ≤ right) (more 
           found =
               s .same
               ∙ (from-place bytes left some (omega arith) word
-              ∙ (ap (siteFrom (length (front bytes left))) (at-gap some (back (last bytes left - 128)) (forward next) (letter-back (last bytes left) b) (letter-forward next f))
+              ∙ (ap (siteFrom (length (front bytes left)))
+              (at-gap some (back (last bytes left - 128)) (forward next) (letter-back (last bytes left) b) (letter-forward next f))
               ∙ finds-here (front bytes left) (last bytes left - 128) next rest));
           word-kept = s .word-kept;
         }

@@ -44,7 +44,8 @@ pub fn push_word(bytes: &mut [u8], right: usize, cells: &[u8], at: usize) -> usi
 pub fn push_inverse(bytes: &mut [u8], right: usize, cells: &[u8], at: usize) -> usize
     requires { ⌜ CellFits (now cells) at (now bytes) right ⌝ }
     ensures place { λ r. ⌜ r ≡ right - getD (now (cells .entry)) at 0 ⌝ }
-    ensures pushed { λ r. ⌜ Pushed (inverse (cellLetters (now (cells .entry)) at)) (now (bytes .entry)) right (getD (now (cells .entry)) at 0) (now (bytes .exit)) ⌝ }
+    ensures pushed { λ r. ⌜ Pushed (inverse (cellLetters (now (cells .entry)) at)) (now (bytes .entry)) right (getD (now (cells .entry)) at 0)
+        (now (bytes .exit)) ⌝ }
 {
     let mut next = right;
     let mut i: usize = 0;

@@ -42,25 +42,28 @@ module _ (text : List ℕ) where
   unfolding readText whole
   text-none e = ap (λ o. o >>= whole) (kept-refused moves highest (readPattern mostNested text) e)
 
-  module _ (s : Span) (e : answered (record { moves = s .moves; highest = s .highest; rest = drop (s .next) text }) ≡ keptPattern (readPattern mostNested text)) where
-    read : Answered moves highest (readPattern mostNested text) (record { moves = s .moves; highest = s .highest; rest = drop (s .next) text })
-    read = kept-answered moves highest (readPattern mostNested text) (record { moves = s .moves; highest = s .highest; rest = drop (s .next) text }) e
+  module _ (s : Span) (e : answered (record { moves = s .moves; highest = s .highest; rest = drop (s .next) text }) ≡ keptPattern (readPattern mostNested text))
+    where
+      read : Answered moves highest (readPattern mostNested text) (record { moves = s .moves; highest = s .highest; rest = drop (s .next) text })
+      read = kept-answered moves highest (readPattern mostNested text) (record { moves = s .moves; highest = s .highest; rest = drop (s .next) text }) e
 
-    -- bytes follow the pattern
-    pub text-followed : s .next < length text → readText text ≡ noPattern
-    unfolding readText whole
-    text-followed more = ap (λ o. o >>= whole) (read .read) ∙ ap (λ b. unless b 19 (read .value)) (lt-ltb 0 (length (drop (s .next) text)) (omega (arith, length-drop (s .next) text, more)))
+      -- bytes follow the pattern
+      pub text-followed : s .next < length text → readText text ≡ noPattern
+      unfolding readText whole
+      text-followed more = ap (λ o. o >>= whole) (read .read)
+          ∙ ap (λ b. unless b 19 (read .value)) (lt-ltb 0 (length (drop (s .next) text)) (omega (arith, length-drop (s .next) text, more)))
 
-    pub text-of : length text ≤ s .next → TextOf text s
-    unfolding readText whole
-    text-of past = record {
-      pattern = read .value;
-      behind = drop (s .next) text;
-      pattern-read = read .read;
-      read = ap (λ o. o >>= whole) (read .read) ∙ ap (λ b. unless b 19 (read .value)) (le-ltb 0 (length (drop (s .next) text)) (omega (arith, length-drop (s .next) text, past)));
-      moves-is = read .moves-is;
-      highest-is = read .highest-is;
-    }
+      pub text-of : length text ≤ s .next → TextOf text s
+      unfolding readText whole
+      text-of past = record {
+        pattern = read .value;
+        behind = drop (s .next) text;
+        pattern-read = read .read;
+        read = ap (λ o. o >>= whole) (read .read)
+            ∙ ap (λ b. unless b 19 (read .value)) (le-ltb 0 (length (drop (s .next) text)) (omega (arith, length-drop (s .next) text, past)));
+        moves-is = read .moves-is;
+        highest-is = read .highest-is;
+      }
 
 -- A PATTERN UNDER A TABLE
 
@@ -95,7 +98,11 @@ pub capped-above : (m : ℕ) → 4095 < capped m → 4095 < m
 capped-above m h = elim (decLt 4095 m) [ yes more ↦ more | no few ↦ absurd (omega (arith, capped-low m (omega (arith, few)), h, few)) ]
 
 pub capped-exact : (m : ℕ) → capped m ≤ 4095 → capped m ≡ m
-capped-exact m h = elim (decLt 4095 m) [ yes more ↦ absurd (omega (arith, capped-high m (omega (arith, more)), h)) | no few ↦ capped-low m (omega (arith, few)) ]
+capped-exact m h = elim (decLt 4095 m) [
+  | yes more ↦ absurd (omega (arith, capped-high m (omega (arith, more)), h))
+  | no few ↦ capped-low m
+      (omega (arith, few))
+]
 
 -- THE ANSWER
 
@@ -110,7 +117,8 @@ bytes-of (x ∷ xs) = ap₂ (λ y ys. y ∷ ys) (byte-of x) (bytes-of xs)
 
 pub laid-begins : (a : List ℕ) (w : Word) (b : List ℕ) → WordPut a 0 w b → b ≡ begins (plainProgram w) a
 laid-begins a w b l =
-    l .put ∙ ap (λ n. l .bytes ++ drop n a) {x = 0 + length (l .bytes)} {y = length (l .bytes)} (omega arith) ∙ ap (λ x. begins x a) (sym (bytes-of (l .bytes)) ∙ ap (map byte) (l .mean))
+    l .put ∙ ap (λ n. l .bytes ++ drop n a) {x = 0 + length (l .bytes)} {y = length (l .bytes)} (omega arith)
+    ∙ ap (λ x. begins x a) (sym (bytes-of (l .bytes)) ∙ ap (map byte) (l .mean))
 
 module _ (text : List ℕ) (n : ℕ) (before : List ℕ) where
   pub refused-text : (r : Refusal) → readText text ≡ refusal r → Answers (textOutcome text n (length before)) before before (Refused r)
@@ -134,10 +142,12 @@ module _ (text : List ℕ) (n : ℕ) (before : List ℕ) where
     )
 
 -- the pattern's moves have room, and are laid out
-pub text-fits : (text : List ℕ) (s : Span) (t : TextOf text s) (room : ℕ) → moves (t .pattern) ≤ 4095 → moves (t .pattern) ≤ room → PatternFits (readPattern mostNested text) 0 room
+pub text-fits : (text : List ℕ) (s : Span) (t : TextOf text s) (room : ℕ) → moves (t .pattern) ≤ 4095 → moves (t .pattern) ≤ room
+    → PatternFits (readPattern mostNested text) 0 room
 text-fits text s t room few inside = subst (λ o. PatternFits o 0 room) (sym (t .pattern-read)) (few, omega (arith, inside))
 
-pub text-laid : (text : List ℕ) (s : Span) (t : TextOf text s) (before after : List ℕ) (end : ℕ) → PatternLaid (readPattern mostNested text) before 0 after end → WordPut before 0 (meaning (t .pattern)) after
+pub text-laid : (text : List ℕ) (s : Span) (t : TextOf text s) (before after : List ℕ) (end : ℕ) → PatternLaid (readPattern mostNested text) before 0 after end
+    → WordPut before 0 (meaning (t .pattern)) after
 text-laid text s t before after end laid = subst (λ o. PatternLaid o before 0 after end) (t .pattern-read) laid .0
 
 -- THE SERVICE
@@ -169,7 +179,8 @@ module _ (table text before after : List ℕ) (r : Packed) (a : Answers (import 
   by-table : (n : ℕ) (place : Place) → readTable table ≡ refused n place → Come (packedAs r)
   unfolding import
   by-table n place e =
-      told-by (refused n place) (ap (λ o. o >>= λ T. textOutcome text (T .size) (length before)) e) (Comes.no-table n place (subst (Early 3) e (table-early table)) e)
+      told-by (refused n place) (ap (λ o. o >>= λ T. textOutcome text (T .size) (length before)) e)
+      (Comes.no-table n place (subst (Early 3) e (table-early table)) e)
 
   module _ (T : Presentation) (read : readTable table ≡ answered T) where
     outcome-of : (o : Outcome Pattern) → readText text ≡ o → import table text (length before) ≡ (o >>= λ p. imported (T .size) p (length before))

@@ -9,7 +9,8 @@ use native.Mathlib.Omega.{arith}
 use lib.ListN.{length, drop}
 use Rattle.model.specs.Outcome.{Outcome, answered, _>>=_}
 use Rattle.model.specs.Bits.{Read}
-use Rattle.model.specs.Notation.{larger, Item, itemMoves, itemHighest, spaceByte, openingByte, noPattern, readMinus, readMove, readBody, readItem, readOn, readPattern}
+use Rattle.model.specs.Notation.{larger, Item, itemMoves, itemHighest, spaceByte, openingByte, noPattern, readMinus, readMove, readBody, readItem, readOn}
+use Rattle.model.specs.Notation.{readPattern}
 use Rattle.importing.specs.Reading.{standsFirst, endsFirst, capped, Kept, keptBody, keptItem, keptPattern, closing, counting, within}
 use Rattle.model.proofs.Impossible.{impossible}
 use Rattle.importing.proofs.Texts.{tail-at}
@@ -43,10 +44,12 @@ module _ (text : List ℕ) (at start depth : ℕ) (begins : drop start text ≡ 
     pub item-too-deep : depth ≡ 0 → keptItem (readItem (within depth) (drop at text)) ≡ noPattern
     item-too-deep none = item-opens ∙ ap (λ d. counting (closing (keptPattern (within d (drop (start + 1) text))))) none
 
-    pub item-bracket : (depth ≡ 0 → ⊥) → keptItem (readItem (within depth) (drop at text)) ≡ counting (closing (keptPattern (readPattern (depth - 1) (drop (start + 1) text))))
+    pub item-bracket : (depth ≡ 0 → ⊥) → keptItem (readItem (within depth) (drop at text)) ≡ counting
+        (closing (keptPattern (readPattern (depth - 1) (drop (start + 1) text))))
     item-bracket deep = item-opens ∙ ap (λ o. counting (closing (keptPattern o))) (within-less depth (drop (start + 1) text) deep)
 
-  pub item-move : standsFirst openingByte (drop start text) ≡ false → keptItem (readItem (within depth) (drop at text)) ≡ counting (keptBody (readMove (drop start text)))
+  pub item-move : standsFirst openingByte (drop start text) ≡ false → keptItem (readItem (within depth) (drop at text)) ≡ counting
+      (keptBody (readMove (drop start text)))
   item-move e = item-from ∙ ap (λ o. counting (keptBody o)) (body-move (within depth) (drop start text) e)
 
 -- A PATTERN
@@ -59,7 +62,8 @@ module _ (depth : ℕ) (t : List ℕ) where
   pattern-begins e = ap keptPattern (pattern-in depth t ∙ in-items (within depth) t e) ∙ onto-nothing (allItems (within depth) t)
 
   -- the items of a text, by what is kept of the first one
-  first-item : (o : Outcome (Read Item)) → readItem (within depth) t ≡ o → allItems (within depth) t ≡ (o >>= λ i. readOn (allItems (within depth)) (i .value) (i .rest))
+  first-item : (o : Outcome (Read Item)) → readItem (within depth) t ≡ o
+      → allItems (within depth) t ≡ (o >>= λ i. readOn (allItems (within depth)) (i .value) (i .rest))
   first-item o e = all-step (within depth) (within-shortens depth) t ∙ ap (λ o. o >>= λ i. readOn (allItems (within depth)) (i .value) (i .rest)) e
 
   pub items-refused : (m h : ℕ) → noPattern ≡ keptItem (readItem (within depth) t) → onto m h (keptPattern (allItems (within depth) t)) ≡ noPattern
@@ -70,19 +74,24 @@ module _ (depth : ℕ) (t : List ℕ) where
     read = kept-answered itemMoves itemHighest (readItem (within depth) t) k e
 
     pub items-last : (m h : ℕ) → standsFirst spaceByte (k .rest) ≡ false
-        → onto m h (keptPattern (allItems (within depth) t)) ≡ answered (record { moves = capped (m + k .moves); highest = larger h (k .highest); rest = k .rest })
+        → onto m h (keptPattern (allItems (within depth) t)) ≡ answered
+        (record { moves = capped (m + k .moves); highest = larger h (k .highest); rest = k .rest })
     items-last m h s =
-        ap (λ o. onto m h (keptPattern o)) (first-item (answered (record { value = read .value; rest = k .rest })) (read .read) ∙ on-end (allItems (within depth)) (read .value) (k .rest) s)
+        ap (λ o. onto m h (keptPattern o)) (first-item (answered (record { value = read .value; rest = k .rest })) (read .read)
+        ∙ on-end (allItems (within depth)) (read .value) (k .rest) s)
         ∙ onto-last m h (read .value) (k .rest)
         ∙ ap (λ n. answered (record { moves = capped (m + n); highest = larger h (itemHighest (read .value)); rest = k .rest })) (sym (read .moves-is))
         ∙ ap (λ n. answered (record { moves = capped (m + k .moves); highest = larger h n; rest = k .rest })) (sym (read .highest-is))
 
     pub items-more : (m h : ℕ) → standsFirst spaceByte (k .rest) ≡ true
-        → onto m h (keptPattern (allItems (within depth) t)) ≡ onto (capped (m + k .moves)) (larger h (k .highest)) (keptPattern (allItems (within depth) (drop 1 (k .rest))))
+        → onto m h (keptPattern (allItems (within depth) t)) ≡ onto (capped (m + k .moves)) (larger h (k .highest))
+        (keptPattern (allItems (within depth) (drop 1 (k .rest))))
     items-more m h s =
-        ap (λ o. onto m h (keptPattern o)) (first-item (answered (record { value = read .value; rest = k .rest })) (read .read) ∙ on-space (allItems (within depth)) (read .value) (k .rest) s)
+        ap (λ o. onto m h (keptPattern o)) (first-item (answered (record { value = read .value; rest = k .rest })) (read .read)
+        ∙ on-space (allItems (within depth)) (read .value) (k .rest) s)
         ∙ onto-more m h (read .value) (allItems (within depth) (drop 1 (k .rest)))
-        ∙ ap (λ n. onto (capped (m + n)) (larger h (itemHighest (read .value))) (keptPattern (allItems (within depth) (drop 1 (k .rest))))) (sym (read .moves-is))
+        ∙ ap (λ n. onto (capped (m + n)) (larger h (itemHighest (read .value))) (keptPattern (allItems (within depth) (drop 1 (k .rest)))))
+        (sym (read .moves-is))
         ∙ ap (λ n. onto (capped (m + k .moves)) (larger h n) (keptPattern (allItems (within depth) (drop 1 (k .rest))))) (sym (read .highest-is))
 
     -- less text is left behind the item and the space

@@ -12,7 +12,8 @@ use lib.ListN.{drop}
 use borrow.Author.Tests.{ltb-true, ltb-false, eq-eqb, ne-eqb}
 use Rattle.model.specs.Outcome.{Outcome, answered, refused, _>>=_, unless, mapped}
 use Rattle.model.specs.Bits.{Read}
-use Rattle.model.specs.Notation.{Pattern, nothing, _then_, Item, item, Body, move, bracket, times, moves, itemMoves, bodyMoves, larger, highest, itemHighest, bodyHighest, closingByte, countByte, noPattern, readNumber, readMinus, readCount, readMove, readClose, readBody, readItem}
+use Rattle.model.specs.Notation.{Pattern, nothing, _then_, Item, item, Body, move, bracket, times, moves, itemMoves, bodyMoves, larger, highest, itemHighest}
+use Rattle.model.specs.Notation.{bodyHighest, closingByte, countByte, noPattern, readNumber, readMinus, readCount, readMove, readClose, readBody, readItem}
 use Rattle.model.proofs.Impossible.{impossible}
 use Rattle.model.proofs.Numbers.{below-or}
 use Rattle.importing.specs.Reading.{capped, Kept, keptOf, keptBody, keptItem, keptPattern, closed, closing, timesKept, counted, counting, standsFirst}
@@ -91,7 +92,8 @@ larger-join a b c = ⊎-elim right left (below-or a b)
             ∙ sym (ap (λ m. larger m c) (larger-right a b (omega (arith, h))) ∙ larger-right b c (omega (arith, j)))
 
         below : c ≤ b → larger a (larger b c) ≡ larger (larger a b) c
-        below j = ap (larger a) (larger-left b c j) ∙ larger-right a b (omega (arith, h)) ∙ sym (ap (λ m. larger m c) (larger-right a b (omega (arith, h))) ∙ larger-left b c j)
+        below j = ap (larger a) (larger-left b c j) ∙ larger-right a b (omega (arith, h))
+            ∙ sym (ap (λ m. larger m c) (larger-right a b (omega (arith, h))) ∙ larger-left b c j)
 
     left : b ≤ a → larger a (larger b c) ≡ larger (larger a b) c
     left h = ⊎-elim above below (below-or b c)
@@ -151,8 +153,10 @@ onto m h o = mapped (λ k. record { moves = capped (m + k .moves); highest = lar
 pub onto-nothing : (o : Outcome (Read Pattern)) → keptPattern o ≡ onto 0 0 (keptPattern o)
 onto-nothing (refused n place) = refl
 onto-nothing (answered p) =
-    ap (λ m. answered (record { moves = m; highest = highest (p .value); rest = p .rest })) (sym (capped-sum 0 (moves (p .value)) ∙ ap capped (zero-add (moves (p .value)))))
-    ∙ ap (λ h. answered (record { moves = capped (0 + capped (moves (p .value))); highest = h; rest = p .rest })) (sym (larger-right 0 (highest (p .value)) (omega arith)))
+    ap (λ m. answered (record { moves = m; highest = highest (p .value); rest = p .rest }))
+    (sym (capped-sum 0 (moves (p .value)) ∙ ap capped (zero-add (moves (p .value)))))
+    ∙ ap (λ h. answered (record { moves = capped (0 + capped (moves (p .value))); highest = h; rest = p .rest }))
+    (sym (larger-right 0 (highest (p .value)) (omega arith)))
 
 -- what was kept before an item, and the item's, is kept before what follows
 module _ (m h : ℕ) (i : Item) where
@@ -162,7 +166,8 @@ module _ (m h : ℕ) (i : Item) where
   abbrev pub highestOn : ℕ
   highestOn = larger h (itemHighest i)
 
-  pub onto-last : (t : List ℕ) → onto m h (keptPattern (answered (record { value = i then nothing; rest = t }))) ≡ answered (record { moves = movesOn; highest = highestOn; rest = t })
+  pub onto-last : (t : List ℕ) → onto m h (keptPattern (answered (record { value = i then nothing; rest = t }))) ≡ answered
+      (record { moves = movesOn; highest = highestOn; rest = t })
   onto-last t =
       ap (λ n. answered (record { moves = capped (m + capped n); highest = larger h (larger (itemHighest i) 0); rest = t })) (add-zero (itemMoves i))
       ∙ ap (λ n. answered (record { moves = movesOn; highest = larger h n; rest = t })) (larger-none (itemHighest i))
@@ -171,13 +176,15 @@ module _ (m h : ℕ) (i : Item) where
   onto-more (refused n place) = refl
   onto-more (answered p) =
       ap (λ n. answered (record { moves = n; highest = larger h (larger (itemHighest i) (highest (p .value))); rest = p .rest })) counts
-      ∙ ap (λ n. answered (record { moves = capped (movesOn + capped (moves (p .value))); highest = n; rest = p .rest })) (larger-join h (itemHighest i) (highest (p .value)))
+      ∙ ap (λ n. answered (record { moves = capped (movesOn + capped (moves (p .value))); highest = n; rest = p .rest }))
+      (larger-join h (itemHighest i) (highest (p .value)))
     where
       counts : capped (m + capped (itemMoves i + moves (p .value))) ≡ capped (movesOn + capped (moves (p .value)))
       counts =
           capped-sum m (itemMoves i + moves (p .value))
           ∙ ap capped {x = m + (itemMoves i + moves (p .value))} {y = (m + itemMoves i) + moves (p .value)} (omega arith)
-          ∙ sym (capped-sum movesOn (moves (p .value)) ∙ ap (λ n. capped (n + moves (p .value))) (capped-sum m (itemMoves i)) ∙ capped-sum-left (m + itemMoves i) (moves (p .value)))
+          ∙ sym (capped-sum movesOn (moves (p .value)) ∙ ap (λ n. capped (n + moves (p .value))) (capped-sum m (itemMoves i))
+          ∙ capped-sum-left (m + itemMoves i) (moves (p .value)))
 
 -- WHAT WAS READ
 
@@ -188,7 +195,8 @@ pub record Answered {A : Type 0} (movesOf highestOf : A → ℕ) (o : Outcome (R
   pub moves-is : k .moves ≡ capped (movesOf value)
   pub highest-is : k .highest ≡ highestOf value
 
-pub kept-answered : {A : Type 0} (movesOf highestOf : A → ℕ) (o : Outcome (Read A)) (k : Kept) → answered k ≡ keptOf movesOf highestOf o → Answered movesOf highestOf o k
+pub kept-answered : {A : Type 0} (movesOf highestOf : A → ℕ) (o : Outcome (Read A)) (k : Kept) → answered k ≡ keptOf movesOf highestOf o
+    → Answered movesOf highestOf o k
 kept-answered movesOf highestOf (refused n place) k e = impossible (cc)
 kept-answered movesOf highestOf (answered r) k e = from (cc)
   where
@@ -209,7 +217,8 @@ kept-refused movesOf highestOf (answered r) e = impossible (cc)
 pub closed-not : (k : Kept) → standsFirst closingByte (k .rest) ≡ false → closed k ≡ noPattern
 closed-not k e = ap (λ b. cond b (answered (record { moves = k .moves; highest = k .highest; rest = drop 1 (k .rest) })) noPattern) e
 
-pub closed-there : (k : Kept) → standsFirst closingByte (k .rest) ≡ true → closed k ≡ answered (record { moves = k .moves; highest = k .highest; rest = drop 1 (k .rest) })
+pub closed-there : (k : Kept) → standsFirst closingByte (k .rest) ≡ true
+    → closed k ≡ answered (record { moves = k .moves; highest = k .highest; rest = drop 1 (k .rest) })
 closed-there k e = ap (λ b. cond b (answered (record { moves = k .moves; highest = k .highest; rest = drop 1 (k .rest) })) noPattern) e
 
 abbrev multiplied : Kept → Read (Option ℕ) → Outcome Kept
@@ -222,7 +231,8 @@ pub count-present : (k : Kept) → standsFirst countByte (k .rest) ≡ true → 
     → counted k ≡ (o >>= λ c. answered (record { moves = capped (c .value * k .moves); highest = k .highest; rest = c .rest }))
 count-present k e o same = number o (count-there (k .rest) e ∙ ap (λ n. n >>= withCount) (sym same))
   where
-    number : (n : Outcome (Read ℕ)) → readCount (k .rest) ≡ (n >>= withCount) → counted k ≡ (n >>= λ c. answered (record { moves = capped (c .value * k .moves); highest = k .highest; rest = c .rest }))
+    number : (n : Outcome (Read ℕ)) → readCount (k .rest) ≡ (n >>= withCount)
+        → counted k ≡ (n >>= λ c. answered (record { moves = capped (c .value * k .moves); highest = k .highest; rest = c .rest }))
     number (refused m place) p = ap (λ o. o >>= multiplied k) p
     number (answered c) p = ap (λ o. o >>= multiplied k) p
 
@@ -234,7 +244,8 @@ toMove a = unless (eqb (a .value) 0) 19 (record { value = move (a .value); rest 
 pub move-zero : (t rest : List ℕ) (a : ℕ) → answered (record { value = a; rest = rest }) ≡ readNumber t → a ≡ 0 → readMove t ≡ noPattern
 move-zero t rest a e z = ap (λ o. o >>= toMove) (sym e) ∙ ap (λ b. unless b 19 (record { value = move a; rest = rest })) (eq-eqb a 0 z)
 
-pub move-some : (t rest : List ℕ) (a : ℕ) → answered (record { value = a; rest = rest }) ≡ readNumber t → (a ≡ 0 → ⊥) → readMove t ≡ answered (record { value = move a; rest = rest })
+pub move-some : (t rest : List ℕ) (a : ℕ) → answered (record { value = a; rest = rest }) ≡ readNumber t → (a ≡ 0 → ⊥)
+    → readMove t ≡ answered (record { value = move a; rest = rest })
 move-some t rest a e z = ap (λ o. o >>= toMove) (sym e) ∙ ap (λ b. unless b 19 (record { value = move a; rest = rest })) (ne-eqb a 0 z)
 
 pub move-none : (t : List ℕ) → noPattern ≡ readNumber t → readMove t ≡ noPattern

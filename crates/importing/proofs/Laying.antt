@@ -50,7 +50,8 @@ letters-copies (suc k) b = letters-append b (copies k b) ∙ ap (λ w. letters b
 -- the first of copies
 first-copy : (a : List ℕ) (from : ℕ) (b : List ℕ) (k : ℕ) → from ≤ length a → take (length b) (drop from (written a from (copies (suc k) b))) ≡ b
 first-copy a from b k inside =
-    ap (take (length b)) (drop-at (take from a) (copies (suc k) b ++ drop (from + length (copies (suc k) b)) a) from (length-take-le from a inside) ∙ append-assoc b (copies k b) (drop (from + length (copies (suc k) b)) a))
+    ap (take (length b)) (drop-at (take from a) (copies (suc k) b ++ drop (from + length (copies (suc k) b)) a) from (length-take-le from a inside)
+    ∙ append-assoc b (copies k b) (drop (from + length (copies (suc k) b)) a))
     ∙ take-at b (copies k b ++ drop (from + length (copies (suc k) b)) a) (length b) refl
 
 -- REPEATING
@@ -82,7 +83,8 @@ module _ (a : List ℕ) (from count end times : ℕ) (some : 1 ≤ count) (ends 
       fewer : suc (suc (c .earlier)) ≤ times
       fewer = ⊎-elim (λ h. omega (arith, h)) (λ h. absurd (omega (arith, mul-le-mul-right count h, c .at-is, ends, more))) (below-or (suc (c .earlier)) times)
 
-  pub copied-more : (cur next : List ℕ) (at : ℕ) → Copied a from count end cur at → at < end → next ≡ written cur at (take count (drop from cur)) → Copied a from count end next (at + count)
+  pub copied-more : (cur next : List ℕ) (at : ℕ) → Copied a from count end cur at → at < end → next ≡ written cur at (take count (drop from cur))
+      → Copied a from count end next (at + count)
   copied-more cur next at c more e = record {
     earlier = suc k;
     at-is = omega (arith, c .at-is, suc-mul (suc k) count);
@@ -114,8 +116,10 @@ module _ (a : List ℕ) (from count end times : ℕ) (some : 1 ≤ count) (ends 
           ∙ first-copy a from b k (omega (arith, c .at-is, c .inside, room))
 
   -- at the end all copies stand
-  pub copied-all : (cur : List ℕ) (at : ℕ) → Copied a from count end cur at → end ≤ at → (k : ℕ) → end ≡ from + k * count → cur ≡ written a from (copies k (take count (drop from a)))
-  copied-all cur at c past k e = c .put ∙ ap (λ n. written a from (copies n (take count (drop from a)))) (same (suc (c .earlier)) k (omega (arith, c .at-is, c .inside, past, e)))
+  pub copied-all : (cur : List ℕ) (at : ℕ) → Copied a from count end cur at → end ≤ at → (k : ℕ) → end ≡ from + k * count
+      → cur ≡ written a from (copies k (take count (drop from a)))
+  copied-all cur at c past k e = c .put ∙ ap (λ n. written a from (copies n (take count (drop from a))))
+      (same (suc (c .earlier)) k (omega (arith, c .at-is, c .inside, past, e)))
     where
       same : (m n : ℕ) → m * count ≡ n * count → m ≡ n
       same m n p =
@@ -197,7 +201,8 @@ put-over a b c from u v l m fewer = record {
   inside = omega (arith, m .inside, put-kept a from u b l);
   put =
       m .put ∙ ap (λ x. written x from (m .bytes)) (l .put)
-      ∙ written-over a from (l .bytes) (m .bytes) (omega (arith, m .inside, put-kept a from u b l)) (omega (arith, put-long a from u b l, put-long b from v c m, fewer));
+      ∙ written-over a from (l .bytes) (m .bytes) (omega (arith, m .inside, put-kept a from u b l))
+      (omega (arith, put-long a from u b l, put-long b from v c m, fewer));
 }
 
 -- what stands of a word that was laid out
@@ -214,7 +219,8 @@ module _ (a : List ℕ) (from count end : ℕ) (inside : from + count ≤ length
   all-bytes = length-copies k (take count (drop from a)) ∙ ap (λ n. k * n) (taken-length a from count inside)
 
   -- a body that stands as often as its count says
-  pub put-copies : (after : List ℕ) → after ≡ written a from (copies k (take count (drop from a))) → WordPut a from (repeated k (letters (take count (drop from a)))) after
+  pub put-copies : (after : List ℕ) → after ≡ written a from (copies k (take count (drop from a)))
+      → WordPut a from (repeated k (letters (take count (drop from a)))) after
   put-copies after e = record {
     bytes = copies k (take count (drop from a));
     mean = letters-copies k (take count (drop from a));
@@ -223,7 +229,8 @@ module _ (a : List ℕ) (from count end : ℕ) (inside : from + count ≤ length
   }
 
   -- and is undone
-  pub put-undone : (mid part after : List ℕ) → mid ≡ written a from (copies k (take count (drop from a))) → Inverted (drop from mid) (end - from) part → after ≡ take from mid ++ part
+  pub put-undone : (mid part after : List ℕ) → mid ≡ written a from (copies k (take count (drop from a))) → Inverted (drop from mid) (end - from) part
+      → after ≡ take from mid ++ part
       → WordPut a from (inverse (repeated k (letters (take count (drop from a))))) after
   put-undone mid part after e inverted put = record {
     bytes = take n part;
@@ -273,12 +280,15 @@ module _ (a : List ℕ) (from count end : ℕ) (r : Repeatable from count end (l
 
   pub finished-plain : (minus : Bool) → minus ≡ false → (after : List ℕ) → Repeats a from count end after → Finishes a from count end minus after
   finished-plain minus off after repeats k e =
-      subst (λ m. WordPut a from (undone m (repeated k (letters (take count (drop from a))))) after) (sym off) (put-copies a from count end body-inside (r .inside) k e after (repeats k e))
+      subst (λ m. WordPut a from (undone m (repeated k (letters (take count (drop from a))))) after) (sym off)
+      (put-copies a from count end body-inside (r .inside) k e after (repeats k e))
 
-  module _ (minus : Bool) (on : minus ≡ true) (mid part after : List ℕ) (repeats : Repeats a from count end mid) (inverted : Inverted (drop from mid) (end - from) part) (put : after ≡ take from mid ++ part) where
+  module _ (minus : Bool) (on : minus ≡ true) (mid part after : List ℕ) (repeats : Repeats a from count end mid)
+      (inverted : Inverted (drop from mid) (end - from) part) (put : after ≡ take from mid ++ part) where
     pub finished-undone : Finishes a from count end minus after
     finished-undone k e =
-        subst (λ m. WordPut a from (undone m (repeated k (letters (take count (drop from a))))) after) (sym on) (put-undone a from count end body-inside (r .inside) k e mid part after (repeats k e) inverted put)
+        subst (λ m. WordPut a from (undone m (repeated k (letters (take count (drop from a))))) after) (sym on)
+        (put-undone a from count end body-inside (r .inside) k e mid part after (repeats k e) inverted put)
 
     pub undone-kept : length after ≡ length a
     undone-kept = put-kept a from (undone minus (repeated (r .times) (letters (take count (drop from a))))) after (finished-undone (r .times) (r .ends))

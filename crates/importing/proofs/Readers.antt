@@ -8,7 +8,8 @@ use lib.Dec.{eqb}
 use lib.ListN.{length, drop}
 use Rattle.model.specs.Outcome.{Outcome, answered, _>>=_}
 use Rattle.model.specs.Bits.{Read}
-use Rattle.model.specs.Notation.{Pattern, nothing, _then_, Item, Body, spaceByte, openingByte, minusByte, zeroByte, countByte, noPattern, isDigit, secondDigit, readNumber, readMinus, readCount, readMove, readClose, readBody, readOn, readItems, readIn, readPattern}
+use Rattle.model.specs.Notation.{Pattern, nothing, _then_, Item, Body, spaceByte, openingByte, minusByte, zeroByte, countByte, noPattern, isDigit, secondDigit}
+use Rattle.model.specs.Notation.{readNumber, readMinus, readCount, readMove, readClose, readBody, readOn, readItems, readIn, readPattern}
 use Rattle.model.proofs.Impossible.{impossible}
 use Rattle.importing.specs.Reading.{standsFirst, digitFirst, endsFirst, within}
 
@@ -33,7 +34,8 @@ module _ (x : ℕ) (xs : List ℕ) (digit : isDigit x ≡ true) where
     where
       second-none : (ys : List ℕ) → digitFirst ys ≡ false → secondDigit (x - zeroByte) ys ≡ record { value = x - zeroByte; rest = ys }
       second-none [] e = refl
-      second-none (y ∷ ys) e = ap (λ b. cond b (record { value = 10 * (x - zeroByte) + (y - zeroByte); rest = ys }) (record { value = x - zeroByte; rest = y ∷ ys })) e
+      second-none (y ∷ ys) e =
+          ap (λ b. cond b (record { value = 10 * (x - zeroByte) + (y - zeroByte); rest = ys }) (record { value = x - zeroByte; rest = y ∷ ys })) e
 
 pub number-two : (x y : ℕ) (ys : List ℕ) → isDigit x ≡ true → eqb x zeroByte ≡ false → isDigit y ≡ true
     → readNumber (x ∷ y ∷ ys) ≡ answered (record { value = 10 * (x - zeroByte) + (y - zeroByte); rest = ys })

@@ -10,7 +10,9 @@ use lib.Dec.{eqb}
 use lib.ListN.{length}
 use Rattle.model.specs.Outcome.{Outcome, answered, refused, _>>=_, unless}
 use Rattle.model.specs.Bits.{Read}
-use Rattle.model.specs.Notation.{Pattern, nothing, _then_, Item, move, bracket, spaceByte, openingByte, closingByte, minusByte, zeroByte, countByte, noPattern, isDigit, secondDigit, readNumber, readMinus, readCount, readMove, readClose, readBody, readItem, readOn, readItems, readIn, readPattern}
+use Rattle.model.specs.Notation.{Pattern, nothing, _then_, Item, move, bracket, spaceByte, openingByte, closingByte, minusByte, zeroByte, countByte, noPattern}
+use Rattle.model.specs.Notation.{isDigit, secondDigit, readNumber, readMinus, readCount, readMove, readClose, readBody, readItem, readOn, readItems, readIn}
+use Rattle.model.specs.Notation.{readPattern}
 use Rattle.importing.specs.Reading.{within}
 use Rattle.importing.proofs.Readers.{withCount, closeAfter, before, allItems}
 
@@ -44,29 +46,34 @@ leaves-more n m (refused k place) le h = tt
 second-shortens : (a : ℕ) (t : List ℕ) → length (secondDigit a t .rest) ≤ length t
 second-shortens a [] = le-refl 0
 second-shortens a (x ∷ xs) =
-    left-either (suc (length xs)) (isDigit x) (record { value = 10 * a + (x - zeroByte); rest = xs }) (record { value = a; rest = x ∷ xs }) (omega arith) (le-refl (suc (length xs)))
+    left-either (suc (length xs)) (isDigit x) (record { value = 10 * a + (x - zeroByte); rest = xs }) (record { value = a; rest = x ∷ xs }) (omega arith)
+    (le-refl (suc (length xs)))
 
 number-shortens : Shortens readNumber
 number-shortens [] = tt
 number-shortens (x ∷ xs) =
     leaves-either (suc (length xs)) (isDigit x) (answered (cond (eqb x zeroByte) (record { value = 0; rest = xs }) (secondDigit (x - zeroByte) xs))) noPattern
-    (left-either (suc (length xs)) (eqb x zeroByte) (record { value = 0; rest = xs }) (secondDigit (x - zeroByte) xs) (omega arith) (omega (arith, second-shortens (x - zeroByte) xs)))
+    (left-either (suc (length xs)) (eqb x zeroByte) (record { value = 0; rest = xs }) (secondDigit (x - zeroByte) xs) (omega arith)
+    (omega (arith, second-shortens (x - zeroByte) xs)))
     tt
 
 minus-shortens : (t : List ℕ) → length (readMinus t .rest) ≤ length t
 minus-shortens [] = le-refl 0
 minus-shortens (x ∷ xs) =
-    left-either (suc (length xs)) (eqb x minusByte) (record { value = true; rest = xs }) (record { value = false; rest = x ∷ xs }) (omega arith) (le-refl (suc (length xs)))
+    left-either (suc (length xs)) (eqb x minusByte) (record { value = true; rest = xs }) (record { value = false; rest = x ∷ xs }) (omega arith)
+    (le-refl (suc (length xs)))
 
 count-shortens : Shortens readCount
 count-shortens [] = le-refl 0
 count-shortens (x ∷ xs) =
     leaves-either (suc (length xs)) (eqb x countByte) (readNumber xs >>= withCount) (answered (record { value = none; rest = x ∷ xs }))
-    (leaves-bind (suc (length xs)) (readNumber xs) withCount (leaves-more (length xs) (suc (length xs)) (readNumber xs) (omega arith) (number-shortens xs)) (λ r h. h))
+    (leaves-bind (suc (length xs)) (readNumber xs) withCount (leaves-more (length xs) (suc (length xs)) (readNumber xs) (omega arith) (number-shortens xs))
+    (λ r h. h))
     (le-refl (suc (length xs)))
 
 move-shortens : Shortens readMove
-move-shortens t = leaves-bind (length t) (readNumber t) (λ a. unless (eqb (a .value) 0) 19 (record { value = move (a .value); rest = a .rest })) (number-shortens t) moved
+move-shortens t = leaves-bind (length t) (readNumber t) (λ a. unless (eqb (a .value) 0) 19 (record { value = move (a .value); rest = a .rest }))
+    (number-shortens t) moved
   where
     either : (b : Bool) (a : Read ℕ) → length (a .rest) ≤ length t → Leaves (length t) (unless b 19 (record { value = move (a .value); rest = a .rest }))
     either true a h = tt
@@ -91,8 +98,10 @@ module _ (inner : List ℕ → Outcome (Read Pattern)) (shortens : Shortens inne
   pub item-shortens : Shortens (readItem inner)
   unfolding readItem
   item-shortens t =
-      leaves-bind (length t) (readBody inner (readMinus t .rest)) _ (leaves-more (length (readMinus t .rest)) (length t) (readBody inner (readMinus t .rest)) (minus-shortens t) (body-shortens (readMinus t .rest)))
-      (λ b h. leaves-bind (length t) (readCount (b .rest)) _ (leaves-more (length (b .rest)) (length t) (readCount (b .rest)) h (count-shortens (b .rest))) (λ k j. j))
+      leaves-bind (length t) (readBody inner (readMinus t .rest)) _
+      (leaves-more (length (readMinus t .rest)) (length t) (readBody inner (readMinus t .rest)) (minus-shortens t) (body-shortens (readMinus t .rest)))
+      (λ b h. leaves-bind (length t) (readCount (b .rest)) _ (leaves-more (length (b .rest)) (length t) (readCount (b .rest)) h (count-shortens (b .rest)))
+      (λ k j. j))
 
   -- ITEMS ONE AFTER ANOTHER
 
@@ -108,7 +117,8 @@ module _ (inner : List ℕ → Outcome (Read Pattern)) (shortens : Shortens inne
   items-shorten zero t = tt
   items-shorten (suc k) t =
       leaves-bind (length t) (readItem inner t) _ (item-shortens t)
-      (λ i h. leaves-more (length (i .rest)) (length t) (readOn (readItems inner k) (i .value) (i .rest)) h (on-shortens (readItems inner k) (items-shorten k) (i .value) (i .rest)))
+      (λ i h. leaves-more (length (i .rest)) (length t) (readOn (readItems inner k) (i .value) (i .rest)) h
+      (on-shortens (readItems inner k) (items-shorten k) (i .value) (i .rest)))
 
   in-shortens : Shortens (readIn inner)
   in-shortens [] = le-refl 0
@@ -139,14 +149,16 @@ module _ (inner : List ℕ → Outcome (Read Pattern)) (shortens : Shortens inne
   as-many zero j t p q = sym (nothing-read j t p)
   as-many (suc k) zero t p q = nothing-read (suc k) t q
   as-many (suc k) (suc j) t p q =
-      after-same (readItems inner k) (readItems inner j) (length t) (λ s h. as-many k j s (omega (arith, h, p)) (omega (arith, h, q))) (readItem inner t) (item-shortens t)
+      after-same (readItems inner k) (readItems inner j) (length t) (λ s h. as-many k j s (omega (arith, h, p)) (omega (arith, h, q))) (readItem inner t)
+      (item-shortens t)
 
   -- all items of a text: the first, and all items of what follows the space
   pub all-step : (t : List ℕ) → allItems inner t ≡ (readItem inner t >>= λ i. readOn (allItems inner) (i .value) (i .rest))
   unfolding readItems readItem
   all-step [] = refl
   all-step (x ∷ xs) =
-      after-same (readItems inner (length xs)) (allItems inner) (suc (length xs)) (λ t h. as-many (length xs) (length t) t (omega (arith, h)) (le-refl (length t)))
+      after-same (readItems inner (length xs)) (allItems inner) (suc (length xs))
+      (λ t h. as-many (length xs) (length t) t (omega (arith, h)) (le-refl (length t)))
       (readItem inner (x ∷ xs)) (item-shortens (x ∷ xs))
 
 -- what is in a bracket, at every depth

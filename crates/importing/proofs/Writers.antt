@@ -12,7 +12,9 @@ use borrow.Author.Tests.{leb-true}
 use Rattle.model.specs.Word.{forward, Word}
 use Rattle.model.specs.Outcome.{Outcome, answered, refused, _>>=_, unless}
 use Rattle.model.specs.Bits.{Read}
-use Rattle.model.specs.Notation.{Pattern, Item, item, Body, move, bracket, repeated, times, undone, meaning, itemMeaning, bodyMeaning, moves, itemMoves, bodyMoves, bodyHighest, itemHighest, zeroByte, openingByte, closingByte, minusByte, noPattern, isDigit, secondDigit, readNumber, readMinus, readCount, readClose, readBody, readItem, readPattern}
+use Rattle.model.specs.Notation.{Pattern, Item, item, Body, move, bracket, repeated, times, undone, meaning, itemMeaning, bodyMeaning, moves, itemMoves}
+use Rattle.model.specs.Notation.{bodyMoves, bodyHighest, itemHighest, zeroByte, openingByte, closingByte, minusByte, noPattern, isDigit, secondDigit}
+use Rattle.model.specs.Notation.{readNumber, readMinus, readCount, readClose, readBody, readItem, readPattern}
 use Rattle.model.proofs.Impossible.{impossible}
 use Rattle.model.proofs.Booleans.{both-true}
 use Rattle.theory.proofs.Notation.{item-counted, body-counted}
@@ -40,7 +42,8 @@ second-low : (a : ℕ) → a ≤ 9 → (t : List ℕ) → secondDigit a t .value
 second-low a h [] = omega (arith, h)
 second-low a h (x ∷ xs) = test (isDigit x) refl
   where
-    test : (b : Bool) → isDigit x ≡ b → cond {A = Read ℕ} b (record { value = 10 * a + (x - zeroByte); rest = xs }) (record { value = a; rest = x ∷ xs }) .value ≤ 99
+    test : (b : Bool) → isDigit x ≡ b → cond {A = Read ℕ} b (record { value = 10 * a + (x - zeroByte); rest = xs })
+        (record { value = a; rest = x ∷ xs }) .value ≤ 99
     test true e = omega (arith, h, digit-most x e)
     test false e = omega (arith, h)
 
@@ -52,7 +55,8 @@ number-low (x ∷ xs) = test (isDigit x) refl
     value e true = omega arith
     value e false = second-low (x - zeroByte) (omega (arith, digit-most x e)) xs
 
-    test : (b : Bool) → isDigit x ≡ b → TwoDigits (cond b (answered (cond (eqb x zeroByte) (record { value = 0; rest = xs }) (secondDigit (x - zeroByte) xs))) noPattern)
+    test : (b : Bool) → isDigit x ≡ b
+        → TwoDigits (cond b (answered (cond (eqb x zeroByte) (record { value = 0; rest = xs }) (secondDigit (x - zeroByte) xs))) noPattern)
     test true e = value e (eqb x zeroByte)
     test false e = tt
 
@@ -78,7 +82,8 @@ item-parts inner t r e = from-body (readBody inner (readMinus t .rest)) refl e
         same s = record { body = b .value; count = k .value; item-is = ap (λ (x : Read Item). x .value) (sym s); behind = b .rest; body-read = p }
 
     from-body : (o : Outcome (Read Body)) → readBody inner (readMinus t .rest) ≡ o
-        → (o >>= λ b. readCount (b .rest) >>= λ k. answered (record { value = item (readMinus t .value) (b .value) (k .value); rest = k .rest })) ≡ answered r → Parts inner t (r .value)
+        → (o >>= λ b. readCount (b .rest) >>= λ k. answered (record { value = item (readMinus t .value) (b .value) (k .value); rest = k .rest })) ≡ answered r
+        → Parts inner t (r .value)
     from-body (refused n place) p q = impossible (cc)
     from-body (answered b) p q = from-count b p (readCount (b .rest)) q
 
@@ -88,7 +93,8 @@ pub record Held (inner : List ℕ → Outcome (Read Pattern)) (t : List ℕ) (b 
   pub inner-read : inner (drop 1 t) ≡ answered pattern
   pub body-is : b ≡ bracket (pattern .value)
 
-body-held : (inner : List ℕ → Outcome (Read Pattern)) (t : List ℕ) (b : Read Body) → standsFirst openingByte t ≡ true → readBody inner t ≡ answered b → Held inner t (b .value)
+body-held : (inner : List ℕ → Outcome (Read Pattern)) (t : List ℕ) (b : Read Body) → standsFirst openingByte t ≡ true → readBody inner t ≡ answered b
+    → Held inner t (b .value)
 body-held inner t b opens e = from-inner (inner (drop 1 t)) refl (sym (body-bracket inner t opens) ∙ e)
   where
     closed : (q : Pattern) (s : List ℕ) → readClose q s ≡ answered b → b .value ≡ bracket q
@@ -111,10 +117,12 @@ pub record Moved (b : Body) : Type 0 where
   pub low : number ≤ 99
   pub body-is : b ≡ move number
 
-body-moved : (inner : List ℕ → Outcome (Read Pattern)) (t : List ℕ) (b : Read Body) → standsFirst openingByte t ≡ false → readBody inner t ≡ answered b → Moved (b .value)
+body-moved : (inner : List ℕ → Outcome (Read Pattern)) (t : List ℕ) (b : Read Body) → standsFirst openingByte t ≡ false → readBody inner t ≡ answered b
+    → Moved (b .value)
 body-moved inner t b plain e = from-number (readNumber t) (number-low t) (sym (body-move inner t plain) ∙ e)
   where
-    from-number : (o : Outcome (Read ℕ)) → TwoDigits o → (o >>= λ a. unless (eqb (a .value) 0) 19 (record { value = move (a .value); rest = a .rest })) ≡ answered b → Moved (b .value)
+    from-number : (o : Outcome (Read ℕ)) → TwoDigits o
+        → (o >>= λ a. unless (eqb (a .value) 0) 19 (record { value = move (a .value); rest = a .rest })) ≡ answered b → Moved (b .value)
     from-number (refused n place) low q = impossible (cc)
     from-number (answered a) low q = test (eqb (a .value) 0) q
       where
@@ -128,7 +136,8 @@ body-moved inner t b plain e = from-number (readNumber t) (number-low t) (sym (b
 -- AN ITEM THAT IS WRITTEN
 
 -- `k` was kept of the item at `at`, whose moves have room from `from` on
-module _ (text : List ℕ) (at depth from : ℕ) (a : List ℕ) (k : Kept) (e : answered k ≡ keptItem (readItem (within depth) (drop at text))) (fits : ItemFits (readItem (within depth) (drop at text)) from (length a)) where
+module _ (text : List ℕ) (at depth from : ℕ) (a : List ℕ) (k : Kept) (e : answered k ≡ keptItem (readItem (within depth) (drop at text)))
+    (fits : ItemFits (readItem (within depth) (drop at text)) from (length a)) where
   pub was-read : Answered itemMoves itemHighest (readItem (within depth) (drop at text)) k
   was-read = kept-answered itemMoves itemHighest (readItem (within depth) (drop at text)) k e
 
@@ -153,7 +162,9 @@ module _ (text : List ℕ) (at depth from : ℕ) (a : List ℕ) (k : Kept) (e : 
   -- an item of no moves
   pub nothing-laid : (laid : Laid) → drop (laid .next) text ≡ k .rest → laid .end ≡ from + k .moves → k .moves ≡ 0
       → ItemLaid (readItem (within depth) (drop at text)) text a from a laid
-  nothing-laid laid next end none = laid-out a laid (subst (λ w. WordPut a from w a) (empty (itemMeaning the-item) (item-counted the-item ∙ sym moves-exact ∙ none)) (put-nothing a from (omega (arith, end-inside)))) next end
+  nothing-laid laid next end none =
+      laid-out a laid (subst (λ w. WordPut a from w a) (empty (itemMeaning the-item) (item-counted the-item ∙ sym moves-exact ∙ none))
+      (put-nothing a from (omega (arith, end-inside)))) next end
     where
       empty : (w : Word) → length w ≡ 0 → [] ≡ w
       empty [] h = refl
@@ -201,8 +212,10 @@ module _ (text : List ℕ) (at depth from : ℕ) (a : List ℕ) (k : Kept) (e : 
     }
 
     -- and then the whole item stands
-    pub item-stands : (count : ℕ) (mid after : List ℕ) (minus : Bool) (laid : Laid) → count ≡ bodyMoves (parts .body) → WordPut a from (bodyMeaning (parts .body)) mid
-        → Finishes mid from count (from + k .moves) minus after → minus ≡ readMinus (drop at text) .value → drop (laid .next) text ≡ k .rest → laid .end ≡ from + k .moves
+    pub item-stands : (count : ℕ) (mid after : List ℕ) (minus : Bool) (laid : Laid) → count ≡ bodyMoves (parts .body)
+        → WordPut a from (bodyMeaning (parts .body)) mid
+        → Finishes mid from count (from + k .moves) minus after → minus ≡ readMinus (drop at text) .value → drop (laid .next) text ≡ k .rest
+        → laid .end ≡ from + k .moves
         → ItemLaid (readItem (within depth) (drop at text)) text a from after laid
     item-stands count mid after minus laid c body finishes m next end = laid-out after laid whole next end
       where
@@ -211,16 +224,20 @@ module _ (text : List ℕ) (at depth from : ℕ) (a : List ℕ) (k : Kept) (e : 
 
         over : WordPut mid from (itemMeaning the-item) after
         over =
-            subst (λ w. WordPut mid from w after) (ap (λ w. undone minus (repeated (times (parts .count)) w)) word ∙ ap (λ s. undone s (repeated (times (parts .count)) (bodyMeaning (parts .body)))) m ∙ sym meaning-is)
+            subst (λ w. WordPut mid from w after)
+            (ap (λ w. undone minus (repeated (times (parts .count)) w)) word
+            ∙ ap (λ s. undone s (repeated (times (parts .count)) (bodyMeaning (parts .body)))) m ∙ sym meaning-is)
             (finishes (times (parts .count)) (ap (λ n. from + n) (moves-are ∙ ap (λ n. times (parts .count) * n) (sym c))))
 
         whole : WordPut a from (itemMeaning the-item) after
-        whole = put-over a mid after from (bodyMeaning (parts .body)) (itemMeaning the-item) body over (omega (arith, body-counted (parts .body), item-counted the-item, body-fewer, moves-exact))
+        whole = put-over a mid after from (bodyMeaning (parts .body)) (itemMeaning the-item) body over
+            (omega (arith, body-counted (parts .body), item-counted the-item, body-fewer, moves-exact))
 
     -- a bracket's pattern is read one level deeper, and has room
     module _ (start : ℕ) (begins : drop start text ≡ readMinus (drop at text) .rest) (opens : standsFirst openingByte (drop start text) ≡ true) where
       held : Held (within depth) (drop start text) (parts .body)
-      held = body-held (within depth) (drop start text) (record { value = parts .body; rest = parts .behind }) opens (ap (readBody (within depth)) begins ∙ parts .body-read)
+      held = body-held (within depth) (drop start text) (record { value = parts .body; rest = parts .behind }) opens
+          (ap (readBody (within depth)) begins ∙ parts .body-read)
 
       held-read : within depth (drop (start + 1) text) ≡ answered (held .pattern)
       held-read = ap (within depth) (sym (tail-at text start)) ∙ held .inner-read
@@ -257,7 +274,8 @@ module _ (text : List ℕ) (at depth from : ℕ) (a : List ℕ) (k : Kept) (e : 
     -- a move is the highest number in its item
     module _ (start : ℕ) (begins : drop start text ≡ readMinus (drop at text) .rest) (plain : standsFirst openingByte (drop start text) ≡ false) where
       moved : Moved (parts .body)
-      moved = body-moved (within depth) (drop start text) (record { value = parts .body; rest = parts .behind }) plain (ap (readBody (within depth)) begins ∙ parts .body-read)
+      moved = body-moved (within depth) (drop start text) (record { value = parts .body; rest = parts .behind }) plain
+          (ap (readBody (within depth)) begins ∙ parts .body-read)
 
       number-is : k .highest ≡ moved .number
       number-is = was-read .highest-is ∙ ap itemHighest (parts .item-is) ∙ ap bodyHighest (moved .body-is)

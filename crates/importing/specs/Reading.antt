@@ -9,7 +9,8 @@ use lib.ListN.{drop}
 use Rattle.model.specs.Outcome.{Outcome, answered, _>>=_, mapped}
 use Rattle.model.specs.Bits.{Read}
 use Rattle.model.specs.Plain.{mostLetters}
-use Rattle.model.specs.Notation.{Pattern, Item, Body, moves, itemMoves, bodyMoves, larger, highest, itemHighest, bodyHighest, closingByte, noPattern, isDigit, readCount, readPattern}
+use Rattle.model.specs.Notation.{Pattern, Item, Body, moves, itemMoves, bodyMoves, larger, highest, itemHighest, bodyHighest, closingByte, noPattern, isDigit}
+use Rattle.model.specs.Notation.{readCount, readPattern}
 use Rattle.importing.specs.declared.numbers.NumberRead.{NumberRead}
 use Rattle.importing.specs.declared.numbers.NumberRead.the-variants.{Number, NotNumber}
 use Rattle.importing.specs.declared.reading.Span.{Span}

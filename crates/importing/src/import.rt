@@ -60,7 +60,8 @@ pub fn import_text(text: &[u8], size: u8, answer: &mut [u8]) -> Packed
 
 pub fn import(table: &[u8], text: &[u8], answer: &mut [u8]) -> Packed
     ensures stated { λ r. ⌜ packedAs r ≡ mapped length (import (now (table .entry)) (now (text .entry)) (length (now (answer .entry)))) ⌝ }
-    ensures answer { λ r. ⌜ now (answer .exit) ≡ outputAfter plainProgram (import (now (table .entry)) (now (text .entry)) (length (now (answer .entry)))) (now (answer .entry)) ⌝ }
+    ensures answer { λ r. ⌜ now (answer .exit) ≡ outputAfter plainProgram (import (now (table .entry)) (now (text .entry)) (length (now (answer .entry))))
+        (now (answer .entry)) ⌝ }
     ensures meaning { λ r. ⌜ ImportSays (now (table .entry)) (now (text .entry)) (packedAs r) (now (answer .exit)) ⌝ }
 {
     match tables::table_size(table) {

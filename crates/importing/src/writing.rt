@@ -1,4 +1,5 @@
-// The moves of patterns and items, laid out in an area. As when they are read, the two writers call each other, and only a bracket goes deeper. An item that means
+// The moves of patterns and items, laid out in an area. As when they are read, the two writers call each other, and only a bracket goes deeper. An item that
+// means
 // no move is passed over: its text is read, and nothing of it is laid out.
 ghost use mathlib.Core.Path.{_≡_};
 ghost use Prim.Native.Nat.{_+_};

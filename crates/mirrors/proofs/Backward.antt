@@ -81,7 +81,8 @@ module _ (cells : List ℕ) (a cell count : ℕ) (small : count ≤ 15) (begun :
             ∙ (getD-set-same mirror (to + count - k) next 0 (omega (arith, p .same-length)) ∙ (p .next-is ∙ ap (sideAt cells a cell) (sym e)))
 
     -- one letter more, at the place that was worked out for it
-    pub put-more : k < count → (place : ℕ) → place ≡ to + count - k → Putting cells a cell count begun to (set mirror place next) (getD cells (cell + 1 + k) 0) (k + 1)
+    pub put-more : k < count → (place : ℕ) → place ≡ to + count - k → Putting cells a cell count begun to (set mirror place next) (getD cells (cell + 1 + k) 0)
+        (k + 1)
     put-more h place e = rw e (one-put h)
 
     module _ (done : count ≤ k) (counted : getD cells cell 0 ≡ count) (size : ℕ) (x : Positive) (named : InRange size a) (h : HoldsWord size cells cell x) where
@@ -124,7 +125,8 @@ module _ (cells : List ℕ) (a cell count : ℕ) (small : count ≤ 15) (begun :
 
 -- the whole, where the length was stored before the letters
 pub put-whole : (cells : List ℕ) (a cell : ℕ) (before : List ℕ) (to : ℕ) → getD cells cell 0 ≤ 15 → to + 16 ≤ length before → (mirror : List ℕ) (next k : ℕ)
-    → Putting cells a cell (getD cells cell 0) (set before to (getD cells cell 0)) to mirror next k → getD cells cell 0 ≤ k → PutBackward cells a cell before to mirror
+    → Putting cells a cell (getD cells cell 0) (set before to (getD cells cell 0)) to mirror next k → getD cells cell 0 ≤ k
+    → PutBackward cells a cell before to mirror
 put-whole cells a cell before to small room mirror next k p done =
     let stored = length-set before to (getD cells cell 0) in
     record {

@@ -93,7 +93,8 @@ module _ (T : Presentation) (few : T .size ≤ 16) (a b : ℕ) (rest : List Two)
             go : (c : Complement) → found T p q (h .earlier) ≡ c → found T p q (h .earlier) ≡ undefined
             go undefined e = e
             go (complement u v) e =
-                let w : HoldsWord (T .size) cells (cellAt p q) (reverse u) = subst (λ c. HoldsFirst (T .size) cells (cellAt p q) (backward c)) e (h .different p q rp rq d) in
+                let w : HoldsWord (T .size) cells (cellAt p q) (reverse u) =
+                subst (λ c. HoldsFirst (T .size) cells (cellAt p q) (backward c)) e (h .different p q rp rq d) in
                 absurd (omega (arith, w .count, w .in-range .short))
 
         own : found T p q more ≡ complement (fromEnd a x .before) (fromEnd b y .before)
@@ -111,7 +112,8 @@ module _ (T : Presentation) (few : T .size ≤ 16) (a b : ℕ) (rest : List Two)
             ∙ else-none (found T i j (h .earlier)))
 
         module _ (mid after : List ℕ) (first : KeptOutside cells (cellAt p q) mid) (second : KeptOutside mid (cellAt q p) after)
-            (there : HoldsWord (T .size) mid (cellAt p q) (reverse (fromEnd a x .before))) (back : HoldsWord (T .size) after (cellAt q p) (reverse (fromEnd b y .before))) where
+            (there : HoldsWord (T .size) mid (cellAt p q) (reverse (fromEnd a x .before)))
+            (back : HoldsWord (T .size) after (cellAt q p) (reverse (fromEnd b y .before))) where
           letters : Letters p q
           letters = (wide few rp, wide few rq)
 
@@ -159,7 +161,8 @@ module _ (T : Presentation) (few : T .size ≤ 16) (a b : ℕ) (rest : List Two)
 
 -- WHERE BUILDING BEGINS: the weights are copied into cells where every pair is open
 
-pub begun : (cells : List ℕ) (size : ℕ) (T : Presentation) → Of cells size T → (mid : List ℕ) → WeightsCopied cells size (replicate 4096 255) mid → Building T mid (pairs size)
+pub begun : (cells : List ℕ) (size : ℕ) (T : Presentation) → Of cells size T → (mid : List ℕ) → WeightsCopied cells size (replicate 4096 255) mid
+    → Building T mid (pairs size)
 unfolding mirrorCheck
 begun cells size T o mid c =
     record {

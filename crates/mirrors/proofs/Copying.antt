@@ -75,7 +75,8 @@ module _ (cells before : List ℕ) (full : length before ≡ 4096) (mirror : Lis
       → Copying cells before (set (set mirror cell none) place (getD cells from 0)) (a + 1)
   copied-more cell place from none e f g h = rw (e, f, g, h) one-copied
 
-pub copied-all : (cells : List ℕ) (size : ℕ) (before mirror : List ℕ) (a : ℕ) → size < a → Copying cells before mirror a → WeightsCopied cells size before mirror
+pub copied-all : (cells : List ℕ) (size : ℕ) (before mirror : List ℕ) (a : ℕ) → size < a → Copying cells before mirror a
+    → WeightsCopied cells size before mirror
 copied-all cells size before mirror a h c =
     record {
       same-length = c .same-length;

@@ -27,7 +27,8 @@ record Relation (cells : List ℕ) (T : Presentation) (a b : ℕ) : Type 0 where
   there : HoldsWord (T .size) cells (cellAt a b) x
   back : HoldsWord (T .size) cells (cellAt b a) y
 
-relation : (cells : List ℕ) (T : Presentation) → Stands cells T → (a b : ℕ) → InRange (T .size) a → InRange (T .size) b → (getD cells (cellAt a b) 0 ≡ 255 → ⊥) → Relation cells T a b
+relation : (cells : List ℕ) (T : Presentation) → Stands cells T → (a b : ℕ) → InRange (T .size) a → InRange (T .size) b → (getD cells (cellAt a b) 0 ≡ 255 → ⊥)
+    → Relation cells T a b
 relation cells T s a b ra rb defined =
     let w = word-cell cells T s a b ra rb defined in
     record {
@@ -105,7 +106,8 @@ module _ (cells : List ℕ) (a b there back : ℕ) (there-is : there ≡ cellAt 
           (λ e. n (ap (λ i. getD mirror i 0) to-is ∙ e))
 
       -- both words are put into their cells
-      pub entered-done : getD mirror to 0 ≡ 255 → (from : ℕ) → from ≡ cellAt q p → (mid after : List ℕ) → PutBackward cells a there mirror to mid → PutBackward cells b back mid from after
+      pub entered-done : getD mirror to 0 ≡ 255 → (from : ℕ) → from ≡ cellAt q p → (mid after : List ℕ) → PutBackward cells a there mirror to mid
+          → PutBackward cells b back mid from after
           → PairDone cells a b mirror after true
       entered-done free from from-is mid after first second T s ra rb rest h =
           let w = related T s ra rb in

@@ -39,7 +39,8 @@ module _ (cells : List ℕ) (size a : ℕ) (before : List ℕ) where
           subst (PairDone cells a b mirror after) e done T (o .stands) (of-range o a (ra .low) (ra .high)) (of-range o b (rb .low) (rb .high))
           (rowFrom size a (b + 1) ++ rest) (next-pair T o rest h)
 
-      pub row-offends : r ≡ false → (T : Presentation) → Of cells size T → (rest : List Two) → Building T before (row size a ++ rest) → mirrorCheck T ≡ offended a b
+      pub row-offends : r ≡ false → (T : Presentation) → Of cells size T → (rest : List Two) → Building T before (row size a ++ rest)
+          → mirrorCheck T ≡ offended a b
       row-offends e T o rest h =
           subst (PairDone cells a b mirror after) e done T (o .stands) (of-range o a (ra .low) (ra .high)) (of-range o b (rb .low) (rb .high))
           (rowFrom size a (b + 1) ++ rest) (next-pair T o rest h)
@@ -60,7 +61,8 @@ module _ (cells : List ℕ) (size : ℕ) (before : List ℕ) where
   module _ (mirror : List ℕ) (a : ℕ) (built : RowsBuilding cells size before mirror a) where
     module _ (named : a ≤ size) (after : List ℕ) (r : Mirrored) (done : RowDone cells size a mirror after r) where
       -- what comes of the row
-      pub rows-next : {r′ : Mirrored} → r ≡ r′ → (T : Presentation) → Of cells size T → Building T before (pairs size) → BuiltOr T (pairsFrom size (a + 1)) after r′
+      pub rows-next : {r′ : Mirrored} → r ≡ r′ → (T : Presentation) → Of cells size T → Building T before (pairs size)
+          → BuiltOr T (pairsFrom size (a + 1)) after r′
       rows-next e T o h =
           subst (RowDone cells size a mirror after) e done T o (pairsFrom size (a + 1)) (subst (Building T mirror) (pairs-some size a named) (built T o h))
 
@@ -69,7 +71,8 @@ module _ (cells : List ℕ) (size : ℕ) (before : List ℕ) where
 
 -- THE WHOLE, from cells where every pair is open
 
-pub table-done : (cells : List ℕ) (size : ℕ) (before mid after : List ℕ) → before ≡ replicate cellBytes undefinedLength → WeightsCopied cells size before mid → length after ≡ 4096
+pub table-done : (cells : List ℕ) (size : ℕ) (before mid after : List ℕ) → before ≡ replicate cellBytes undefinedLength → WeightsCopied cells size before mid
+    → length after ≡ 4096
     → (r : Mirrored) → RowsDone cells size mid after r → MirrorDone cells size after r
 table-done cells size before mid after blank copied full Made done =
     λ T o. built cells size T o after full (done T o (begun cells size T o mid (subst (λ b. WeightsCopied cells size b mid) blank copied)))

@@ -11,7 +11,8 @@ use Rattle.swaps.specs.Held.{heldAt, Placed, Carried}
 pub carried-start : (bytes : List ℕ) (left right : ℕ) → Placed bytes left right → Carried bytes left right left bytes right
 carried-start bytes left right p = record { same-length = refl; placed = p; word = refl }
 
-pub carried-at : {before after : List ℕ} {left right now to right′ : ℕ} → now ≡ to → Carried before left right now after right′ → Carried before left right to after right′
+pub carried-at : {before after : List ℕ} {left right now to right′ : ℕ} → now ≡ to → Carried before left right now after right′
+    → Carried before left right to after right′
 carried-at e c = rw (← e) c
 
 module _ (before : List ℕ) (left₀ right₀ : ℕ) (bytes : List ℕ) (left right : ℕ) (c : Carried before left₀ right₀ left bytes right) where

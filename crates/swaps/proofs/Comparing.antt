@@ -12,7 +12,8 @@ use Rattle.model.specs.Word.{Positive, positive, byte, forward}
 use Rattle.model.specs.Equivalence.{equal}
 
 equal-step : (xs ys : List ℕ) (p q n : ℕ) → p < length xs → q < length ys
-    → equal (take (suc n) (drop p xs)) (take (suc n) (drop q ys)) ≡ (eqb (getD xs p 0) (getD ys q 0) && equal (take n (drop (suc p) xs)) (take n (drop (suc q) ys)))
+    → equal (take (suc n) (drop p xs))
+    (take (suc n) (drop q ys)) ≡ (eqb (getD xs p 0) (getD ys q 0) && equal (take n (drop (suc p) xs)) (take n (drop (suc q) ys)))
 equal-step xs ys p q n h i = ap₂ (λ a b. equal (take (suc n) a) (take (suc n) b)) (drop-cons xs p 0 h) (drop-cons ys q 0 i)
 
 -- words of different length are different

@@ -9,7 +9,8 @@ use Rattle.model.specs.Areas.{written}
 use Rattle.swaps.specs.Held.{heldAt, Placed}
 use Rattle.swaps.specs.Entry.{WordHeld}
 
-module _ (before : List ℕ) (left right taken b : ℕ) (word : List ℕ) (count : ℕ) (n : length word ≡ count) (p : Placed before left right) (t : right + taken ≤ length before) where
+module _ (before : List ℕ) (left right taken b : ℕ) (word : List ℕ) (count : ℕ) (n : length word ≡ count) (p : Placed before left right)
+    (t : right + taken ≤ length before) where
   abbrev made : List ℕ
   made = take left before ++ ((b ∷ word) ++ drop (right + taken) before)
 

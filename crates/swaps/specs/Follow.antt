@@ -24,7 +24,8 @@ pub record Follows (cells : List ℕ) (size : ℕ) (chain : List ℕ) (count : �
 
 -- what is left after following: only the comparison with the second word, or nothing
 abbrev pub FollowedAs : List ℕ → (Positive → Outcome Passage) → Followed → Type 0
-FollowedAs after outcome (Ended g) = Placed after (g .left) (g .right) × ((v : Positive) → outcome v ≡ answered (cond (equal (heldAt after (g .left) (g .right)) v) joins ends-elsewhere))
+FollowedAs after outcome (Ended g) = Placed after (g .left) (g .right)
+    × ((v : Positive) → outcome v ≡ answered (cond (equal (heldAt after (g .left) (g .right)) v) joins ends-elsewhere))
 FollowedAs after outcome (Breaks k) = (v : Positive) → outcome v ≡ answered (breaks k)
 FollowedAs after outcome Short = (v : Positive) → outcome v ≡ refused 12 unplaced
 

@@ -30,9 +30,11 @@ pub fn replace(
     from: usize,
     count: usize,
 ) -> Applied
-    requires { ⌜ Placed (now bytes) (gap .left) (gap .right) × (gap .right + taken ≤ length (now bytes)) × (from + count ≤ length (now cells)) × (count ≤ 255) ⌝ }
+    requires { ⌜ Placed (now bytes) (gap .left) (gap .right) × (gap .right + taken ≤ length (now bytes)) × (from + count ≤ length (now cells))
+        × (count ≤ 255) ⌝ }
     ensures length { λ r. ⌜ length (now (bytes .exit)) ≡ length (now (bytes .entry)) ⌝ }
-    ensures replaced { λ r. ⌜ ReplaceMeans (now (bytes .entry)) (gap .left) (gap .right + taken) b (take count (drop from (now (cells .entry)))) (now (bytes .exit)) r ⌝ }
+    ensures replaced { λ r. ⌜ ReplaceMeans (now (bytes .entry)) (gap .left) (gap .right + taken) b (take count (drop from (now (cells .entry))))
+        (now (bytes .exit)) r ⌝ }
 {
     let end = gap.right + taken;
     if end < gap.left + (1 + count) {

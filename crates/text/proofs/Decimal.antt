@@ -52,14 +52,17 @@ module _ (x : ℕ) where
       three : Dec (x < 100) → x < 1000 → value 0 (number x) ≡ x
       three (yes l) i = two (decLt x 10) l
       three (no l) i =
-          sym (ap (value 0) (parts [] [] (at 100) (at 10) (none 10000 (omega arith)) (none 1000 i) (some 100 (omega arith)) (some 10 (omega arith)))) ∙ omega (arith, hundreds, mod-eq-of-lt {n = x / 100} {m = 10} (omega arith))
+          sym (ap (value 0) (parts [] [] (at 100) (at 10) (none 10000 (omega arith)) (none 1000 i) (some 100 (omega arith)) (some 10 (omega arith))))
+          ∙ omega (arith, hundreds, mod-eq-of-lt {n = x / 100} {m = 10} (omega arith))
 
       four : Dec (x < 1000) → x < 10000 → value 0 (number x) ≡ x
       four (yes l) i = three (decLt x 100) l
       four (no l) i =
-          sym (ap (value 0) (parts [] (at 1000) (at 100) (at 10) (none 10000 i) (some 1000 (omega arith)) (some 100 (omega arith)) (some 10 (omega arith)))) ∙ omega (arith, hundreds, thousands, mod-eq-of-lt {n = x / 1000} {m = 10} (omega arith))
+          sym (ap (value 0) (parts [] (at 1000) (at 100) (at 10) (none 10000 i) (some 1000 (omega arith)) (some 100 (omega arith)) (some 10 (omega arith))))
+          ∙ omega (arith, hundreds, thousands, mod-eq-of-lt {n = x / 1000} {m = 10} (omega arith))
 
       five : Dec (x < 10000) → value 0 (number x) ≡ x
       five (yes l) = four (decLt x 1000) l
       five (no l) =
-          sym (ap (value 0) (parts (at 10000) (at 1000) (at 100) (at 10) (some 10000 (omega arith)) (some 1000 (omega arith)) (some 100 (omega arith)) (some 10 (omega arith)))) ∙ omega (arith, hundreds, thousands, tens-of-thousands, mod-eq-of-lt {n = x / 10000} {m = 10} (omega arith))
+          sym (ap (value 0) (parts (at 10000) (at 1000) (at 100) (at 10) (some 10000 (omega arith)) (some 1000 (omega arith)) (some 100 (omega arith))
+          (some 10 (omega arith)))) ∙ omega (arith, hundreds, thousands, tens-of-thousands, mod-eq-of-lt {n = x / 10000} {m = 10} (omega arith))

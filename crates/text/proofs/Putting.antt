@@ -69,7 +69,8 @@ module _ (f : ℕ → List ℕ) (k : ℕ) (xs before : List ℕ) (at : ℕ) wher
   first-more i h p q =
       put-as (omega (arith, mul-suc k i, ap (λ n. k * n) (add-one i)))
       (sym (ap (λ n. concatMap f (take n xs)) (add-one i)
-      ∙ (ap (concatMap f) (take-suc xs i 0 h) ∙ (concat-append f (take i xs) (getD xs i 0 ∷ []) ∙ ap (λ l. concatMap f (take i xs) ++ l) (append-nil (f (getD xs i 0)))))))
+      ∙ (ap (concatMap f) (take-suc xs i 0 h)
+      ∙ (concat-append f (take i xs) (getD xs i 0 ∷ []) ∙ ap (λ l. concatMap f (take i xs) ++ l) (append-nil (f (getD xs i 0)))))))
       (p then q)
 
   pub first-all : (i : ℕ) → i ≡ length xs → {after : List ℕ} {next : ℕ} → PutFirst i after next → Put (k * length xs) before at (concatMap f xs) after next

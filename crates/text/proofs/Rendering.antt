@@ -23,7 +23,8 @@ use Rattle.text.specs.Render.{Readable, Reported}
 use Rattle.reversal.proofs.Told.{Sized, mapped-answered}
 use Rattle.text.proofs.Reports.{outcome, no-answer, answer, bytes-word, numerator-part, denominator-part}
 
-pub reported : {most : ℕ} {table program before text after : List ℕ} {r : ℕ} → Put most before 0 text after r → most ≤ length before → text ≡ report table program
+pub reported : {most : ℕ} {table program before text after : List ℕ} {r : ℕ} → Put most before 0 text after r → most ≤ length before
+    → text ≡ report table program
     → Reported table program after r
 reported p h e = record { inside = omega (arith, p .near, p .same-length); text = p .appended ∙ e }
 
@@ -79,7 +80,8 @@ module _ (table program : List ℕ) (size count : ℕ) (q : Readable table progr
         → answerText size (bytesText (take count bytes)) (take n after) (take d (drop n after)) k ≡ report table program
     answer-report workspace bytes b =
         let letters : take count bytes ≡ map byte word =
-        ap (take count) b ∙ take-at (map byte word) (drop (0 + length (map byte word)) workspace) count (length-map word byte ∙ q .program-read .program .count-is) in
+        ap (take count) b ∙ take-at (map byte word) (drop (0 + length (map byte word)) workspace) count
+        (length-map word byte ∙ q .program-read .program .count-is) in
         let range = program-in-range size (q .program-read .few) program word (q .program-read .program .read) in
         let spelled : bytesText (take count bytes) ≡ wordText word = ap bytesText letters ∙ bytes-word size (q .program-read .few) word (range .letters) in
         let numerator : take n after ≡ N = ap (take n) begun ∙ numerator-part N D before n (found .numerator-length) in

@@ -20,7 +20,8 @@ pub fn put_number_line(out: &mut [u8], at: usize, label: &[u8], x: u16) -> usize
 
 pub fn put_numbers_line(out: &mut [u8], at: usize, label: &[u8], numbers: &[u8]) -> usize
     requires { ⌜ at + (length (now label) + (6 * length (now numbers) + 1)) ≤ length (now out) ⌝ }
-    ensures { λ r. ⌜ Put (length (now (label .entry)) + (6 * length (now (numbers .entry)) + 1)) (now (out .entry)) at (line (now (label .entry)) (numbersText (now (numbers .entry)))) (now (out .exit)) r ⌝ }
+    ensures { λ r. ⌜ Put (length (now (label .entry)) + (6 * length (now (numbers .entry)) + 1)) (now (out .entry)) at
+        (line (now (label .entry)) (numbersText (now (numbers .entry)))) (now (out .exit)) r ⌝ }
 {
     let labelled = put_label(out, at, label);
     let listed = put_numbers(out, labelled, numbers);
@@ -29,7 +30,8 @@ pub fn put_numbers_line(out: &mut [u8], at: usize, label: &[u8], numbers: &[u8])
 
 pub fn put_word_line(out: &mut [u8], at: usize, label: &[u8], word: &[u8]) -> usize
     requires { ⌜ at + (length (now label) + (7 * length (now word) + 1)) ≤ length (now out) ⌝ }
-    ensures { λ r. ⌜ Put (length (now (label .entry)) + (7 * length (now (word .entry)) + 1)) (now (out .entry)) at (line (now (label .entry)) (bytesText (now (word .entry)))) (now (out .exit)) r ⌝ }
+    ensures { λ r. ⌜ Put (length (now (label .entry)) + (7 * length (now (word .entry)) + 1)) (now (out .entry)) at
+        (line (now (label .entry)) (bytesText (now (word .entry)))) (now (out .exit)) r ⌝ }
 {
     let labelled = put_label(out, at, label);
     let spelled = put_word(out, labelled, word);
@@ -46,7 +48,9 @@ pub fn put_answer(
     steps: u16,
 ) -> usize
     requires { ⌜ 7 * length (now program) + (6 * length (now numerator) + (6 * length (now denominator) + 64)) ≤ length (now out) ⌝ }
-    ensures { λ r. ⌜ Put (7 * length (now (program .entry)) + (6 * length (now (numerator .entry)) + (6 * length (now (denominator .entry)) + 64))) (now (out .entry)) 0 (answerText size (bytesText (now (program .entry))) (now (numerator .entry)) (now (denominator .entry)) steps) (now (out .exit)) r ⌝ }
+    ensures { λ r. ⌜ Put (7 * length (now (program .entry)) + (6 * length (now (numerator .entry)) + (6 * length (now (denominator .entry)) + 64)))
+        (now (out .entry)) 0 (answerText size (bytesText (now (program .entry))) (now (numerator .entry)) (now (denominator .entry)) steps)
+        (now (out .exit)) r ⌝ }
 {
     let after_moves = put_number_line(out, 0, b"moves", size as u16);
     let after_program = put_word_line(out, after_moves, b"program", program);
@@ -67,8 +71,11 @@ pub fn put_areas(
     denominator: usize,
     steps: u16,
 ) -> usize
-    requires { ⌜ (letters ≤ length (now program)) × (numerator + denominator ≤ length (now fraction)) × (7 * letters + (6 * numerator + (6 * denominator + 64)) ≤ length (now out)) ⌝ }
-    ensures { λ r. ⌜ Put (7 * letters + (6 * numerator + (6 * denominator + 64))) (now (out .entry)) 0 (answerText size (bytesText (take letters (now (program .entry)))) (take numerator (now (fraction .entry))) (take denominator (drop numerator (now (fraction .entry)))) steps) (now (out .exit)) r ⌝ }
+    requires { ⌜ (letters ≤ length (now program)) × (numerator + denominator ≤ length (now fraction))
+        × (7 * letters + (6 * numerator + (6 * denominator + 64)) ≤ length (now out)) ⌝ }
+    ensures { λ r. ⌜ Put (7 * letters + (6 * numerator + (6 * denominator + 64))) (now (out .entry)) 0
+        (answerText size (bytesText (take letters (now (program .entry)))) (take numerator (now (fraction .entry)))
+        (take denominator (drop numerator (now (fraction .entry)))) steps) (now (out .exit)) r ⌝ }
 {
     let end = numerator + denominator;
     put_answer(

@@ -6,17 +6,13 @@ use borrow.Author.Needs.{needs}
 use Rattle.bits.proofs.letter_width.Statement.{statement}
 use Rattle.bits.proofs.letter_width.Tie as tie
 
-sub-result : tie.Need-sub-result
-sub-result c = search needs
-
 sub-result-2 : tie.Need-sub-result-2
 sub-result-2 c = leading-le 8 (c .args .n - 1)
-
-cast-result : tie.Need-cast-result
-cast-result c = search needs
 
 returns : tie.Need-returns
 returns c = width-is (c .args .n) (c .pre .0) (c .pre .1)
 
 pub letter-width-spec : {M : Type 1} → statement M
-letter-width-spec = tie.close (tie.spec sub-result sub-result-2 cast-result returns)
+letter-width-spec =
+    tie.close
+    (tie.spec (λ c. search needs) sub-result-2 (λ c. search needs) returns)

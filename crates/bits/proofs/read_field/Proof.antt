@@ -21,7 +21,8 @@ abbrev loop : tie.After-run-length Inv-loop μ-loop → tie.At-loop Inv-loop μ-
 loop c = c .before .before
 
 -- the run lies in the field, and has some bits
-run : (c : tie.After-run-length Inv-loop μ-loop) → (loop c .loop .i + c .run-length .result ≤ start (loop c) .args .width) × (0 < c .run-length .result) × (c .run-length .result ≤ 8)
+run : (c : tie.After-run-length Inv-loop μ-loop) → (loop c .loop .i + c .run-length .result ≤ start (loop c) .args .width) × (0 < c .run-length .result)
+    × (c .run-length .result ≤ 8)
 run c =
     let r = c .run-length .ensures in
     let left : loop c .loop .i < start (loop c) .args .width = c .before .loop-test .taken in
@@ -30,8 +31,10 @@ run c =
 -- the value with the run, as code computes it
 computed : (c : tie.After-read-run Inv-loop μ-loop)
     → loop (c .before) .loop .value * 2 ^ c .before .run-length .result % 65536 + c .read-run .result
-    ≡ number 0 (take (loop (c .before) .loop .i) (drop (start (loop (c .before)) .args .at) (bitsOf (start (loop (c .before)) .args .bytes .now)))) * 2 ^ c .before .run-length .result
-    + number 0 (take (c .before .run-length .result) (drop (start (loop (c .before)) .args .at + loop (c .before) .loop .i) (bitsOf (start (loop (c .before)) .args .bytes .now))))
+    ≡ number 0 (take (loop (c .before) .loop .i) (drop (start (loop (c .before)) .args .at) (bitsOf (start (loop (c .before)) .args .bytes .now)))) * 2
+    ^ c .before .run-length .result
+    + number 0 (take (c .before .run-length .result)
+    (drop (start (loop (c .before)) .args .at + loop (c .before) .loop .i) (bitsOf (start (loop (c .before)) .args .bytes .now))))
 computed c =
     let l = loop (c .before) in
     let s = start l in
@@ -68,7 +71,12 @@ add-value : tie.Need-add-value Inv-loop μ-loop
 add-value c =
     let l = loop (c .before) in
     let s = start l in
-    omega (arith, computed c, step-fits (s .args .bytes .now) (s .args .at) (s .args .width) (s .pre) (l .loop .i) (c .before .run-length .result) (run (c .before) .0))
+    omega (
+      arith,
+      computed c,
+      step-fits (s .args .bytes .now) (s .args .at) (s .args .width) (s .pre) (l .loop .i) (c .before .run-length .result)
+          (run (c .before) .0),
+    )
 
 add-i : tie.Need-add-i Inv-loop μ-loop
 add-i c = omega (arith, run (c .before) .0, start (loop (c .before)) .pre .narrow)
@@ -79,32 +87,22 @@ loop-less c = omega (arith, run (c .before) .0, run (c .before) .1)
 loop-again : tie.Need-loop-again Inv-loop μ-loop
 loop-again c =
     let l = loop (c .before) in
-    let s = start l in
-    (run (c .before) .0, computed c ∙ sym (field-more (s .args .bytes .now) (s .args .at) (s .args .width) (s .pre) (l .loop .i) (c .before .run-length .result) (run (c .before) .0)))
+    let s = start l in (
+      run (c .before) .0,
+      computed c
+          ∙ sym (field-more (s .args .bytes .now) (s .args .at) (s .args .width) (s .pre) (l .loop .i) (c .before .run-length .result) (run (c .before) .0)),
+    )
 
 returns : tie.Need-returns Inv-loop μ-loop
 returns c =
     let l = c .before in
     let s = start l in
     l .loop .inv .1
-    ∙ ap (λ n. number 0 (take n (drop (s .args .at) (bitsOf (s .args .bytes .now))))) {x = l .loop .i} {y = s .args .width} (omega (arith, l .loop .inv .0, c .loop-test .left))
+    ∙ ap (λ n. number 0 (take n (drop (s .args .at) (bitsOf (s .args .bytes .now))))) {x = l .loop .i} {y = s .args .width}
+    (omega (arith, l .loop .inv .0, c .loop-test .left))
 
 pub read-field-spec : {M : Type 1} → statement M
 read-field-spec =
     tie.close
-    (tie.spec
-    Inv-loop
-    μ-loop
-    loop-holds
-    add-run-length
-    sub-run-length
-    run-length-requires
-    add-read-run
-    read-run-requires
-    cast-value
-    shl-value
-    add-value
-    add-i
-    loop-less
-    loop-again
-    returns)
+    (tie.spec Inv-loop μ-loop loop-holds add-run-length sub-run-length run-length-requires add-read-run read-run-requires cast-value shl-value add-value
+    add-i loop-less loop-again returns)

@@ -12,29 +12,8 @@ use Rattle.bits.proofs.read_run.Tie as tie
 span : (c : tie.Start) → (1 * 2 ^ c .args .count) % 65536 ≡ 2 ^ c .args .count
 span c = shifted-one 16 (c .args .count) (omega (arith, c .pre .1))
 
-sub-after : tie.Need-sub-after
-sub-after c = search needs
-
-sub-after-2 : tie.Need-sub-after-2
-sub-after-2 c = search needs
-
-cast-span : tie.Need-cast-span
-cast-span c = search needs
-
-shl-span : tie.Need-shl-span
-shl-span c = search needs
-
-shared-slice-read-result : tie.Need-shared-slice-read-result
-shared-slice-read-result c = search needs
-
 cast-result : tie.Need-cast-result
 cast-result c = omega (arith, c .shared-slice-known .given (c .before .args .at / 8))
-
-cast-result-2 : tie.Need-cast-result-2
-cast-result-2 c = search needs
-
-shr-result : tie.Need-shr-result
-shr-result c = search needs
 
 rem-result : tie.Need-rem-result
 rem-result c = omega (arith, span (c .before), pow-pos (c .before .args .count))
@@ -48,14 +27,5 @@ returns c =
 pub read-run-spec : {M : Type 1} → statement M
 read-run-spec =
     tie.close
-    (tie.spec
-    sub-after
-    sub-after-2
-    cast-span
-    shl-span
-    shared-slice-read-result
-    cast-result
-    cast-result-2
-    shr-result
-    rem-result
-    returns)
+    (tie.spec (λ c. search needs) (λ c. search needs) (λ c. search needs) (λ c. search needs) (λ c. search needs) cast-result (λ c. search needs)
+    (λ c. search needs) rem-result returns)

@@ -66,7 +66,8 @@ loop-again c =
     let l = loop r in
     let s = start l in (
       omega (arith, l .loop .inv .0),
-      run-more (s .args .bytes .now) (l .loop .bytes) (c .before .before .write-run .last .0) (s .args .at) (s .args .width) (s .args .value) (l .loop .left) (r .run-length .result)
+      run-more (s .args .bytes .now) (l .loop .bytes) (c .before .before .write-run .last .0) (s .args .at) (s .args .width) (s .args .value) (l .loop .left)
+          (r .run-length .result)
           (s .pre .inside) (l .loop .inv .0) (r .run-length .ensures .part) (l .loop .inv .1) (c .before .before .write-run .ensures),
     )
 
@@ -86,18 +87,5 @@ returns c =
 pub write-field-spec : {M : Type 1} → statement M
 write-field-spec =
     tie.close
-    (tie.spec
-    Inv-loop
-    μ-loop
-    loop-holds
-    sub-place
-    add-place
-    run-length-requires
-    sub-rest
-    cast-write-run
-    shr-write-run
-    write-run-requires
-    loop-less
-    loop-again
-    same-length
-    returns)
+    (tie.spec Inv-loop μ-loop loop-holds sub-place add-place run-length-requires sub-rest cast-write-run shr-write-run write-run-requires loop-less
+    loop-again same-length returns)

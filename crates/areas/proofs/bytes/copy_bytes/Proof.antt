@@ -36,7 +36,8 @@ loop-again c =
       omega (arith, c .before .loop-test .taken),
       length-set (l .loop .area) (l .loop .i) (getD (s .args .from .now) (l .loop .i) 0) ∙ l .loop .inv .1,
       ap (λ a. set a (l .loop .i) (getD (s .args .from .now) (l .loop .i) 0)) (l .loop .inv .2)
-          ∙ copied-more (s .args .from .now) (s .args .area .now) (l .loop .i) (omega (arith, c .before .loop-test .taken, s .pre .0)) (omega (arith, c .before .loop-test .taken, s .pre .1)),
+          ∙ copied-more (s .args .from .now) (s .args .area .now) (l .loop .i) (omega (arith, c .before .loop-test .taken, s .pre .0))
+          (omega (arith, c .before .loop-test .taken, s .pre .1)),
     )
 
 same-length : tie.Need-same-length Inv-loop μ-loop
@@ -52,14 +53,4 @@ returns c =
 pub copy-bytes-spec : {M : Type 1} → statement M
 copy-bytes-spec =
     tie.close
-    (tie.spec
-    Inv-loop
-    μ-loop
-    loop-holds
-    shared-slice-read-area
-    slice-write-area
-    add-i
-    loop-less
-    loop-again
-    same-length
-    returns)
+    (tie.spec Inv-loop μ-loop loop-holds shared-slice-read-area slice-write-area add-i loop-less loop-again same-length returns)

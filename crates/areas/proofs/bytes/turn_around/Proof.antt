@@ -14,35 +14,21 @@ Inv-loop area₀ count low₀ high₀ area low high = Exchanging Stays area₀ c
 abbrev μ-loop : tie.MeasureT-loop
 μ-loop area₀ count low₀ high₀ area low high = high
 
+abbrev start : tie.At-loop Inv-loop μ-loop → tie.Start Inv-loop μ-loop
+start c = c .before
+
 loop-holds : tie.Need-loop-holds Inv-loop μ-loop
 loop-holds c = exchanging-start Stays (c .args .area .now) (c .args .count)
-
-sub-high : tie.Need-sub-high Inv-loop μ-loop
-sub-high c = omega arith
-
-slice-read-first : tie.Need-slice-read-first Inv-loop μ-loop
-slice-read-first c = omega arith
-
-slice-read-last : tie.Need-slice-read-last Inv-loop μ-loop
-slice-read-last c = omega arith
-
-slice-write-area : tie.Need-slice-write-area Inv-loop μ-loop
-slice-write-area c = omega arith
 
 slice-write-area-2 : tie.Need-slice-write-area-2 Inv-loop μ-loop
 slice-write-area-2 c = simp length-set (omega arith)
 
-add-low : tie.Need-add-low Inv-loop μ-loop
-add-low c = omega arith
-
-loop-less : tie.Need-loop-less Inv-loop μ-loop
-loop-less c = omega arith
-
 loop-again : tie.Need-loop-again Inv-loop μ-loop
 loop-again c =
     let l = c .before .before .before .loop in
-    let s = c .before .before .before .before in
-    exchanging-turn Stays (s .args .area .now) (s .args .count) (s .pre) (l .area) (l .low) (l .high) (l .inv) (omega arith) (getD (l .area) (l .low) 0) (getD (l .area) (l .high - 1) 0) refl refl
+    let s = start (c .before .before .before) in
+    exchanging-turn Stays (s .args .area .now) (s .args .count) (s .pre) (l .area) (l .low) (l .high) (l .inv) (omega arith) (getD (l .area) (l .low) 0)
+    (getD (l .area) (l .high - 1) 0) refl refl
 
 same-length : tie.Need-same-length Inv-loop μ-loop
 same-length c = c .before .loop .inv .same-length
@@ -56,17 +42,5 @@ returns c =
 pub turn-around-spec : {M : Type 1} → statement M
 turn-around-spec =
     tie.close
-    (tie.spec
-    Inv-loop
-    μ-loop
-    loop-holds
-    sub-high
-    slice-read-first
-    slice-read-last
-    slice-write-area
-    slice-write-area-2
-    add-low
-    loop-less
-    loop-again
-    same-length
-    returns)
+    (tie.spec Inv-loop μ-loop loop-holds (λ c. omega arith) (λ c. omega arith) (λ c. omega arith) (λ c. omega arith) slice-write-area-2 (λ c. omega arith)
+    (λ c. omega arith) loop-again same-length returns)

@@ -8,12 +8,6 @@ use borrow.Author.Needs.{needs}
 use Rattle.cells.proofs.weights.letter_weight.Statement.{statement}
 use Rattle.cells.proofs.weights.letter_weight.Tie as tie
 
-weight-at-requires : tie.Need-weight-at-requires
-weight-at-requires c κs = search needs
-
-shared-slice-read-result : tie.Need-shared-slice-read-result
-shared-slice-read-result c = search needs
-
 cast-result : tie.Need-cast-result
 cast-result c =
     omega (arith, c .before .before .shared-slice-known .given (c .before .weight-at .result))
@@ -28,4 +22,5 @@ returns c =
 
 pub letter-weight-spec : {M : Type 1} → statement M
 letter-weight-spec =
-    tie.close (tie.spec weight-at-requires shared-slice-read-result cast-result add-result returns)
+    tie.close
+    (tie.spec (λ c κs. search needs) (λ c. search needs) cast-result add-result returns)

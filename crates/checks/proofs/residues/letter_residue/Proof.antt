@@ -15,6 +15,9 @@ use borrow.Author.Needs.{needs}
 use Rattle.checks.proofs.residues.letter_residue.Statement.{statement}
 use Rattle.checks.proofs.residues.letter_residue.Tie as tie
 
+abbrev after-cell-at2 : tie.After-shared-slice-known2 → tie.After-cell-at2
+after-cell-at2 c = c .before
+
 abbrev start : tie.Else1 → tie.Start
 start c = c .before .before
 
@@ -31,13 +34,13 @@ Pair c T = Serves (begun c .args .cells .now) (positive (begun c .args .a ∷ be
 words : (c : tie.Else2) (T : Presentation) → Pair c T → Rule (begun c .args .cells .now) T (begun c .args .a) (begun c .args .b)
 words c T t =
     let s = begun c in
-    let to = c .before .before .before .before .cell-at in
+    let to = after-cell-at2 (c .before .before) .before .cell-at in
     rule-of t (s .args .a) (s .args .b) (t .lettered .0) (t .lettered .1 .0) (λ e. c .if2 .left (ap (λ i. getD (s .args .cells .now) i 0) (to .ensures) ∙ e))
 
 -- their lengths, where the code reads them
 to-count : (c : tie.Else2) (T : Presentation) (t : Pair c T)
-    → getD (begun c .args .cells .now) (c .before .before .before .before .cell-at .result) 0 ≡ length (words c T t .x)
-to-count c T t = ap (λ i. getD (begun c .args .cells .now) i 0) (c .before .before .before .before .cell-at .ensures) ∙ words c T t .to .count
+    → getD (begun c .args .cells .now) (after-cell-at2 (c .before .before) .before .cell-at .result) 0 ≡ length (words c T t .x)
+to-count c T t = ap (λ i. getD (begun c .args .cells .now) i 0) (after-cell-at2 (c .before .before) .before .cell-at .ensures) ∙ words c T t .to .count
 
 from-count : (c : tie.Else2) (T : Presentation) (t : Pair c T)
     → getD (begun c .args .cells .now) (c .before .before .before .cell-at2 .result) 0 ≡ length (words c T t .y)
@@ -51,29 +54,18 @@ returns c T t =
     let s = c .before .before in
     letters-long T (s .args .room) (s .args .a) (s .args .b) (s .args .budget) (c .if1 .taken)
 
-cell-at-requires : tie.Need-cell-at-requires
-cell-at-requires c κs = search needs
-
-cell-at-requires-2 : tie.Need-cell-at-requires-2
-cell-at-requires-2 c κs = search needs
-
-shared-slice-read-x : tie.Need-shared-slice-read-x
-shared-slice-read-x c = search needs
-
 cast-x : tie.Need-cast-x
 cast-x c = omega (arith, c .shared-slice-known2 .given (c .before .before .cell-at .result))
-
-shared-slice-read-y : tie.Need-shared-slice-read-y
-shared-slice-read-y c = search needs
 
 cast-y : tie.Need-cast-y
 cast-y c = omega (arith, c .shared-slice-known3 .given (c .before .before .cell-at2 .result))
 
 returns-2 : tie.Need-returns-2
 returns-2 c T t =
-    let k = c .before .before .before .before .before in
+    let j = after-cell-at2 (c .before .before) in
+    let k = j .before .before in
     let s = start k in
-    let first-byte = ap (λ i. getD (s .args .cells .now) i 0) (sym (c .before .before .before .before .cell-at .ensures)) ∙ c .if2 .taken in
+    let first-byte = ap (λ i. getD (s .args .cells .now) i 0) (sym (j .before .cell-at .ensures)) ∙ c .if2 .taken in
     letters-open T (s .args .room) (s .args .a) (s .args .b) (omega (arith, k .if1 .left)) (s .args .budget)
     (open-cell (s .args .cells .now) T (t .stands) (s .args .a) (s .args .b) (t .lettered .0) (t .lettered .1 .0) first-byte)
 
@@ -111,16 +103,5 @@ returns-5 c T t =
 pub letter-residue-spec : {M : Type 1} → statement M
 letter-residue-spec =
     tie.close
-    (tie.spec
-    returns
-    cell-at-requires
-    cell-at-requires-2
-    shared-slice-read-x
-    cast-x
-    shared-slice-read-y
-    cast-y
-    returns-2
-    returns-3
-    add-if4
-    returns-4
-    returns-5)
+    (tie.spec returns (λ c κs. search needs) (λ c κs. search needs) (λ c. search needs) cast-x (λ c. search needs) cast-y returns-2 returns-3 add-if4
+    returns-4 returns-5)

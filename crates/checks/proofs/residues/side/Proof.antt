@@ -18,6 +18,9 @@ use borrow.Author.Needs.{needs}
 use Rattle.checks.proofs.residues.side.Statement.{statement}
 use Rattle.checks.proofs.residues.side.Tie as tie
 
+abbrev after-word-residue : tie.After-bytes → tie.After-word-residue
+after-word-residue c = c .before
+
 abbrev start : tie.After-letter-residue → tie.Start
 start c = c .before .before .before
 
@@ -59,9 +62,6 @@ no-word (Halted s) h = tt
 letter-residue-requires : tie.Need-letter-residue-requires
 letter-residue-requires c κs = let s = c .before .before in (s .pre .0, without-third (s .pre .1))
 
-enum-told : tie.Need-enum-told
-enum-told c = search needs
-
 returns : tie.Need-returns
 returns c =
     let k = c .before in
@@ -73,9 +73,6 @@ returns c =
 
 letter-residue-requires-2 : tie.Need-letter-residue-requires-2
 letter-residue-requires-2 c κs = let s = start (first c) in (s .pre .0, without-second (s .pre .1))
-
-enum-told-2 : tie.Need-enum-told-2
-enum-told-2 c = search needs
 
 returns-2 : tie.Need-returns-2
 returns-2 c =
@@ -101,12 +98,9 @@ word-residue-requires c κs =
       ),
     )
 
-same-length : tie.Need-same-length
-same-length c = search needs
-
 returns-3 : tie.Need-returns-3
 returns-3 c =
-    let k = c .before .before .before .before in
+    let k = after-word-residue (c .before) .before .before in
     let a = start (first (second (both k))) .args in
     let q = c .before .before .word-residue in (
       q .ensures .0,
@@ -125,13 +119,5 @@ returns-3 c =
 pub side-spec : {M : Type 1} → statement M
 side-spec =
     tie.close
-    (tie.spec
-    letter-residue-requires
-    enum-told
-    returns
-    letter-residue-requires-2
-    enum-told-2
-    returns-2
-    word-residue-requires
-    same-length
-    returns-3)
+    (tie.spec letter-residue-requires (λ c. search needs) returns letter-residue-requires-2 (λ c. search needs) returns-2 word-residue-requires
+    (λ c. search needs) returns-3)

@@ -22,6 +22,12 @@ Inv-loop cells size a₀ a =
 abbrev μ-loop : tie.MeasureT-loop
 μ-loop cells size a₀ a = size + 1 - a
 
+abbrev start : tie.In-loop Inv-loop μ-loop → tie.Start Inv-loop μ-loop
+start c = c .before .before .before
+
+abbrev in-loop : tie.After-row-weights Inv-loop μ-loop → tie.In-loop Inv-loop μ-loop
+in-loop c = c .before
+
 loop-holds : tie.Need-loop-holds Inv-loop μ-loop
 loop-holds c =
     let s = c .before in
@@ -30,13 +36,11 @@ loop-holds c =
 row-weights-requires : tie.Need-row-weights-requires Inv-loop μ-loop
 row-weights-requires c κs = let s = c .before .before .before in (s .pre, omega arith, omega arith)
 
-enum-known-row : tie.Need-enum-known-row Inv-loop μ-loop
-enum-known-row c = search needs
-
 returns : tie.Need-returns Inv-loop μ-loop
 returns c =
-    let s = c .before .before .before .before .before .before .before in
-    let l = c .before .before .before .before .before .loop in
+    let k = in-loop (c .before .before .before) in
+    let s = start k in
+    let l = k .before .loop in
     let v = c .before .before .before .row-weights in
     let m = subst (RowMeans (s .args .cells .now) (s .args .size) (l .a)) (c .before .row .given .1) (v .ensures) in
     λ T o. sym
@@ -45,19 +49,11 @@ returns c =
     ∙ (weights-append T (row (s .args .size) (l .a)) (pairsFrom (s .args .size) (l .a + 1))
     ∙ ap (λ x. x >>= λ ok. weightCheck T (pairsFrom (s .args .size) (l .a + 1))) (sym (m T o)))))
 
-enum-told : tie.Need-enum-told Inv-loop μ-loop
-enum-told c = search needs
-
-add-a : tie.Need-add-a Inv-loop μ-loop
-add-a c = omega arith
-
-loop-less : tie.Need-loop-less Inv-loop μ-loop
-loop-less c = omega arith
-
 loop-again : tie.Need-loop-again Inv-loop μ-loop
 loop-again c =
-    let s = c .before .before .before .before .before .before in
-    let l = c .before .before .before .before .loop in
+    let k = in-loop (c .before .before) in
+    let s = start k in
+    let l = k .before .loop in
     let v = c .before .before .row-weights in
     let m = subst (RowMeans (s .args .cells .now) (s .args .size) (l .a)) (c .enum-told .given .1) (v .ensures) in (
       omega arith,
@@ -78,15 +74,5 @@ returns-2 c =
 pub check-weights-spec : {M : Type 1} → statement M
 check-weights-spec =
     tie.close
-    (tie.spec
-    Inv-loop
-    μ-loop
-    loop-holds
-    row-weights-requires
-    enum-known-row
-    returns
-    enum-told
-    add-a
-    loop-less
-    loop-again
-    returns-2)
+    (tie.spec Inv-loop μ-loop loop-holds row-weights-requires (λ c. search needs) returns (λ c. search needs) (λ c. omega arith) (λ c. omega arith)
+    loop-again returns-2)

@@ -21,6 +21,9 @@ abbrev μ-loop : tie.MeasureT-loop
 μ-loop cells size a b₀ b =
     size + 1 - b
 
+abbrev start : tie.At-loop Inv-loop μ-loop → tie.Start Inv-loop μ-loop
+start c = c .before .before
+
 add-b : tie.Need-add-b Inv-loop μ-loop
 add-b c = let s = (c .before) in omega (arith, s .pre .2, of-few (s .pre .0 .1))
 
@@ -36,16 +39,17 @@ sides-balanced-requires c κs =
 
 returns : tie.Need-returns Inv-loop μ-loop
 returns c =
-    let s = (c .before .before .before .before .before) in
+    let s = (start (c .before .before .before)) in
     let l = c .before .before .before .loop in
     λ T o. sym
     (l .inv .3 T o
     ∙ (ap (weightCheck T) (row-some (s .args .size) (s .args .a) (l .b) (omega (arith, c .before .before .loop-test .taken)))
-    ∙ pair-fails T (pair (s .args .a) (l .b)) (rowFrom (s .args .size) (s .args .a) (l .b + 1)) (sym (c .before .sides-balanced .ensures T o) ∙ not-true (c .before .sides-balanced .result) (c .if1 .taken))))
+    ∙ pair-fails T (pair (s .args .a) (l .b)) (rowFrom (s .args .size) (s .args .a) (l .b + 1))
+    (sym (c .before .sides-balanced .ensures T o) ∙ not-true (c .before .sides-balanced .result) (c .if1 .taken))))
 
 add-b-2 : tie.Need-add-b-2 Inv-loop μ-loop
 add-b-2 c =
-    let s = (c .before .before .before .before .before) in
+    let s = (start (c .before .before .before)) in
     let l = c .before .before .before .loop in
     omega (arith, l .inv .2, c .before .before .loop-test .taken)
 
@@ -54,14 +58,15 @@ loop-less c = omega (arith, c .before .before .loop-test .taken)
 
 loop-again : tie.Need-loop-again Inv-loop μ-loop
 loop-again c =
-    let s = (c .before .before .before .before .before) in
+    let s = (start (c .before .before .before)) in
     let l = c .before .before .before .loop in (
       omega (arith, l .inv .0),
       omega (arith, c .before .before .loop-test .taken),
       l .inv .2,
       λ T o. l .inv .3 T o
           ∙ (ap (weightCheck T) (row-some (s .args .size) (s .args .a) (l .b) (omega (arith, c .before .before .loop-test .taken)))
-          ∙ pair-passes T (pair (s .args .a) (l .b)) (rowFrom (s .args .size) (s .args .a) (l .b + 1)) (sym (c .before .sides-balanced .ensures T o) ∙ not-false (c .before .sides-balanced .result) (c .if1 .left))),
+          ∙ pair-passes T (pair (s .args .a) (l .b)) (rowFrom (s .args .size) (s .args .a) (l .b + 1))
+          (sym (c .before .sides-balanced .ensures T o) ∙ not-false (c .before .sides-balanced .result) (c .if1 .left))),
     )
 
 returns-2 : tie.Need-returns-2 Inv-loop μ-loop
@@ -73,14 +78,4 @@ returns-2 c =
 pub row-weights-spec : {M : Type 1} → statement M
 row-weights-spec =
     tie.close
-    (tie.spec
-    Inv-loop
-    μ-loop
-    add-b
-    loop-holds
-    sides-balanced-requires
-    returns
-    add-b-2
-    loop-less
-    loop-again
-    returns-2)
+    (tie.spec Inv-loop μ-loop add-b loop-holds sides-balanced-requires returns add-b-2 loop-less loop-again returns-2)

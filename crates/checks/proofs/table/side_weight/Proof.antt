@@ -22,13 +22,21 @@ abbrev μ-loop : tie.MeasureT-loop
 μ-loop cells size a b cell count weight₀ k₀ weight k =
     count - k
 
+abbrev start : tie.After-letter-weight Inv-loop μ-loop → tie.Start Inv-loop μ-loop
+start c = c .before .before .before .before
+
+abbrev after-letter-weight : tie.At-loop Inv-loop μ-loop → tie.After-letter-weight Inv-loop μ-loop
+after-letter-weight c = c .before
+
 cell-at-requires : tie.Need-cell-at-requires Inv-loop μ-loop
 cell-at-requires c κs =
     let s = (c .before) in
     let o = s .pre .0 .1 in
     let T = s .pre .0 .0 in
-    let q = s .pre .1 in
-    (record { low = q .first .low; high = omega (arith, q .first .high, o .sized, o .stands .few) }, record { low = q .second .low; high = omega (arith, q .second .high, o .sized, o .stands .few) })
+    let q = s .pre .1 in (
+      record { low = q .first .low; high = omega (arith, q .first .high, o .sized, o .stands .few) },
+      record { low = q .second .low; high = omega (arith, q .second .high, o .sized, o .stands .few) },
+    )
 
 shared-slice-read-count : tie.Need-shared-slice-read-count Inv-loop μ-loop
 shared-slice-read-count c =
@@ -51,84 +59,160 @@ letter-weight-requires c κs =
 
 loop-holds : tie.Need-loop-holds Inv-loop μ-loop
 loop-holds c =
-    let s = (c .before .before .before .before) in
+    let s = (start c) in
     let o = s .pre .0 .1 in
     let T = s .pre .0 .0 in
-    let q = s .pre .1 in
-    (omega arith, omega (arith, c .letter-weight .ensures, letter-light (s .args .cells .now) (s .args .size) T o (s .args .a) (s .args .b) q (q .first)), λ T o x y e. c .letter-weight .ensures ∙ side-begun (s .args .cells .now) (s .args .size) T o (s .args .a) (s .args .b) q x y e)
+    let q = s .pre .1 in (
+      omega arith,
+      omega (arith, c .letter-weight .ensures, letter-light (s .args .cells .now) (s .args .size) T o (s .args .a) (s .args .b) q (q .first)),
+      λ T o x y e. c .letter-weight .ensures ∙ side-begun (s .args .cells .now) (s .args .size) T o (s .args .a) (s .args .b) q x y e,
+    )
 
 add-letter-weight : tie.Need-add-letter-weight Inv-loop μ-loop
 add-letter-weight c =
-    let s = (c .before .before .before .before .before .before) in
+    let k = after-letter-weight (c .before) in
+    let s = (start k) in
     let o = s .pre .0 .1 in
     let T = s .pre .0 .0 in
     let q = s .pre .1 in
     let l = c .before .loop in
     let w = relation (s .args .cells .now) (s .args .size) T o (s .args .a) (s .args .b) q in
-    let count : getD (s .args .cells .now) (c .before .before .before .before .cell-at .result) 0 ≡ length (w .x) = ap (λ i. getD (s .args .cells .now) i 0) (c .before .before .before .before .cell-at .ensures) ∙ side-count (s .args .cells .now) (s .args .size) T o (s .args .a) (s .args .b) q (w .x) (w .y) (w .rule) in
+    let count : getD (s .args .cells .now) (k .before .before .cell-at .result) 0 ≡ length (w .x) =
+    ap (λ i. getD (s .args .cells .now) i 0) (k .before .before .cell-at .ensures) ∙ side-count (s .args .cells .now) (s .args .size) T o (s .args .a)
+    (s .args .b) q (w .x) (w .y) (w .rule) in
     let short = side-short (s .args .cells .now) (s .args .size) T o (s .args .a) (s .args .b) q (w .x) (w .y) (w .rule) in
-    omega (arith, c .before .before .before .before .cell-at .ensures, count, short, l .inv .0, c .loop-test .taken, o .stands .full, q .first .low, q .first .high, q .second .low, q .second .high, o .sized, o .stands .few)
+    omega (
+      arith,
+      k .before .before .cell-at .ensures,
+      count,
+      short,
+      l .inv .0,
+      c .loop-test .taken,
+      o .stands .full,
+      q .first .low,
+      q .first .high,
+      q .second .low,
+      q .second .high,
+      o .sized,
+      o .stands .few,
+    )
 
 add-letter-weight-2 : tie.Need-add-letter-weight-2 Inv-loop μ-loop
 add-letter-weight-2 c =
-    let s = (c .before .before .before .before .before .before) in
+    let k = after-letter-weight (c .before) in
+    let s = (start k) in
     let o = s .pre .0 .1 in
     let T = s .pre .0 .0 in
     let q = s .pre .1 in
     let l = c .before .loop in
     let w = relation (s .args .cells .now) (s .args .size) T o (s .args .a) (s .args .b) q in
-    let count : getD (s .args .cells .now) (c .before .before .before .before .cell-at .result) 0 ≡ length (w .x) = ap (λ i. getD (s .args .cells .now) i 0) (c .before .before .before .before .cell-at .ensures) ∙ side-count (s .args .cells .now) (s .args .size) T o (s .args .a) (s .args .b) q (w .x) (w .y) (w .rule) in
+    let count : getD (s .args .cells .now) (k .before .before .cell-at .result) 0 ≡ length (w .x) =
+    ap (λ i. getD (s .args .cells .now) i 0) (k .before .before .cell-at .ensures) ∙ side-count (s .args .cells .now) (s .args .size) T o (s .args .a)
+    (s .args .b) q (w .x) (w .y) (w .rule) in
     let short = side-short (s .args .cells .now) (s .args .size) T o (s .args .a) (s .args .b) q (w .x) (w .y) (w .rule) in
-    omega (arith, c .before .before .before .before .cell-at .ensures, count, short, l .inv .0, c .loop-test .taken, o .stands .full, q .first .low, q .first .high, q .second .low, q .second .high, o .sized, o .stands .few)
+    omega (
+      arith,
+      k .before .before .cell-at .ensures,
+      count,
+      short,
+      l .inv .0,
+      c .loop-test .taken,
+      o .stands .full,
+      q .first .low,
+      q .first .high,
+      q .second .low,
+      q .second .high,
+      o .sized,
+      o .stands .few,
+    )
 
 shared-slice-read-letter-weight : tie.Need-shared-slice-read-letter-weight Inv-loop μ-loop
 shared-slice-read-letter-weight c =
-    let s = (c .before .before .before .before .before .before .before) in
+    let k = after-letter-weight (c .before .before) in
+    let s = (start k) in
     let o = s .pre .0 .1 in
     let T = s .pre .0 .0 in
     let q = s .pre .1 in
     let l = c .before .before .loop in
     let w = relation (s .args .cells .now) (s .args .size) T o (s .args .a) (s .args .b) q in
-    let count : getD (s .args .cells .now) (c .before .before .before .before .before .cell-at .result) 0 ≡ length (w .x) = ap (λ i. getD (s .args .cells .now) i 0) (c .before .before .before .before .before .cell-at .ensures) ∙ side-count (s .args .cells .now) (s .args .size) T o (s .args .a) (s .args .b) q (w .x) (w .y) (w .rule) in
+    let count : getD (s .args .cells .now) (k .before .before .cell-at .result) 0 ≡ length (w .x) =
+    ap (λ i. getD (s .args .cells .now) i 0) (k .before .before .cell-at .ensures) ∙ side-count (s .args .cells .now) (s .args .size) T o (s .args .a)
+    (s .args .b) q (w .x) (w .y) (w .rule) in
     let short = side-short (s .args .cells .now) (s .args .size) T o (s .args .a) (s .args .b) q (w .x) (w .y) (w .rule) in
-    omega (arith, c .before .before .before .before .before .cell-at .ensures, count, short, l .inv .0, c .before .loop-test .taken, o .stands .full, q .first .low, q .first .high, q .second .low, q .second .high, o .sized, o .stands .few)
+    omega (
+      arith,
+      k .before .before .cell-at .ensures,
+      count,
+      short,
+      l .inv .0,
+      c .before .loop-test .taken,
+      o .stands .full,
+      q .first .low,
+      q .first .high,
+      q .second .low,
+      q .second .high,
+      o .sized,
+      o .stands .few,
+    )
 
 letter-weight-requires-2 : tie.Need-letter-weight-requires-2 Inv-loop μ-loop
 letter-weight-requires-2 c κs =
-    let s = (c .before .before .before .before .before .before .before) in
+    let j = after-letter-weight (c .before .before) in
+    let s = (start j) in
     let o = s .pre .0 .1 in
     let T = s .pre .0 .0 in
     let q = s .pre .1 in
     let l = c .before .before .loop in
     let w = relation (s .args .cells .now) (s .args .size) T o (s .args .a) (s .args .b) q in
-    let count : getD (s .args .cells .now) (c .before .before .before .before .before .cell-at .result) 0 ≡ length (w .x) = ap (λ i. getD (s .args .cells .now) i 0) (c .before .before .before .before .before .cell-at .ensures) ∙ side-count (s .args .cells .now) (s .args .size) T o (s .args .a) (s .args .b) q (w .x) (w .y) (w .rule) in
+    let count : getD (s .args .cells .now) (j .before .before .cell-at .result) 0 ≡ length (w .x) =
+    ap (λ i. getD (s .args .cells .now) i 0) (j .before .before .cell-at .ensures) ∙ side-count (s .args .cells .now) (s .args .size) T o (s .args .a)
+    (s .args .b) q (w .x) (w .y) (w .rule) in
     let short = side-short (s .args .cells .now) (s .args .size) T o (s .args .a) (s .args .b) q (w .x) (w .y) (w .rule) in
-    let letter = side-letter (s .args .cells .now) (s .args .size) T o (s .args .a) (s .args .b) q (w .x) (w .y) (w .rule) (l .k) (omega (arith, count, c .before .loop-test .taken)) in
-    let there = ap (λ i. getD (s .args .cells .now) (i + 1 + l .k) 0) (c .before .before .before .before .before .cell-at .ensures) in
+    let letter = side-letter (s .args .cells .now) (s .args .size) T o (s .args .a) (s .args .b) q (w .x) (w .y) (w .rule) (l .k)
+    (omega (arith, count, c .before .loop-test .taken)) in
+    let there = ap (λ i. getD (s .args .cells .now) (i + 1 + l .k) 0) (j .before .before .cell-at .ensures) in
     (o .stands .full, record { low = omega (arith, letter .low, there); high = omega (arith, letter .high, there, o .sized, o .stands .few) })
 
 add-weight : tie.Need-add-weight Inv-loop μ-loop
 add-weight c =
-    let s = (c .before .before .before .before .before .before .before .before) in
+    let j = after-letter-weight (c .before .before .before) in
+    let s = (start j) in
     let o = s .pre .0 .1 in
     let T = s .pre .0 .0 in
     let q = s .pre .1 in
     let l = c .before .before .before .loop in
     let w = relation (s .args .cells .now) (s .args .size) T o (s .args .a) (s .args .b) q in
-    let count : getD (s .args .cells .now) (c .before .before .before .before .before .before .cell-at .result) 0 ≡ length (w .x) = ap (λ i. getD (s .args .cells .now) i 0) (c .before .before .before .before .before .before .cell-at .ensures) ∙ side-count (s .args .cells .now) (s .args .size) T o (s .args .a) (s .args .b) q (w .x) (w .y) (w .rule) in
+    let count : getD (s .args .cells .now) (j .before .before .cell-at .result) 0 ≡ length (w .x) =
+    ap (λ i. getD (s .args .cells .now) i 0) (j .before .before .cell-at .ensures) ∙ side-count (s .args .cells .now) (s .args .size) T o (s .args .a)
+    (s .args .b) q (w .x) (w .y) (w .rule) in
     let short = side-short (s .args .cells .now) (s .args .size) T o (s .args .a) (s .args .b) q (w .x) (w .y) (w .rule) in
-    let letter = side-letter (s .args .cells .now) (s .args .size) T o (s .args .a) (s .args .b) q (w .x) (w .y) (w .rule) (l .k) (omega (arith, count, c .before .before .loop-test .taken)) in
-    omega (arith, l .inv .1, count, short, c .before .before .loop-test .taken, c .letter-weight2 .ensures, ap (λ i. getD (s .args .cells .now) (weightAt i) 0) (ap (λ i. getD (s .args .cells .now) (i + 1 + l .k) 0) (c .before .before .before .before .before .before .cell-at .ensures)), letter-light (s .args .cells .now) (s .args .size) T o (s .args .a) (s .args .b) q letter)
+    let letter = side-letter (s .args .cells .now) (s .args .size) T o (s .args .a) (s .args .b) q (w .x) (w .y) (w .rule) (l .k)
+    (omega (arith, count, c .before .before .loop-test .taken)) in
+    omega (
+      arith,
+      l .inv .1,
+      count,
+      short,
+      c .before .before .loop-test .taken,
+      c .letter-weight2 .ensures,
+      ap (λ i. getD (s .args .cells .now) (weightAt i) 0)
+          (ap (λ i. getD (s .args .cells .now) (i + 1 + l .k) 0) (j .before .before .cell-at .ensures)),
+      letter-light (s .args .cells .now) (s .args .size) T o
+          (s .args .a) (s .args .b) q letter,
+    )
 
 add-k : tie.Need-add-k Inv-loop μ-loop
 add-k c =
-    let s = (c .before .before .before .before .before .before .before .before) in
+    let k = after-letter-weight (c .before .before .before) in
+    let s = (start k) in
     let o = s .pre .0 .1 in
     let T = s .pre .0 .0 in
     let q = s .pre .1 in
     let l = c .before .before .before .loop in
     let w = relation (s .args .cells .now) (s .args .size) T o (s .args .a) (s .args .b) q in
-    let count : getD (s .args .cells .now) (c .before .before .before .before .before .before .cell-at .result) 0 ≡ length (w .x) = ap (λ i. getD (s .args .cells .now) i 0) (c .before .before .before .before .before .before .cell-at .ensures) ∙ side-count (s .args .cells .now) (s .args .size) T o (s .args .a) (s .args .b) q (w .x) (w .y) (w .rule) in
+    let count : getD (s .args .cells .now) (k .before .before .cell-at .result) 0 ≡ length (w .x) =
+    ap (λ i. getD (s .args .cells .now) i 0) (k .before .before .cell-at .ensures) ∙ side-count (s .args .cells .now) (s .args .size) T o (s .args .a)
+    (s .args .b) q (w .x) (w .y) (w .rule) in
     let short = side-short (s .args .cells .now) (s .args .size) T o (s .args .a) (s .args .b) q (w .x) (w .y) (w .rule) in
     omega (arith, c .before .before .loop-test .taken, count, short)
 
@@ -137,52 +221,47 @@ loop-less c = omega (arith, c .before .before .loop-test .taken)
 
 loop-again : tie.Need-loop-again Inv-loop μ-loop
 loop-again c =
-    let s = (c .before .before .before .before .before .before .before .before) in
+    let j = after-letter-weight (c .before .before .before) in
+    let s = (start j) in
     let o = s .pre .0 .1 in
     let T = s .pre .0 .0 in
     let q = s .pre .1 in
     let l = c .before .before .before .loop in
     let w = relation (s .args .cells .now) (s .args .size) T o (s .args .a) (s .args .b) q in
-    let count : getD (s .args .cells .now) (c .before .before .before .before .before .before .cell-at .result) 0 ≡ length (w .x) = ap (λ i. getD (s .args .cells .now) i 0) (c .before .before .before .before .before .before .cell-at .ensures) ∙ side-count (s .args .cells .now) (s .args .size) T o (s .args .a) (s .args .b) q (w .x) (w .y) (w .rule) in
+    let count : getD (s .args .cells .now) (j .before .before .cell-at .result) 0 ≡ length (w .x) =
+    ap (λ i. getD (s .args .cells .now) i 0) (j .before .before .cell-at .ensures) ∙ side-count (s .args .cells .now) (s .args .size) T o (s .args .a)
+    (s .args .b) q (w .x) (w .y) (w .rule) in
     let short = side-short (s .args .cells .now) (s .args .size) T o (s .args .a) (s .args .b) q (w .x) (w .y) (w .rule) in
-    let letter = side-letter (s .args .cells .now) (s .args .size) T o (s .args .a) (s .args .b) q (w .x) (w .y) (w .rule) (l .k) (omega (arith, count, c .before .before .loop-test .taken)) in
-    let there = ap (λ i. suc (getD (s .args .cells .now) (weightAt i) 0)) (ap (λ i. getD (s .args .cells .now) (i + 1 + l .k) 0) (c .before .before .before .before .before .before .cell-at .ensures)) in (
+    let letter = side-letter (s .args .cells .now) (s .args .size) T o (s .args .a) (s .args .b) q (w .x) (w .y) (w .rule) (l .k)
+    (omega (arith, count, c .before .before .loop-test .taken)) in
+    let there = ap (λ i. suc (getD (s .args .cells .now) (weightAt i) 0))
+    (ap (λ i. getD (s .args .cells .now) (i + 1 + l .k) 0) (j .before .before .cell-at .ensures)) in (
       omega (arith, c .before .before .loop-test .taken),
       omega (arith, l .inv .1, c .letter-weight2 .ensures, there, letter-light (s .args .cells .now) (s .args .size) T o (s .args .a) (s .args .b) q letter),
       λ T′ o′ x y e.
-          let same = ap (λ i. getD (s .args .cells .now) i 0) (c .before .before .before .before .before .before .cell-at .ensures) ∙ side-count (s .args .cells .now) (s .args .size) T′ o′ (s .args .a) (s .args .b) q x y e in
-          let more = side-more (s .args .cells .now) (s .args .size) T′ o′ (s .args .a) (s .args .b) q x y e (l .k) (omega (arith, same, c .before .before .loop-test .taken)) in
+          let same = ap (λ i. getD (s .args .cells .now) i 0) (j .before .before .cell-at .ensures) ∙ side-count (s .args .cells .now) (s .args .size) T′ o′
+          (s .args .a) (s .args .b) q x y e in
+          let more = side-more (s .args .cells .now) (s .args .size) T′ o′ (s .args .a) (s .args .b) q x y e (l .k)
+          (omega (arith, same, c .before .before .loop-test .taken)) in
           omega (arith, l .inv .2 T′ o′ x y e, c .letter-weight2 .ensures, there, more),
     )
 
 returns : tie.Need-returns Inv-loop μ-loop
 returns c =
-    let s = (c .before .before .before .before .before .before) in
+    let j = after-letter-weight (c .before) in
+    let s = (start j) in
     let o = s .pre .0 .1 in
     let T = s .pre .0 .0 in
     let q = s .pre .1 in
     let l = c .before .loop in
     λ T′ o′ x y e.
-    let same = ap (λ i. getD (s .args .cells .now) i 0) (c .before .before .before .before .cell-at .ensures) ∙ side-count (s .args .cells .now) (s .args .size) T′ o′ (s .args .a) (s .args .b) q x y e in
-    l .inv .2 T′ o′ x y e ∙ side-whole (s .args .cells .now) (s .args .size) T′ o′ (s .args .a) (s .args .b) q x y e (l .k) (omega (arith, same, c .loop-test .left))
+    let same = ap (λ i. getD (s .args .cells .now) i 0) (j .before .before .cell-at .ensures) ∙ side-count (s .args .cells .now) (s .args .size) T′ o′
+    (s .args .a) (s .args .b) q x y e in
+    l .inv .2 T′ o′ x y e ∙ side-whole (s .args .cells .now) (s .args .size) T′ o′ (s .args .a) (s .args .b) q x y e (l .k)
+    (omega (arith, same, c .loop-test .left))
 
 pub side-weight-spec : {M : Type 1} → statement M
 side-weight-spec =
     tie.close
-    (tie.spec
-    Inv-loop
-    μ-loop
-    cell-at-requires
-    shared-slice-read-count
-    cast-count
-    letter-weight-requires
-    loop-holds
-    add-letter-weight
-    add-letter-weight-2
-    shared-slice-read-letter-weight
-    letter-weight-requires-2
-    add-weight
-    add-k
-    loop-less
-    loop-again
-    returns)
+    (tie.spec Inv-loop μ-loop cell-at-requires shared-slice-read-count cast-count letter-weight-requires loop-holds add-letter-weight add-letter-weight-2
+    shared-slice-read-letter-weight letter-weight-requires-2 add-weight add-k loop-less loop-again returns)

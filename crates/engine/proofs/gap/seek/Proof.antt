@@ -18,37 +18,22 @@ Inv-loop bytes₀ left₀ right₀ bytes left right =
 abbrev μ-loop : tie.MeasureT-loop
 μ-loop bytes₀ left₀ right₀ bytes left right = length bytes₀ - right
 
+abbrev at-loop : tie.Then1 Inv-loop μ-loop → tie.At-loop Inv-loop μ-loop
+at-loop c = c .before .before .before
+
 loop-holds : tie.Need-loop-holds Inv-loop μ-loop
 loop-holds c = (begun (c .args .bytes .now) (c .args .gap .left) (c .args .gap .right) (c .pre .0) (c .pre .1), refl)
-
-slice-read-next : tie.Need-slice-read-next Inv-loop μ-loop
-slice-read-next c = search needs
-
-sub-last : tie.Need-sub-last Inv-loop μ-loop
-sub-last c = search needs
 
 slice-read-last : tie.Need-slice-read-last Inv-loop μ-loop
 slice-read-last c = omega arith
 
 same-length : tie.Need-same-length Inv-loop μ-loop
-same-length c = c .before .before .before .before .before .before .loop .inv .1
+same-length c = at-loop (c .before .before .before) .loop .inv .1
 
 returns : tie.Need-returns Inv-loop μ-loop
 returns c =
-    let l = c .before .before .before .before .before .before .loop in
+    let l = at-loop (c .before .before .before) .loop in
     (l .inv .1, found-at (l .bytes) (l .left) (l .right) (l .inv .0 .ordered) (omega arith) (l .inv .0) (omega arith) (omega arith) (omega arith))
-
-slice-write-bytes : tie.Need-slice-write-bytes Inv-loop μ-loop
-slice-write-bytes c = omega arith
-
-add-left : tie.Need-add-left Inv-loop μ-loop
-add-left c = omega arith
-
-add-right : tie.Need-add-right Inv-loop μ-loop
-add-right c = omega arith
-
-loop-less : tie.Need-loop-less Inv-loop μ-loop
-loop-less c = omega arith
 
 loop-again : tie.Need-loop-again Inv-loop μ-loop
 loop-again c =
@@ -71,19 +56,5 @@ returns-2 c = (c .before .loop .inv .1, none-left (c .before .loop .inv .0) (ome
 pub seek-spec : {M : Type 1} → statement M
 seek-spec =
     tie.close
-    (tie.spec
-    Inv-loop
-    μ-loop
-    loop-holds
-    slice-read-next
-    sub-last
-    slice-read-last
-    same-length
-    returns
-    slice-write-bytes
-    add-left
-    add-right
-    loop-less
-    loop-again
-    same-length-2
-    returns-2)
+    (tie.spec Inv-loop μ-loop loop-holds (λ c. search needs) (λ c. search needs) slice-read-last same-length returns (λ c. omega arith) (λ c. omega arith)
+    (λ c. omega arith) (λ c. omega arith) loop-again same-length-2 returns-2)

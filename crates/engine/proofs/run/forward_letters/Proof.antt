@@ -16,24 +16,15 @@ Inv-loop bytes end count₀ i₀ count i = (i ≤ end) × (count ≤ i) × (coun
 abbrev μ-loop : tie.MeasureT-loop
 μ-loop bytes end count₀ i₀ count i = end - i
 
+abbrev start : tie.At-loop Inv-loop μ-loop → tie.Start Inv-loop μ-loop
+start c = c .before
+
 loop-holds : tie.Need-loop-holds Inv-loop μ-loop
 loop-holds c = (omega arith, omega arith, sym (counts-none (c .args .bytes .now)))
 
-shared-slice-read-if1 : tie.Need-shared-slice-read-if1 Inv-loop μ-loop
-shared-slice-read-if1 c = omega arith
-
-add-count : tie.Need-add-count Inv-loop μ-loop
-add-count c = omega arith
-
-add-i : tie.Need-add-i Inv-loop μ-loop
-add-i c = omega arith
-
-loop-less : tie.Need-loop-less Inv-loop μ-loop
-loop-less c = omega arith
-
 loop-again : tie.Need-loop-again Inv-loop μ-loop
 loop-again c =
-    let s = c .before .before .before .before in
+    let s = start (c .before .before .before) in
     let l = c .before .before .before .loop in
     let h : l .i < length (s .args .bytes .now) = omega arith in
     ⊎-elim (λ w. omega (arith, counts-forward (s .args .bytes .now) (l .i) h (w .0 .taken)))
@@ -49,13 +40,4 @@ returns c =
 pub forward-letters-spec : {M : Type 1} → statement M
 forward-letters-spec =
     tie.close
-    (tie.spec
-    Inv-loop
-    μ-loop
-    loop-holds
-    shared-slice-read-if1
-    add-count
-    add-i
-    loop-less
-    loop-again
-    returns)
+    (tie.spec Inv-loop μ-loop loop-holds (λ c. omega arith) (λ c. omega arith) (λ c. omega arith) (λ c. omega arith) loop-again returns)

@@ -12,41 +12,31 @@ Inv-loop bytes₀ count low₀ high₀ bytes low high = Exchanging Turns bytes�
 abbrev μ-loop : tie.MeasureT-loop
 μ-loop bytes₀ count low₀ high₀ bytes low high = high
 
+abbrev start : tie.After-slice-known2 Inv-loop μ-loop → tie.Start Inv-loop μ-loop
+start c = c .before .before .before .before
+
+abbrev after-slice-known2 : tie.After-turned Inv-loop μ-loop → tie.After-slice-known2 Inv-loop μ-loop
+after-slice-known2 c = c .before
+
 loop-holds : tie.Need-loop-holds Inv-loop μ-loop
 loop-holds c = exchanging-start Turns (c .before .args .bytes .now) (c .before .args .count)
-
-sub-high : tie.Need-sub-high Inv-loop μ-loop
-sub-high c = omega arith
-
-slice-read-turned : tie.Need-slice-read-turned Inv-loop μ-loop
-slice-read-turned c = omega arith
 
 turned-requires : tie.Need-turned-requires Inv-loop μ-loop
 turned-requires c κs = tt
 
-slice-read-turned-2 : tie.Need-slice-read-turned-2 Inv-loop μ-loop
-slice-read-turned-2 c = omega arith
-
 turned-requires-2 : tie.Need-turned-requires-2 Inv-loop μ-loop
 turned-requires-2 c κs = tt
-
-slice-write-bytes : tie.Need-slice-write-bytes Inv-loop μ-loop
-slice-write-bytes c = omega arith
 
 slice-write-bytes-2 : tie.Need-slice-write-bytes-2 Inv-loop μ-loop
 slice-write-bytes-2 c = simp length-set (omega arith)
 
-add-low : tie.Need-add-low Inv-loop μ-loop
-add-low c = omega arith
-
-loop-less : tie.Need-loop-less Inv-loop μ-loop
-loop-less c = omega arith
-
 loop-again : tie.Need-loop-again Inv-loop μ-loop
 loop-again c =
-    let s = c .before .before .before .before .before .before .before in
-    let l = c .before .before .before .before .before .loop in
-    exchanging-turn Turns (s .args .bytes .now) (s .args .count) (s .pre) (l .bytes) (l .low) (l .high) (l .inv) (omega arith) (c .before .before .turned .result)
+    let k = after-slice-known2 (c .before .before) in
+    let s = start k in
+    let l = k .before .before .loop in
+    exchanging-turn Turns (s .args .bytes .now) (s .args .count) (s .pre) (l .bytes) (l .low) (l .high) (l .inv) (omega arith)
+    (c .before .before .turned .result)
     (c .turned2 .result) (c .before .before .turned .ensures) (c .turned2 .ensures)
 
 same-length : tie.Need-same-length Inv-loop μ-loop
@@ -61,19 +51,5 @@ returns c =
 pub invert-spec : {M : Type 1} → statement M
 invert-spec =
     tie.close
-    (tie.spec
-    Inv-loop
-    μ-loop
-    loop-holds
-    sub-high
-    slice-read-turned
-    turned-requires
-    slice-read-turned-2
-    turned-requires-2
-    slice-write-bytes
-    slice-write-bytes-2
-    add-low
-    loop-less
-    loop-again
-    same-length
-    returns)
+    (tie.spec Inv-loop μ-loop loop-holds (λ c. omega arith) (λ c. omega arith) turned-requires (λ c. omega arith) turned-requires-2 (λ c. omega arith)
+    slice-write-bytes-2 (λ c. omega arith) (λ c. omega arith) loop-again same-length returns)

@@ -17,38 +17,16 @@ abbrev μ-loop : tie.MeasureT-loop
 loop-holds : tie.Need-loop-holds Inv-loop μ-loop
 loop-holds c = (omega arith, refl, λ h. moving-start (c .args .bytes .now) (c .args .from) (c .args .count) h, refl)
 
-sub-bytes : tie.Need-sub-bytes Inv-loop μ-loop
-sub-bytes c = omega arith
-
-sub-bytes-2 : tie.Need-sub-bytes-2 Inv-loop μ-loop
-sub-bytes-2 c = omega arith
-
-add-bytes : tie.Need-add-bytes Inv-loop μ-loop
-add-bytes c = omega arith
-
-slice-read-bytes : tie.Need-slice-read-bytes Inv-loop μ-loop
-slice-read-bytes c = omega arith
-
-sub-bytes-3 : tie.Need-sub-bytes-3 Inv-loop μ-loop
-sub-bytes-3 c = omega arith
-
-sub-bytes-4 : tie.Need-sub-bytes-4 Inv-loop μ-loop
-sub-bytes-4 c = omega arith
-
-slice-write-bytes : tie.Need-slice-write-bytes Inv-loop μ-loop
-slice-write-bytes c = omega arith
-
-add-i : tie.Need-add-i Inv-loop μ-loop
-add-i c = omega arith
-
-loop-less : tie.Need-loop-less Inv-loop μ-loop
-loop-less c = omega arith
-
 loop-again : tie.Need-loop-again Inv-loop μ-loop
 loop-again c =
     let s = c .before .before .before in
-    let l = c .before .before .loop in
-    (omega arith, refl, λ h. moving-turn (s .args .bytes .now) (s .args .from) (s .args .count) h (l .bytes) (l .i) (l .inv .2 h) (length (s .args .bytes .now)) refl (omega arith), simp length-set (l .inv .3))
+    let l = c .before .before .loop in (
+      omega arith,
+      refl,
+      λ h. moving-turn (s .args .bytes .now) (s .args .from) (s .args .count) h (l .bytes) (l .i) (l .inv .2 h) (length (s .args .bytes .now))
+          refl (omega arith),
+      simp length-set (l .inv .3),
+    )
 
 same-length : tie.Need-same-length Inv-loop μ-loop
 same-length c = c .before .loop .inv .3
@@ -62,19 +40,5 @@ returns c =
 pub move-to-end-spec : {M : Type 1} → statement M
 move-to-end-spec =
     tie.close
-    (tie.spec
-    Inv-loop
-    μ-loop
-    loop-holds
-    sub-bytes
-    sub-bytes-2
-    add-bytes
-    slice-read-bytes
-    sub-bytes-3
-    sub-bytes-4
-    slice-write-bytes
-    add-i
-    loop-less
-    loop-again
-    same-length
-    returns)
+    (tie.spec Inv-loop μ-loop loop-holds (λ c. omega arith) (λ c. omega arith) (λ c. omega arith) (λ c. omega arith) (λ c. omega arith) (λ c. omega arith)
+    (λ c. omega arith) (λ c. omega arith) (λ c. omega arith) loop-again same-length returns)

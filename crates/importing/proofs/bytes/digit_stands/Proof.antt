@@ -10,12 +10,6 @@ use borrow.Author.Needs.{needs}
 use Rattle.importing.proofs.bytes.digit_stands.Statement.{statement}
 use Rattle.importing.proofs.bytes.digit_stands.Tie as tie
 
-shared-slice-read-byte : tie.Need-shared-slice-read-byte
-shared-slice-read-byte c = search needs
-
-add-result : tie.Need-add-result
-add-result c = search needs
-
 returns : tie.Need-returns
 returns c =
     let s = c .before .before .before in
@@ -33,4 +27,6 @@ returns-3 : tie.Need-returns-3
 returns-3 c = first-past (c .before .args .text .now) (c .before .args .at) (c .if1 .left) isDigit false
 
 pub digit-stands-spec : {M : Type 1} → statement M
-digit-stands-spec = tie.close (tie.spec shared-slice-read-byte add-result returns returns-2 returns-3)
+digit-stands-spec =
+    tie.close
+    (tie.spec (λ c. search needs) (λ c. search needs) returns returns-2 returns-3)

@@ -6,9 +6,6 @@ use borrow.Author.Needs.{needs}
 use Rattle.importing.proofs.bytes.stands.Statement.{statement}
 use Rattle.importing.proofs.bytes.stands.Tie as tie
 
-shared-slice-read-result : tie.Need-shared-slice-read-result
-shared-slice-read-result c = search needs
-
 returns : tie.Need-returns
 returns c =
     let s = c .before .before in
@@ -18,4 +15,6 @@ returns-2 : tie.Need-returns-2
 returns-2 c = first-past (c .before .args .text .now) (c .before .args .at) (c .if1 .left) (λ x. eqb x (c .before .args .byte)) false
 
 pub stands-spec : {M : Type 1} → statement M
-stands-spec = tie.close (tie.spec shared-slice-read-result returns returns-2)
+stands-spec =
+    tie.close
+    (tie.spec (λ c. search needs) returns returns-2)

@@ -6,22 +6,32 @@ use borrow.Author.Needs.{needs}
 use Rattle.importing.proofs.import.read_text.Statement.{statement}
 use Rattle.importing.proofs.import.read_text.Tie as tie
 
+abbrev start : tie.After-read-pattern → tie.Start
+start c = c .before .before
+
+abbrev after-read-pattern : tie.After-span → tie.After-read-pattern
+after-read-pattern c = c .before .before
+
 returns : tie.Need-returns
 returns c =
-    let text = c .before .before .before .before .before .before .before .args .text .now in
+    let k = after-read-pattern (c .before .before .before) in
+    let text = start k .args .text .now in
     let s = c .before .before .before .span .given in
-    text-followed text (s .0 .0) (sym (ap (spanned text) (s .1)) ∙ c .before .before .before .before .before .read-pattern .ensures) (c .if1 .taken)
+    text-followed text (s .0 .0) (sym (ap (spanned text) (s .1)) ∙ k .read-pattern .ensures) (c .if1 .taken)
 
 returns-2 : tie.Need-returns-2
 returns-2 c =
-    let text = c .before .before .before .before .args .text .now in
+    let text = start (c .before .before) .args .text .now in
     text-none text (sym (ap (spanned text) (c .enum-told .given .1)) ∙ c .before .before .read-pattern .ensures)
 
 returns-3 : tie.Need-returns-3
 returns-3 c =
-    let text = c .before .before .before .before .before .before .before .args .text .now in
+    let k = after-read-pattern (c .before .before .before) in
+    let text = start k .args .text .now in
     let s = c .before .before .before .span .given in
-    text-of text (s .0 .0) (sym (ap (spanned text) (s .1)) ∙ c .before .before .before .before .before .read-pattern .ensures) (c .if1 .left)
+    text-of text (s .0 .0) (sym (ap (spanned text) (s .1)) ∙ k .read-pattern .ensures) (c .if1 .left)
 
 pub read-text-spec : {M : Type 1} → statement M
-read-text-spec = tie.close (tie.spec (λ c κs. search needs) (λ c. search needs) (λ c. search needs) returns returns-2 returns-3)
+read-text-spec =
+    tie.close
+    (tie.spec (λ c κs. search needs) (λ c. search needs) (λ c. search needs) returns returns-2 returns-3)

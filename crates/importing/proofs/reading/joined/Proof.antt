@@ -7,9 +7,12 @@ use borrow.Author.Needs.{needs}
 use Rattle.importing.proofs.reading.joined.Statement.{statement}
 use Rattle.importing.proofs.reading.joined.Tie as tie
 
+abbrev start : tie.Joined1 → tie.Start
+start c = c .before .before
+
 returns : tie.Need-returns
 returns c =
-    let s = c .before .before .before .before .before in
+    let s = start (c .before .before .before) in
     let h = s .args .sum .highest in
     let i = s .args .item .highest in
     record {
@@ -22,4 +25,6 @@ returns c =
     }
 
 pub joined-spec : {M : Type 1} → statement M
-joined-spec = tie.close (tie.spec (λ c. search needs) (λ c. search needs) (λ c. search needs) (λ c. search needs) returns)
+joined-spec =
+    tie.close
+    (tie.spec (λ c. search needs) (λ c. search needs) (λ c. search needs) (λ c. search needs) returns)

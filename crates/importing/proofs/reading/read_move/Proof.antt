@@ -7,34 +7,37 @@ use borrow.Author.Needs.{needs}
 use Rattle.importing.proofs.reading.read_move.Statement.{statement}
 use Rattle.importing.proofs.reading.read_move.Tie as tie
 
-read-number-requires : tie.Need-read-number-requires
-read-number-requires c κs = search needs
+abbrev start : tie.After-read-number → tie.Start
+start c = c .before .before
 
-enum-told : tie.Need-enum-told
-enum-told c = search needs
-
-enum-known-value : tie.Need-enum-known-value
-enum-known-value c = search needs
+abbrev after-read-number : tie.At-match-keys2 → tie.After-read-number
+after-read-number c = c .before
 
 returns : tie.Need-returns
 returns c =
-    let s = c .before .before .before .before .before .before in
+    let k = after-read-number (c .before .before .before) in
+    let s = start k in
     let text = s .args .text .now in
     let v = c .before .before .value .given in
-    sym (ap keptBody (move-zero (drop (s .args .at) text) (drop (v .0 .1 .0) text) (v .0 .0) (sym (ap (numberStated text) (v .1)) ∙ c .before .before .before .before .read-number .ensures) (c .if1 .taken)))
+    sym (ap keptBody (move-zero (drop (s .args .at) text) (drop (v .0 .1 .0) text) (v .0 .0) (sym (ap (numberStated text) (v .1)) ∙ k .read-number .ensures)
+    (c .if1 .taken)))
 
 returns-2 : tie.Need-returns-2
 returns-2 c =
-    let s = c .before .before .before .before in
+    let s = start (c .before .before) in
     let text = s .args .text .now in
     sym (ap keptBody (move-none (drop (s .args .at) text) (sym (ap (numberStated text) (c .enum-told .given .1)) ∙ c .before .before .read-number .ensures)))
 
 returns-3 : tie.Need-returns-3
 returns-3 c =
-    let s = c .before .before .before .before .before .before in
+    let k = after-read-number (c .before .before .before) in
+    let s = start k in
     let text = s .args .text .now in
     let v = c .before .before .value .given in
-    sym (ap keptBody (move-some (drop (s .args .at) text) (drop (v .0 .1 .0) text) (v .0 .0) (sym (ap (numberStated text) (v .1)) ∙ c .before .before .before .before .read-number .ensures) (c .if1 .left)))
+    sym (ap keptBody (move-some (drop (s .args .at) text) (drop (v .0 .1 .0) text) (v .0 .0) (sym (ap (numberStated text) (v .1)) ∙ k .read-number .ensures)
+    (c .if1 .left)))
 
 pub read-move-spec : {M : Type 1} → statement M
-read-move-spec = tie.close (tie.spec read-number-requires enum-told enum-known-value returns returns-2 returns-3)
+read-move-spec =
+    tie.close
+    (tie.spec (λ c κs. search needs) (λ c. search needs) (λ c. search needs) returns returns-2 returns-3)

@@ -14,10 +14,18 @@ Inv-loop area₀ from count end at₀ area at = (length area ≡ length area₀)
 abbrev μ-loop : tie.MeasureT-loop
 μ-loop area₀ from count end at₀ area at = end - at
 
-first-copied : (c : tie.After-slice-known Inv-loop μ-loop) → Copied (c .before .args .area .now) (c .before .args .from) (c .before .args .count) (c .before .args .end) (c .before .args .area .now) (c .before .args .from + c .before .args .count)
+abbrev start : tie.After-copy-on-arg Inv-loop μ-loop → tie.Start Inv-loop μ-loop
+start c = c .before .before .before .before
+
+abbrev after-copy-on-arg : tie.After-copy-on Inv-loop μ-loop → tie.After-copy-on-arg Inv-loop μ-loop
+after-copy-on-arg c = c .before
+
+first-copied : (c : tie.After-slice-known Inv-loop μ-loop) → Copied (c .before .args .area .now) (c .before .args .from) (c .before .args .count)
+    (c .before .args .end) (c .before .args .area .now) (c .before .args .from + c .before .args .count)
 first-copied c =
     let s = c .before in
-    copied-once (s .args .area .now) (s .args .from) (s .args .count) (s .args .end) (s .pre .times) (s .pre .some) (s .pre .ends) (s .pre .inside) (s .pre .once)
+    copied-once (s .args .area .now) (s .args .from) (s .args .count) (s .args .end) (s .pre .times) (s .pre .some) (s .pre .ends) (s .pre .inside)
+    (s .pre .once)
 
 add-at : tie.Need-add-at Inv-loop μ-loop
 add-at c = record { fits = omega (arith, first-copied c .inside, c .before .fits .end .fits) }
@@ -30,28 +38,35 @@ more-room : (c : tie.In-loop Inv-loop μ-loop) → c .before .loop .at + c .befo
 more-room c =
     let s = c .before .before .before in
     let l = c .before .loop in
-    copied-room (s .args .area .now) (s .args .from) (s .args .count) (s .args .end) (s .pre .times) (s .pre .some) (s .pre .ends) (s .pre .inside) (l .area) (l .at) (l .inv .1) (c .loop-test .taken)
+    copied-room (s .args .area .now) (s .args .from) (s .args .count) (s .args .end) (s .pre .times) (s .pre .some) (s .pre .ends) (s .pre .inside) (l .area)
+    (l .at) (l .inv .1) (c .loop-test .taken)
 
 copy-on-requires : tie.Need-copy-on-requires Inv-loop μ-loop
 copy-on-requires c κs =
-    let s = c .before .before .before .before in
+    let s = start c in
     let l = c .before .before .loop in
     let copied = l .inv .1 in
     (omega (arith, copied .at-is, suc-mul (copied .earlier) (s .args .count)), omega (arith, more-room (c .before), s .pre .inside, l .inv .0))
 
 add-at-2 : tie.Need-add-at-2 Inv-loop μ-loop
-add-at-2 c = record { fits = omega (arith, more-room (c .before .before .before .before), c .before .before .before .before .before .before .before .fits .end .fits) }
+add-at-2 c =
+    let k = after-copy-on-arg (c .before .before) in
+    record { fits = omega (arith, more-room (k .before), start k .fits .end .fits) }
 
 loop-less : tie.Need-loop-less Inv-loop μ-loop
-loop-less c = omega (arith, c .before .before .before .before .loop-test .taken, c .before .before .before .before .before .before .before .pre .some)
+loop-less c =
+    let k = after-copy-on-arg (c .before .before) in
+    omega (arith, k .before .loop-test .taken, start k .pre .some)
 
 loop-again : tie.Need-loop-again Inv-loop μ-loop
 loop-again c =
-    let s = c .before .before .before .before .before .before .before in
-    let l = c .before .before .before .before .before .loop in
+    let k = after-copy-on-arg (c .before .before) in
+    let s = start k in
+    let l = k .before .before .loop in
     let copy = c .before .before .copy-on in (
       copy .ensures .0 ∙ l .inv .0,
-      copied-more (s .args .area .now) (s .args .from) (s .args .count) (s .args .end) (s .pre .times) (s .pre .some) (s .pre .ends) (s .pre .inside) (l .area) (copy .last .0) (l .at) (l .inv .1) (c .before .before .before .before .loop-test .taken) (copy .ensures .1),
+      copied-more (s .args .area .now) (s .args .from) (s .args .count) (s .args .end) (s .pre .times) (s .pre .some) (s .pre .ends) (s .pre .inside) (l .area)
+          (copy .last .0) (l .at) (l .inv .1) (k .before .loop-test .taken) (copy .ensures .1),
     )
 
 same-length : tie.Need-same-length Inv-loop μ-loop
@@ -60,8 +75,13 @@ same-length c = c .before .loop .inv .0
 returns : tie.Need-returns Inv-loop μ-loop
 returns c =
     let s = c .before .before .before in
-    let l = c .before .loop in
-    (l .inv .0, copied-all (s .args .area .now) (s .args .from) (s .args .count) (s .args .end) (s .pre .times) (s .pre .some) (s .pre .ends) (s .pre .inside) (l .area) (l .at) (l .inv .1) (c .loop-test .left))
+    let l = c .before .loop in (
+      l .inv .0,
+      copied-all (s .args .area .now) (s .args .from) (s .args .count) (s .args .end) (s .pre .times) (s .pre .some) (s .pre .ends) (s .pre .inside)
+          (l .area) (l .at) (l .inv .1) (c .loop-test .left),
+    )
 
 pub repeat-spec : {M : Type 1} → statement M
-repeat-spec = tie.close (tie.spec Inv-loop μ-loop add-at loop-holds copy-on-requires add-at-2 loop-less loop-again same-length returns)
+repeat-spec =
+    tie.close
+    (tie.spec Inv-loop μ-loop add-at loop-holds copy-on-requires add-at-2 loop-less loop-again same-length returns)

@@ -16,6 +16,12 @@ Inv-loop cells size mirror₀ a₀ mirror a =
 abbrev μ-loop : tie.MeasureT-loop
 μ-loop cells size mirror₀ a₀ mirror a = size + 1 - a
 
+abbrev start : tie.At-loop Inv-loop μ-loop → tie.Start Inv-loop μ-loop
+start c = c .before .before .before
+
+abbrev at-loop : tie.In-loop Inv-loop μ-loop → tie.At-loop Inv-loop μ-loop
+at-loop c = c .before
+
 loop-holds : tie.Need-loop-holds Inv-loop μ-loop
 loop-holds c =
     let s = c .before .before in
@@ -39,32 +45,52 @@ weight-at-requires c κs =
 
 shared-slice-read-mirror : tie.Need-shared-slice-read-mirror Inv-loop μ-loop
 shared-slice-read-mirror c =
-    let s = c .before .before .before .before .before .before .before in
-    let l = c .before .before .before .before .loop in
-    omega (arith, c .before .before .cell-at .ensures, c .before .weight-at .ensures, s .pre .0 .1 .stands .full, l .inv .0, l .inv .2, c .before .before .before .loop-test .taken)
+    let k = at-loop (c .before .before .before) in
+    let s = start k in
+    let l = k .loop in
+    omega (
+      arith,
+      c .before .before .cell-at .ensures,
+      c .before .weight-at .ensures,
+      s .pre .0 .1 .stands .full,
+      l .inv .0,
+      l .inv .2,
+      c .before .before .before .loop-test .taken,
+    )
 
 slice-write-mirror-2 : tie.Need-slice-write-mirror-2 Inv-loop μ-loop
 slice-write-mirror-2 c =
-    let l = c .before .before .before .before .loop in
-    simp length-set (omega (arith, c .before .weight-at .ensures, l .inv .4 .same-length, l .inv .3, l .inv .0, l .inv .2, c .before .before .before .loop-test .taken))
+    let l = at-loop (c .before .before .before) .loop in
+    simp length-set (omega (
+      arith,
+      c .before .weight-at .ensures,
+      l .inv .4 .same-length,
+      l .inv .3,
+      l .inv .0,
+      l .inv .2,
+      c .before .before .before .loop-test .taken,
+    ))
 
 add-a : tie.Need-add-a Inv-loop μ-loop
-add-a c = omega (arith, c .before .before .before .before .loop .inv .2, c .before .before .before .loop-test .taken)
+add-a c = omega (arith, at-loop (c .before .before .before) .loop .inv .2, c .before .before .before .loop-test .taken)
 
 loop-less : tie.Need-loop-less Inv-loop μ-loop
 loop-less c = omega (arith, c .before .before .before .loop-test .taken)
 
 loop-again : tie.Need-loop-again Inv-loop μ-loop
 loop-again c =
-    let s = c .before .before .before .before .before .before .before in
-    let l = c .before .before .before .before .loop in (
+    let k = at-loop (c .before .before .before) in
+    let s = start k in
+    let l = k .loop in (
       omega (arith, l .inv .0),
       omega (arith, c .before .before .before .loop-test .taken),
       l .inv .2,
       l .inv .3,
-      copied-more (s .args .cells .now) (s .args .mirror .now) (l .inv .3) (l .mirror) (l .a) (record { low = l .inv .0; high = omega (arith, l .inv .2, c .before .before .before .loop-test .taken) }) (l .inv .4)
+      copied-more (s .args .cells .now) (s .args .mirror .now) (l .inv .3) (l .mirror) (l .a)
+          (record { low = l .inv .0; high = omega (arith, l .inv .2, c .before .before .before .loop-test .taken) }) (l .inv .4)
           (c .before .before .cell-at .result) (c .before .weight-at .result) (c .before .weight-at .result) 0
-          (c .before .before .cell-at .ensures) (c .before .weight-at .ensures) (omega (arith, c .before .before .cell-at .ensures, c .before .weight-at .ensures)) (omega arith),
+          (c .before .before .cell-at .ensures) (c .before .weight-at .ensures)
+          (omega (arith, c .before .before .cell-at .ensures, c .before .weight-at .ensures)) (omega arith),
     )
 
 same-length : tie.Need-same-length Inv-loop μ-loop
@@ -72,24 +98,12 @@ same-length c = c .before .loop .inv .4 .same-length
 
 returns : tie.Need-returns Inv-loop μ-loop
 returns c =
-    let s = c .before .before .before .before in
+    let s = start (c .before) in
     let l = c .before .loop in
     copied-all (s .args .cells .now) (s .args .size) (s .args .mirror .now) (l .mirror) (l .a) (c .loop-test .left) (l .inv .4)
 
 pub copy-weights-spec : {M : Type 1} → statement M
 copy-weights-spec =
     tie.close
-    (tie.spec
-    Inv-loop
-    μ-loop
-    loop-holds
-    cell-at-requires
-    slice-write-mirror
-    weight-at-requires
-    shared-slice-read-mirror
-    slice-write-mirror-2
-    add-a
-    loop-less
-    loop-again
-    same-length
-    returns)
+    (tie.spec Inv-loop μ-loop loop-holds cell-at-requires slice-write-mirror weight-at-requires shared-slice-read-mirror slice-write-mirror-2 add-a
+    loop-less loop-again same-length returns)

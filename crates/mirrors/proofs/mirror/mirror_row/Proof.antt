@@ -31,8 +31,14 @@ add-b c = let s = c .before .before in omega (arith, s .pre .0 .1 .high, of-few 
 
 loop-holds : tie.Need-loop-holds Inv-loop μ-loop
 loop-holds c =
-    let s = c .before .before in
-    (omega arith, omega (arith, s .pre .0 .1 .high), of-few (s .pre .0 .0 .1), refl, row-begun (s .args .cells .now) (s .args .size) (s .args .a) (s .args .mirror .now))
+    let s = c .before .before in (
+      omega arith,
+      omega (arith, s .pre .0 .1 .high),
+      of-few (s .pre .0 .0 .1),
+      refl,
+      row-begun (s .args .cells .now) (s .args .size) (s .args .a)
+          (s .args .mirror .now),
+    )
 
 mirror-pair-requires : tie.Need-mirror-pair-requires Inv-loop μ-loop
 mirror-pair-requires c κs =
@@ -56,8 +62,12 @@ returns c =
     let v = c .before .before .before in
     let t = v .before .before in
     let s = start (t .before) in
-    let l = t .before .loop in
-    (v .mirror-pair .ensures .0 ∙ l .inv .3, row-offends (s .args .cells .now) (s .args .size) (s .args .a) (s .args .mirror .now) (l .mirror) (l .b) (l .inv .4) (first-named (t .before)) (second-named t) (v .mirror-pair .last .1 .1 .1 .0) (v .mirror-pair .result) (v .mirror-pair .ensures .1) (not-true (v .mirror-pair .result) (c .if1 .taken)))
+    let l = t .before .loop in (
+      v .mirror-pair .ensures .0 ∙ l .inv .3,
+      row-offends (s .args .cells .now) (s .args .size) (s .args .a) (s .args .mirror .now) (l .mirror) (l .b)
+          (l .inv .4) (first-named (t .before)) (second-named t) (v .mirror-pair .last .1 .1 .1 .0) (v .mirror-pair .result) (v .mirror-pair .ensures .1)
+          (not-true (v .mirror-pair .result) (c .if1 .taken)),
+    )
 
 add-b-2 : tie.Need-add-b-2 Inv-loop μ-loop
 add-b-2 c =
@@ -85,7 +95,9 @@ loop-again c =
       omega (arith, t .loop-test .taken),
       l .inv .2,
       v .mirror-pair .ensures .0 ∙ l .inv .3,
-      row-more (s .args .cells .now) (s .args .size) (s .args .a) (s .args .mirror .now) (l .mirror) (l .b) (l .inv .4) (first-named (t .before)) (second-named t) (v .mirror-pair .last .1 .1 .1 .0) (v .mirror-pair .result) (v .mirror-pair .ensures .1) (not-false (v .mirror-pair .result) (c .if1 .left)),
+      row-more (s .args .cells .now) (s .args .size) (s .args .a) (s .args .mirror .now) (l .mirror) (l .b) (l .inv .4) (first-named (t .before))
+          (second-named t) (v .mirror-pair .last .1 .1 .1 .0) (v .mirror-pair .result) (v .mirror-pair .ensures .1)
+          (not-false (v .mirror-pair .result) (c .if1 .left)),
     )
 
 same-length-2 : tie.Need-same-length-2 Inv-loop μ-loop
@@ -100,16 +112,4 @@ returns-2 c =
 pub mirror-row-spec : {M : Type 1} → statement M
 mirror-row-spec =
     tie.close
-    (tie.spec
-    Inv-loop
-    μ-loop
-    add-b
-    loop-holds
-    mirror-pair-requires
-    same-length
-    returns
-    add-b-2
-    loop-less
-    loop-again
-    same-length-2
-    returns-2)
+    (tie.spec Inv-loop μ-loop add-b loop-holds mirror-pair-requires same-length returns add-b-2 loop-less loop-again same-length-2 returns-2)

@@ -4,22 +4,10 @@ use borrow.Author.Needs.{needs}
 use Rattle.mirrors.proofs.sides.last_letter.Statement.{statement}
 use Rattle.mirrors.proofs.sides.last_letter.Tie as tie
 
-shared-slice-read-count : tie.Need-shared-slice-read-count
-shared-slice-read-count c = search needs
-
-cast-count : tie.Need-cast-count
-cast-count c = search needs
-
 returns : tie.Need-returns
 returns c =
     let s = c .before .before in
     ends-alone (s .args .cells .now) (s .args .a) (s .args .cell) (c .if1 .taken)
-
-add-result : tie.Need-add-result
-add-result c = search needs
-
-shared-slice-read-result : tie.Need-shared-slice-read-result
-shared-slice-read-result c = search needs
 
 returns-2 : tie.Need-returns-2
 returns-2 c =
@@ -29,10 +17,4 @@ returns-2 c =
 pub last-letter-spec : {M : Type 1} → statement M
 last-letter-spec =
     tie.close
-    (tie.spec
-    shared-slice-read-count
-    cast-count
-    returns
-    add-result
-    shared-slice-read-result
-    returns-2)
+    (tie.spec (λ c. search needs) (λ c. search needs) returns (λ c. search needs) (λ c. search needs) returns-2)

@@ -14,6 +14,9 @@ Inv-loop cells a cell mirror₀ to count next₀ k₀ mirror next k =
 abbrev μ-loop : tie.MeasureT-loop
 μ-loop cells a cell mirror₀ to count next₀ k₀ mirror next k = count - k
 
+abbrev start : tie.At-loop Inv-loop μ-loop → tie.Start Inv-loop μ-loop
+start c = c .before .before .before
+
 shared-slice-read-count : tie.Need-shared-slice-read-count Inv-loop μ-loop
 shared-slice-read-count c = omega (arith, c .before .pre .0 .inside)
 
@@ -47,59 +50,41 @@ slice-write-mirror-2 : tie.Need-slice-write-mirror-2 Inv-loop μ-loop
 slice-write-mirror-2 c = let l = c .before .loop in omega (arith, l .inv .0, l .inv .1, l .inv .2 .same-length)
 
 add-next : tie.Need-add-next Inv-loop μ-loop
-add-next c = omega (arith, c .before .before .before .before .pre .0 .inside)
+add-next c = omega (arith, start (c .before) .pre .0 .inside)
 
 add-next-2 : tie.Need-add-next-2 Inv-loop μ-loop
-add-next-2 c = omega (arith, c .before .before .before .before .pre .0 .inside, c .before .loop .inv .0)
+add-next-2 c = omega (arith, start (c .before) .pre .0 .inside, c .before .loop .inv .0)
 
 shared-slice-read-next : tie.Need-shared-slice-read-next Inv-loop μ-loop
-shared-slice-read-next c = omega (arith, c .before .before .before .before .before .pre .0 .inside, c .before .before .loop .inv .0)
+shared-slice-read-next c = omega (arith, start (c .before .before) .pre .0 .inside, c .before .before .loop .inv .0)
 
 add-k : tie.Need-add-k Inv-loop μ-loop
 add-k c = omega (arith, c .before .before .loop .inv .0)
 
-loop-less : tie.Need-loop-less Inv-loop μ-loop
-loop-less c = omega arith
-
 loop-again : tie.Need-loop-again Inv-loop μ-loop
 loop-again c =
-    let s = c .before .before .before .before .before in
+    let s = start (c .before .before) in
     let l = c .before .before .loop in
     let count = getD (s .args .cells .now) (s .args .cell) 0 in (
       l .inv .0,
       l .inv .1,
-      put-more (s .args .cells .now) (s .args .a) (s .args .cell) count (l .inv .0) (set (s .args .mirror .now) (s .args .to) count) (s .args .to) (l .inv .1) (l .mirror) (l .next) (l .k) (l .inv .2) (c .before .loop-test .taken)
+      put-more (s .args .cells .now) (s .args .a) (s .args .cell) count (l .inv .0) (set (s .args .mirror .now) (s .args .to) count) (s .args .to) (l .inv .1)
+          (l .mirror) (l .next) (l .k) (l .inv .2) (c .before .loop-test .taken)
           (s .args .to + count - l .k) (omega arith),
     )
 
 same-length : tie.Need-same-length Inv-loop μ-loop
-same-length c = let s = c .before .before .before .before in let l = c .before .loop in simp length-set at (l .inv .2 .same-length)
+same-length c = let s = start (c .before) in let l = c .before .loop in simp length-set at (l .inv .2 .same-length)
 
 returns : tie.Need-returns Inv-loop μ-loop
 returns c =
-    let s = c .before .before .before .before in
+    let s = start (c .before) in
     let l = c .before .loop in
-    put-whole (s .args .cells .now) (s .args .a) (s .args .cell) (s .args .mirror .now) (s .args .to) (l .inv .0) (s .pre .1) (l .mirror) (l .next) (l .k) (l .inv .2) (c .loop-test .left)
+    put-whole (s .args .cells .now) (s .args .a) (s .args .cell) (s .args .mirror .now) (s .args .to) (l .inv .0) (s .pre .1) (l .mirror) (l .next) (l .k)
+    (l .inv .2) (c .loop-test .left)
 
 pub put-backward-spec : {M : Type 1} → statement M
 put-backward-spec =
     tie.close
-    (tie.spec
-    Inv-loop
-    μ-loop
-    shared-slice-read-count
-    cast-count
-    shared-slice-read-mirror
-    slice-write-mirror
-    loop-holds
-    add-mirror
-    sub-mirror
-    slice-write-mirror-2
-    add-next
-    add-next-2
-    shared-slice-read-next
-    add-k
-    loop-less
-    loop-again
-    same-length
-    returns)
+    (tie.spec Inv-loop μ-loop shared-slice-read-count cast-count shared-slice-read-mirror slice-write-mirror loop-holds add-mirror sub-mirror
+    slice-write-mirror-2 add-next add-next-2 shared-slice-read-next add-k (λ c. omega arith) loop-again same-length returns)

@@ -9,49 +9,45 @@ use borrow.Author.Needs.{needs}
 use Rattle.swaps.proofs.entry.replace.Statement.{statement}
 use Rattle.swaps.proofs.entry.replace.Tie as tie
 
-add-end : tie.Need-add-end
-add-end c = search needs
+abbrev start : tie.After-struct-known → tie.Start
+start c = c .before .before .before
 
-add-if1 : tie.Need-add-if1
-add-if1 c = search needs
+abbrev after-struct-known : tie.After-put-side → tie.After-struct-known
+after-struct-known c = c .before .before .before .before
 
-add-if1-2 : tie.Need-add-if1-2
-add-if1-2 c = search needs
+abbrev after-put-side : tie.After-bytes → tie.After-put-side
+after-put-side c = c .before
 
 returns : tie.Need-returns
 returns c =
-    let s = c .before .before .before .before .before in
-    (refl, too-long (s .args .bytes .now) (s .args .gap .left) (s .args .gap .right) (s .args .taken) (s .args .b) (take (s .args .count) (drop (s .args .from) (s .args .cells .now))) (s .args .count) (word-length (s .args .cells .now) (s .args .from) (s .args .count) (s .pre .2)) (s .pre .0) (s .pre .1) (omega (arith, c .if1 .taken)))
-
-add-start : tie.Need-add-start
-add-start c = search needs
+    let s = start (c .before .before) in (
+      refl,
+      too-long (s .args .bytes .now) (s .args .gap .left) (s .args .gap .right) (s .args .taken) (s .args .b)
+          (take (s .args .count) (drop (s .args .from) (s .args .cells .now))) (s .args .count)
+          (word-length (s .args .cells .now) (s .args .from) (s .args .count) (s .pre .2)) (s .pre .0) (s .pre .1) (omega (arith, c .if1 .taken)),
+    )
 
 sub-start : tie.Need-sub-start
 sub-start c = search needs
-
-put-side-requires : tie.Need-put-side-requires
-put-side-requires c κs = search needs
 
 same-length : tie.Need-same-length
 same-length c = c .before .before .put-side .kept .0
 
 returns-2 : tie.Need-returns-2
 returns-2 c =
-    let s = c .before .before .before .before .before .before .before .before .before in
+    let k = after-put-side (c .before) in
+    let s = start (after-struct-known k) in
     let u = c .before .before .put-side in
-    let h : s .args .gap .left + (1 + s .args .count) ≤ s .args .gap .right + s .args .taken = omega (arith, c .before .before .before .before .if1 .left) in
-    (after-length (s .args .bytes .now) (s .args .gap .left) (s .args .gap .right) (s .args .taken) (s .args .b) (take (s .args .count) (drop (s .args .from) (s .args .cells .now))) (s .args .count) (word-length (s .args .cells .now) (s .args .from) (s .args .count) (s .pre .2)) (s .pre .0) (s .pre .1) h (u .last .0) (u .ensures), holds-made (s .args .bytes .now) (s .args .gap .left) (s .args .gap .right) (s .args .taken) (s .args .b) (take (s .args .count) (drop (s .args .from) (s .args .cells .now))) (s .args .count) (word-length (s .args .cells .now) (s .args .from) (s .args .count) (s .pre .2)) (s .pre .0) (s .pre .1) h (u .last .0) (u .ensures))
+    let h : s .args .gap .left + (1 + s .args .count) ≤ s .args .gap .right + s .args .taken = omega (arith, k .before .before .if1 .left) in (
+      after-length (s .args .bytes .now) (s .args .gap .left) (s .args .gap .right) (s .args .taken) (s .args .b)
+          (take (s .args .count) (drop (s .args .from) (s .args .cells .now))) (s .args .count)
+          (word-length (s .args .cells .now) (s .args .from) (s .args .count) (s .pre .2)) (s .pre .0) (s .pre .1) h (u .last .0) (u .ensures),
+      holds-made (s .args .bytes .now) (s .args .gap .left) (s .args .gap .right) (s .args .taken) (s .args .b)
+          (take (s .args .count) (drop (s .args .from) (s .args .cells .now))) (s .args .count)
+          (word-length (s .args .cells .now) (s .args .from) (s .args .count) (s .pre .2)) (s .pre .0) (s .pre .1) h (u .last .0) (u .ensures),
+    )
 
 pub replace-spec : {M : Type 1} → statement M
 replace-spec =
     tie.close
-    (tie.spec
-    add-end
-    add-if1
-    add-if1-2
-    returns
-    add-start
-    sub-start
-    put-side-requires
-    same-length
-    returns-2)
+    (tie.spec (λ c. search needs) (λ c. search needs) (λ c. search needs) returns (λ c. search needs) sub-start (λ c κs. search needs) same-length returns-2)

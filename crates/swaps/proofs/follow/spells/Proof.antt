@@ -22,6 +22,15 @@ Inv-loop bytes letters program size count width i₀ i =
 abbrev μ-loop : tie.MeasureT-loop
 μ-loop bytes letters program size count width i₀ i = letters - i
 
+abbrev start : tie.After-letter-width Inv-loop μ-loop → tie.Start Inv-loop μ-loop
+start c = c .before .before .before .before
+
+abbrev after-letter-width : tie.In-loop Inv-loop μ-loop → tie.After-letter-width Inv-loop μ-loop
+after-letter-width c = c .before .before
+
+abbrev in-loop : tie.After-letter-at Inv-loop μ-loop → tie.In-loop Inv-loop μ-loop
+in-loop c = c .before .before
+
 returns : tie.Need-returns Inv-loop μ-loop
 returns c =
     let s = c .before .before .before in
@@ -35,12 +44,9 @@ letter-width-requires c κs =
     let s = c .before .before .before in
     (s .pre .some, s .pre .few)
 
-cast-width : tie.Need-cast-width Inv-loop μ-loop
-cast-width c = search needs
-
 loop-holds : tie.Need-loop-holds Inv-loop μ-loop
 loop-holds c =
-    let s = c .before .before .before .before in (
+    let s = start c in (
       omega arith,
       λ v e.
           let f : s .pre .forward .word ≡ v = same-answer (s .pre .forward .word) v (sym (s .pre .forward .read) ∙ e) in
@@ -48,62 +54,58 @@ loop-holds c =
           spelled-start (s .args .bytes .now) v (s .args .letters) (omega (arith, n)),
     )
 
-shared-slice-read-if2 : tie.Need-shared-slice-read-if2 Inv-loop μ-loop
-shared-slice-read-if2 c = omega arith
-
 letter-at-requires : tie.Need-letter-at-requires Inv-loop μ-loop
 letter-at-requires c κs =
-    let s = c .before .before .before .before .before .before .before in
-    has-letter (s .args .program .now) (s .args .size) (s .args .count) (c .before .before .before .letter-width .result) (c .before .before .loop .i) (record { some = s .pre .some; few = s .pre .few; program = record { word = positive (s .pre .forward .word); read = s .pre .forward .read-signed; count-is = length-positive (s .pre .forward .word) ∙ s .pre .forward .count-is } }) (c .before .before .before .letter-width .ensures) (omega arith)
+    let s = start (after-letter-width (c .before)) in
+    has-letter (s .args .program .now) (s .args .size) (s .args .count) (c .before .before .before .letter-width .result) (c .before .before .loop .i)
+    (record {
+      some = s .pre .some;
+      few = s .pre .few;
+      program =
+          record {
+            word = positive (s .pre .forward .word);
+            read = s .pre .forward .read-signed;
+            count-is = length-positive (s .pre .forward .word)
+                ∙ s .pre .forward .count-is;
+          };
+    }) (c .before .before .before .letter-width .ensures) (omega arith)
 
 returns-2 : tie.Need-returns-2 Inv-loop μ-loop
 returns-2 c =
-    let s = c .before .before .before .before .before .before .before .before .before in
-    let l = c .before .before .before .before .loop in
+    let k = in-loop (c .before) in
+    let s = start (after-letter-width k) in
+    let l = k .before .loop in
     λ v e.
     let f : s .pre .forward .word ≡ v = same-answer (s .pre .forward .word) v (sym (s .pre .forward .read) ∙ e) in
     let n : length v ≡ s .args .count = ap length (sym f) ∙ s .pre .forward .count-is in
-    let g : c .before .letter-at .result ≡ getD v (l .i) 0 = c .before .letter-at .ensures (positive (s .pre .forward .word)) (s .pre .forward .read-signed) ∙ (number-at (s .pre .forward .word) (l .i) ∙ ap (λ w. getD w (l .i) 0) f) in
-    sym (l .inv .1 v e ∙ spelled-fails (s .args .bytes .now) v (s .args .letters) (s .pre .inside) (omega (arith, n)) (l .i) (omega arith) (λ h. c .if2 .taken (h ∙ sym g)))
-
-add-i : tie.Need-add-i Inv-loop μ-loop
-add-i c = omega arith
-
-loop-less : tie.Need-loop-less Inv-loop μ-loop
-loop-less c = omega arith
+    let g : c .before .letter-at .result ≡ getD v (l .i) 0 = c .before .letter-at .ensures (positive (s .pre .forward .word)) (s .pre .forward .read-signed)
+    ∙ (number-at (s .pre .forward .word) (l .i) ∙ ap (λ w. getD w (l .i) 0) f) in
+    sym (l .inv .1 v e ∙ spelled-fails (s .args .bytes .now) v (s .args .letters) (s .pre .inside) (omega (arith, n)) (l .i) (omega arith)
+    (λ h. c .if2 .taken (h ∙ sym g)))
 
 loop-again : tie.Need-loop-again Inv-loop μ-loop
 loop-again c =
-    let s = c .before .before .before .before .before .before .before .before .before in
-    let l = c .before .before .before .before .loop in (
+    let k = in-loop (c .before) in
+    let s = start (after-letter-width k) in
+    let l = k .before .loop in (
       omega arith,
       λ v e.
           let f : s .pre .forward .word ≡ v = same-answer (s .pre .forward .word) v (sym (s .pre .forward .read) ∙ e) in
           let n : length v ≡ s .args .count = ap length (sym f) ∙ s .pre .forward .count-is in
-          let g : c .before .letter-at .result ≡ getD v (l .i) 0 = c .before .letter-at .ensures (positive (s .pre .forward .word)) (s .pre .forward .read-signed) ∙ (number-at (s .pre .forward .word) (l .i) ∙ ap (λ w. getD w (l .i) 0) f) in
+          let g : c .before .letter-at .result ≡ getD v (l .i) 0 =
+          c .before .letter-at .ensures (positive (s .pre .forward .word)) (s .pre .forward .read-signed)
+          ∙ (number-at (s .pre .forward .word) (l .i) ∙ ap (λ w. getD w (l .i) 0) f) in
           l .inv .1 v e ∙ spelled-more (s .args .bytes .now) v (s .args .letters) (s .pre .inside) (omega (arith, n)) (l .i) (omega arith) (c .if2 .left ∙ g),
     )
 
 returns-3 : tie.Need-returns-3 Inv-loop μ-loop
 returns-3 c =
     let l = c .before .loop in
-    let s = c .before .before .before .before .before .before in
+    let s = start (c .before .before) in
     λ v e. sym (l .inv .1 v e ∙ rest-done (s .args .bytes .now) v 0 0 (s .args .letters) (l .i) (omega arith))
 
 pub spells-spec : {M : Type 1} → statement M
 spells-spec =
     tie.close
-    (tie.spec
-    Inv-loop
-    μ-loop
-    returns
-    letter-width-requires
-    cast-width
-    loop-holds
-    shared-slice-read-if2
-    letter-at-requires
-    returns-2
-    add-i
-    loop-less
-    loop-again
-    returns-3)
+    (tie.spec Inv-loop μ-loop returns letter-width-requires (λ c. search needs) loop-holds (λ c. omega arith) letter-at-requires returns-2
+    (λ c. omega arith) (λ c. omega arith) loop-again returns-3)

@@ -18,35 +18,15 @@ abbrev μ-loop : tie.MeasureT-loop
 loop-holds : tie.Need-loop-holds Inv-loop μ-loop
 loop-holds c = (omega arith, refl, paste-zero (c .args .bytes .now) (c .args .at + 1) (take (c .args .count) (drop (c .args .from) (c .args .cells .now))))
 
-add-bytes : tie.Need-add-bytes Inv-loop μ-loop
-add-bytes c = omega arith
-
-shared-slice-read-bytes : tie.Need-shared-slice-read-bytes Inv-loop μ-loop
-shared-slice-read-bytes c = omega arith
-
-add-bytes-2 : tie.Need-add-bytes-2 Inv-loop μ-loop
-add-bytes-2 c = omega arith
-
-add-bytes-3 : tie.Need-add-bytes-3 Inv-loop μ-loop
-add-bytes-3 c = omega arith
-
-slice-write-bytes : tie.Need-slice-write-bytes Inv-loop μ-loop
-slice-write-bytes c = omega arith
-
-add-i : tie.Need-add-i Inv-loop μ-loop
-add-i c = omega arith
-
-loop-less : tie.Need-loop-less Inv-loop μ-loop
-loop-less c = omega arith
-
 loop-again : tie.Need-loop-again Inv-loop μ-loop
 loop-again c =
     let s = c .before .before .before in
-    let l = c .before .before .loop in
-    (omega arith, simp length-set (l .inv .1), ap (λ w. set w (s .args .at + 1 + l .i) (getD (s .args .cells .now) (s .args .from + l .i) 0)) (l .inv .2) ∙ put-more (s .args .cells .now) (s .args .from) (s .args .count) (s .pre .1) (s .args .bytes .now) (s .args .at) (s .pre .0) (l .i) (omega arith))
-
-slice-write-bytes-2 : tie.Need-slice-write-bytes-2 Inv-loop μ-loop
-slice-write-bytes-2 c = omega arith
+    let l = c .before .before .loop in (
+      omega arith,
+      simp length-set (l .inv .1),
+      ap (λ w. set w (s .args .at + 1 + l .i) (getD (s .args .cells .now) (s .args .from + l .i) 0)) (l .inv .2)
+          ∙ put-more (s .args .cells .now) (s .args .from) (s .args .count) (s .pre .1) (s .args .bytes .now) (s .args .at) (s .pre .0) (l .i) (omega arith),
+    )
 
 same-length : tie.Need-same-length Inv-loop μ-loop
 same-length c = simp length-set (c .before .loop .inv .1)
@@ -55,23 +35,11 @@ returns : tie.Need-returns Inv-loop μ-loop
 returns c =
     let s = c .before .before in
     let l = c .before .loop in
-    ap (λ w. set w (s .args .at) (s .args .b)) (l .inv .2) ∙ put-all (s .args .cells .now) (s .args .from) (s .args .count) (s .pre .1) (s .args .bytes .now) (s .args .at) (s .pre .0) (s .args .b) (l .i) (omega arith)
+    ap (λ w. set w (s .args .at) (s .args .b)) (l .inv .2) ∙ put-all (s .args .cells .now) (s .args .from) (s .args .count) (s .pre .1) (s .args .bytes .now)
+    (s .args .at) (s .pre .0) (s .args .b) (l .i) (omega arith)
 
 pub put-side-spec : {M : Type 1} → statement M
 put-side-spec =
     tie.close
-    (tie.spec
-    Inv-loop
-    μ-loop
-    loop-holds
-    add-bytes
-    shared-slice-read-bytes
-    add-bytes-2
-    add-bytes-3
-    slice-write-bytes
-    add-i
-    loop-less
-    loop-again
-    slice-write-bytes-2
-    same-length
-    returns)
+    (tie.spec Inv-loop μ-loop loop-holds (λ c. omega arith) (λ c. omega arith) (λ c. omega arith) (λ c. omega arith) (λ c. omega arith) (λ c. omega arith)
+    (λ c. omega arith) loop-again (λ c. omega arith) same-length returns)

@@ -8,48 +8,36 @@ use borrow.Author.Needs.{needs}
 use Rattle.text.proofs.pieces.put_letter.Statement.{statement}
 use Rattle.text.proofs.pieces.put_letter.Tie as tie
 
-put-spaced-requires : tie.Need-put-spaced-requires
-put-spaced-requires c κs = search needs
+abbrev start-from-after-put-spaced : tie.After-put-spaced → tie.Start
+start-from-after-put-spaced c = c .before .before .before .before
 
-same-length : tie.Need-same-length
-same-length c = search needs
+abbrev start : tie.After-put-byte → tie.Start
+start c = c .before .before .before .before
+
+abbrev after-put-spaced : tie.After-out → tie.After-put-spaced
+after-put-spaced c = c .before
+
+abbrev after-put-byte : tie.After-put-number-arg → tie.After-put-byte
+after-put-byte c = c .before .before .before .before .before .before .before
+
+abbrev after-put-number-arg : tie.After-put-number → tie.After-put-number-arg
+after-put-number-arg c = c .before
 
 returns : tie.Need-returns
 returns c =
-    let s = c .before .before .before .before .before .before in
-    put-as (omega arith) (sym (ap letterText (letter-forward (s .args .byte) (c .before .before .before .before .if1 .taken)))) (c .before .before .put-spaced .ensures)
-
-put-byte-requires : tie.Need-put-byte-requires
-put-byte-requires c κs = search needs
-
-put-byte-requires-2 : tie.Need-put-byte-requires-2
-put-byte-requires-2 c κs = search needs
-
-cast-put-number : tie.Need-cast-put-number
-cast-put-number c = search needs
-
-put-number-requires : tie.Need-put-number-requires
-put-number-requires c κs = search needs
-
-same-length-2 : tie.Need-same-length-2
-same-length-2 c = search needs
+    let k = after-put-spaced (c .before) in
+    let s = start-from-after-put-spaced k in
+    put-as (omega arith) (sym (ap letterText (letter-forward (s .args .byte) (k .before .before .if1 .taken)))) (c .before .before .put-spaced .ensures)
 
 returns-2 : tie.Need-returns-2
 returns-2 c =
-    let s = c .before .before .before .before .before .before .before .before .before .before .before .before .before .before in
-    put-as (omega arith) (sym (ap letterText (letter-back (s .args .byte) (c .before .before .before .before .before .before .before .before .before .before .before .before .if1 .left))))
-    (c .before .before .before .before .before .before .before .before .before .before .put-byte .ensures then (c .before .before .before .before .before .before .put-byte2 .ensures then c .before .before .put-number .ensures))
+    let k = after-put-number-arg (c .before .before) in
+    let s = start (after-put-byte k) in
+    put-as (omega arith) (sym (ap letterText (letter-back (s .args .byte) (after-put-byte k .before .before .if1 .left))))
+    (after-put-byte k .put-byte .ensures then (k .before .before .before .put-byte2 .ensures then c .before .before .put-number .ensures))
 
 pub put-letter-spec : {M : Type 1} → statement M
 put-letter-spec =
     tie.close
-    (tie.spec
-    put-spaced-requires
-    same-length
-    returns
-    put-byte-requires
-    put-byte-requires-2
-    cast-put-number
-    put-number-requires
-    same-length-2
-    returns-2)
+    (tie.spec (λ c κs. search needs) (λ c. search needs) returns (λ c κs. search needs) (λ c κs. search needs) (λ c. search needs) (λ c κs. search needs)
+    (λ c. search needs) returns-2)

@@ -4,17 +4,13 @@ use borrow.Author.Needs.{needs}
 use Rattle.text.proofs.pieces.put_spaced.Statement.{statement}
 use Rattle.text.proofs.pieces.put_spaced.Tie as tie
 
-put-byte-requires : tie.Need-put-byte-requires
-put-byte-requires c κs = search needs
-
-put-number-requires : tie.Need-put-number-requires
-put-number-requires c κs = search needs
-
-same-length : tie.Need-same-length
-same-length c = search needs
+abbrev after-put-number-arg : tie.After-put-number → tie.After-put-number-arg
+after-put-number-arg c = c .before
 
 returns : tie.Need-returns
-returns c = c .before .before .before .before .before .before .put-byte .ensures then c .before .before .put-number .ensures
+returns c = after-put-number-arg (c .before .before) .before .before .before .put-byte .ensures then c .before .before .put-number .ensures
 
 pub put-spaced-spec : {M : Type 1} → statement M
-put-spaced-spec = tie.close (tie.spec put-byte-requires put-number-requires same-length returns)
+put-spaced-spec =
+    tie.close
+    (tie.spec (λ c κs. search needs) (λ c κs. search needs) (λ c. search needs) returns)

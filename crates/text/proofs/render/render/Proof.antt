@@ -13,6 +13,9 @@ use borrow.Author.Needs.{needs}
 use Rattle.text.proofs.render.render.Statement.{statement}
 use Rattle.text.proofs.render.render.Tie as tie
 
+abbrev after-read-table-program : tie.After-cells2 → tie.After-read-table-program
+after-read-table-program c = c .before
+
 abbrev start : tie.After-read-table-program → tie.Start
 start c = c .before .before .before .before .before .before .before
 
@@ -20,64 +23,27 @@ start c = c .before .before .before .before .before .before .before
 abbrev Done : tie.After-read-table-program → TableProgram → Type 0
 Done c r = TableProgramDone (start c .args .table .now) (start c .args .program .now) Any (c .read-table-program .last .1 .1 .1 .0) r
 
-slice-aggregate-read-table-program : tie.Need-slice-aggregate-read-table-program
-slice-aggregate-read-table-program c = search needs
-
 read-table-program-requires : tie.Need-read-table-program-requires
 read-table-program-requires c κs = blank-zeros
-
-enum-known-read : tie.Need-enum-known-read
-enum-known-read c = search needs
-
-put-refusal-requires : tie.Need-put-refusal-requires
-put-refusal-requires c κs = search needs
-
-enum-known-read-2 : tie.Need-enum-known-read-2
-enum-known-read-2 c = search needs
 
 render-accepted-requires : tie.Need-render-accepted-requires
 render-accepted-requires c κs =
     let k = c .before .before .before in
-    let v = k .before .before .before .before in
+    let v = after-read-table-program (k .before .before .before) in
     (start v .pre, readable (subst (Done v) (k .before .read2 .given .1) (v .read-table-program .ensures)))
-
-same-length : tie.Need-same-length
-same-length c = search needs
 
 returns : tie.Need-returns
 returns c =
     let p = c .before .before in
     let k = p .before .before in
-    let v = k .before .before .before .before in
+    let v = after-read-table-program (k .before .before .before) in
     let s = start v in
     reported (p .put-refusal .ensures) (omega (arith, s .pre .room))
-    (not-read (s .args .table .now) (s .args .program .now) (k .before .read .given .0 .0) (subst (Done v) (k .before .read .given .1) (v .read-table-program .ensures)))
-
-same-length-2 : tie.Need-same-length-2
-same-length-2 c = search needs
-
-same-length-3 : tie.Need-same-length-3
-same-length-3 c = search needs
-
-same-length-4 : tie.Need-same-length-4
-same-length-4 c = search needs
-
-returns-2 : tie.Need-returns-2
-returns-2 c = search needs
+    (not-read (s .args .table .now) (s .args .program .now) (k .before .read .given .0 .0)
+    (subst (Done v) (k .before .read .given .1) (v .read-table-program .ensures)))
 
 pub render-spec : {M : Type 1} → statement M
 render-spec =
     tie.close
-    (tie.spec
-    slice-aggregate-read-table-program
-    read-table-program-requires
-    enum-known-read
-    put-refusal-requires
-    enum-known-read-2
-    render-accepted-requires
-    same-length
-    returns
-    same-length-2
-    same-length-3
-    same-length-4
-    returns-2)
+    (tie.spec (λ c. search needs) read-table-program-requires (λ c. search needs) (λ c κs. search needs) (λ c. search needs) render-accepted-requires
+    (λ c. search needs) returns (λ c. search needs) (λ c. search needs) (λ c. search needs) (λ c. search needs))

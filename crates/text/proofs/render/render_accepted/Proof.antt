@@ -10,81 +10,76 @@ use borrow.Author.Needs.{needs}
 use Rattle.text.proofs.render.render_accepted.Statement.{statement}
 use Rattle.text.proofs.render.render_accepted.Tie as tie
 
-reverse-requires : tie.Need-reverse-requires
-reverse-requires c κs = search needs
+abbrev start : tie.After-workspace → tie.Start
+start c = c .before .before .before .before .before .before .before .before .before
 
-enum-known-reversed : tie.Need-enum-known-reversed
-enum-known-reversed c = search needs
+abbrev after-workspace : tie.After-reversed2 → tie.After-workspace
+after-workspace c = c .before .before .before .before .before
 
-put-refusal-requires : tie.Need-put-refusal-requires
-put-refusal-requires c κs = search needs
+abbrev after-workspace-from-after-put-refusal-arg : tie.After-put-refusal-arg → tie.After-workspace
+after-workspace-from-after-put-refusal-arg c = c .before .before .before .before .before .before .before
 
-enum-known-reversed-2 : tie.Need-enum-known-reversed-2
-enum-known-reversed-2 c = search needs
+abbrev after-put-refusal-arg : tie.After-put-refusal → tie.After-put-refusal-arg
+after-put-refusal-arg c = c .before
+
+abbrev after-reversed2 : tie.After-slice-known7 → tie.After-reversed2
+after-reversed2 c = c .before .before .before .before .before
+
+abbrev after-slice-known7 : tie.After-put-areas-arg3 → tie.After-slice-known7
+after-slice-known7 c = c .before .before .before
 
 unpack-letters-requires : tie.Need-unpack-letters-requires
 unpack-letters-requires c κs =
-    let s = c .before .before .before .before .before .before .before .before .before .before .before .before .before .before .before .before in
+    let k = after-workspace (c .before .before) in
+    let s = start k in
     let q = s .pre .1 .program-read in
-    (q, omega (arith, s .pre .0 .workspace-length, count-small (s .args .program .now) (s .args .size) (s .args .count) q, c .before .before .before .before .before .before .before .workspace .given))
+    (q, omega (arith, s .pre .0 .workspace-length, count-small (s .args .program .now) (s .args .size) (s .args .count) q, k .workspace .given))
 
 put-areas-requires : tie.Need-put-areas-requires
 put-areas-requires c κs =
-    let s = c .before .before .before .before .before .before .before .before .before .before .before .before .before .before .before .before .before .before .before .before .before .before in
-    let v = c .before .before .before .before .before .before .before .before .before .before .before .before .before .before .reverse in
+    let k = after-reversed2 (after-slice-known7 c) in
+    let s = start (after-workspace k) in
+    let v = after-workspace k .before .reverse in
     let w = s .args .workspace .now in
     let a = s .args .answer .now in
-    let g = c .before .before .before .before .before .before .before .before .reversed2 .given in
+    let g = k .reversed2 .given in
     let told = sym (ap reversed (g .1)) ∙ v .ensures .0 in
-    let same : length (v .last .1 .1 .1 .1 .0) ≡ length a = c .before .before .before .before .before .before .before .before .before .before .before .answer .given in
+    let same : length (v .last .1 .1 .1 .1 .0) ≡ length a = k .before .before .before .answer .given in
     let fits = fraction-fits (s .args .table .now) (s .args .program .now) (s .args .size) (s .args .count) (s .pre .1) (length w) (length a)
     (s .pre .0 .workspace-length) (s .pre .0 .answer-length) (g .0 .0) (g .0 .1 .0) (g .0 .1 .1 .0) told a (v .last .1 .1 .1 .1 .0) (v .ensures .1 .0) same in
     let few = count-small (s .args .program .now) (s .args .size) (s .args .count) (s .pre .1 .program-read) in
-    let u = c .before .before .before .before .before .unpack-letters .ensures .0 in
-    (omega (arith, few, u, c .before .before .before .before .before .before .before .before .before .before .before .before .before .workspace .given, s .pre .0 .workspace-length), fits, omega (arith, few, fits, same, s .pre .0 .answer-length, s .pre .0 .room))
-
-same-length : tie.Need-same-length
-same-length c = search needs
-
-same-length-2 : tie.Need-same-length-2
-same-length-2 c = search needs
-
-same-length-3 : tie.Need-same-length-3
-same-length-3 c = search needs
+    let u = after-slice-known7 c .before .before .unpack-letters .ensures .0 in (
+      omega (arith, few, u, after-workspace k .workspace .given, s .pre .0 .workspace-length),
+      fits,
+      omega (arith, few, fits, same, s .pre .0 .answer-length, s .pre .0 .room),
+    )
 
 returns : tie.Need-returns
 returns c =
-    let s = c .before .before .before .before .before .before .before .before .before .before .before .before .before .before .before .before .before .before .before in
-    let v = c .before .before .before .before .before .before .before .before .before .before .before .reverse in
+    let k = after-put-refusal-arg (c .before .before) in
+    let s = start (after-workspace-from-after-put-refusal-arg k) in
+    let v = after-workspace-from-after-put-refusal-arg k .before .reverse in
     let w = s .args .workspace .now in
     let a = s .args .answer .now in
-    let told = sym (ap reversed (c .before .before .before .before .before .reversed .given .1)) ∙ v .ensures .0 in
+    let told = sym (ap reversed (k .before .before .reversed .given .1)) ∙ v .ensures .0 in
     reported (c .before .before .put-refusal .ensures) (omega (arith, s .pre .0 .room))
     (refused-report (s .args .table .now) (s .args .program .now) (s .args .size) (s .args .count) (s .pre .1) (length w) (length a)
-    (s .pre .0 .workspace-length) (s .pre .0 .answer-length) (c .before .before .before .before .before .reversed .given .0 .0) told)
-
-same-length-4 : tie.Need-same-length-4
-same-length-4 c = search needs
-
-same-length-5 : tie.Need-same-length-5
-same-length-5 c = search needs
-
-same-length-6 : tie.Need-same-length-6
-same-length-6 c = search needs
+    (s .pre .0 .workspace-length) (s .pre .0 .answer-length) (k .before .before .reversed .given .0 .0) told)
 
 returns-2 : tie.Need-returns-2
 returns-2 c =
-    let s = c .before .before .before .before .before .before .before .before .before .before .before .before .before .before .before .before .before .before .before .before .before .before .before .before .before in
-    let v = c .before .before .before .before .before .before .before .before .before .before .before .before .before .before .before .before .before .reverse in
+    let k = after-reversed2 (after-slice-known7 (c .before .before .before)) in
+    let s = start (after-workspace k) in
+    let v = after-workspace k .before .reverse in
     let w = s .args .workspace .now in
     let a = s .args .answer .now in
-    let g = c .before .before .before .before .before .before .before .before .before .before .before .reversed2 .given in
+    let g = k .reversed2 .given in
     let told = sym (ap reversed (g .1)) ∙ v .ensures .0 in
-    let same : length (v .last .1 .1 .1 .1 .0) ≡ length a = c .before .before .before .before .before .before .before .before .before .before .before .before .before .before .answer .given in
+    let same : length (v .last .1 .1 .1 .1 .0) ≡ length a = k .before .before .before .answer .given in
     let fits = fraction-fits (s .args .table .now) (s .args .program .now) (s .args .size) (s .args .count) (s .pre .1) (length w) (length a)
     (s .pre .0 .workspace-length) (s .pre .0 .answer-length) (g .0 .0) (g .0 .1 .0) (g .0 .1 .1 .0) told a (v .last .1 .1 .1 .1 .0) (v .ensures .1 .0) same in
     let few = count-small (s .args .program .now) (s .args .size) (s .args .count) (s .pre .1 .program-read) in
-    let u = c .before .before .before .before .before .before .before .before .unpack-letters in
+    let u = after-slice-known7 (c .before .before .before) .before .before .unpack-letters in
     reported (c .before .before .put-areas .ensures) (omega (arith, few, fits, same, s .pre .0 .answer-length, s .pre .0 .room))
     (answer-report (s .args .table .now) (s .args .program .now) (s .args .size) (s .args .count) (s .pre .1) (length w) (length a)
     (s .pre .0 .workspace-length) (s .pre .0 .answer-length) (g .0 .0) (g .0 .1 .0) (g .0 .1 .1 .0) told a (v .last .1 .1 .1 .1 .0) (v .ensures .1 .0)
@@ -93,18 +88,5 @@ returns-2 c =
 pub render-accepted-spec : {M : Type 1} → statement M
 render-accepted-spec =
     tie.close
-    (tie.spec
-    reverse-requires
-    enum-known-reversed
-    put-refusal-requires
-    enum-known-reversed-2
-    unpack-letters-requires
-    put-areas-requires
-    same-length
-    same-length-2
-    same-length-3
-    returns
-    same-length-4
-    same-length-5
-    same-length-6
-    returns-2)
+    (tie.spec (λ c κs. search needs) (λ c. search needs) (λ c κs. search needs) (λ c. search needs) unpack-letters-requires put-areas-requires
+    (λ c. search needs) (λ c. search needs) (λ c. search needs) returns (λ c. search needs) (λ c. search needs) (λ c. search needs) returns-2)

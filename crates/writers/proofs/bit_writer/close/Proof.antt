@@ -14,7 +14,6 @@ shifted c = shl-exact (c .args .writer .held) (8 - c .args .writer .held) 32 (c 
 
 returns : tie.Need-returns
 returns c =
-    let s = c .before .before in
     record { none = λ e. refl; full = λ e. refl; filled = λ some inside. absurd (omega (arith, c .if1 .taken)) }
 
 returns-2 : tie.Need-returns-2
@@ -31,7 +30,9 @@ cast-area c =
     let s = c .before .before .before .before .before in
     let most : s .args .writer .bits * 2 ^ (8 - s .args .writer .held) < 2 ^ (s .args .writer .held + (8 - s .args .writer .held)) =
     shl-lt (s .args .writer .held) (8 - s .args .writer .held) (s .pre .small) in
-    let all : 2 ^ (s .args .writer .held + (8 - s .args .writer .held)) ≡ 2 ^ 8 = ap (λ n. 2 ^ n) {x = s .args .writer .held + (8 - s .args .writer .held)} {y = 8} (omega (arith, s .pre .few)) in
+    let all : 2 ^ (s .args .writer .held + (8 - s .args .writer .held)) ≡ 2 ^ 8 =
+    ap (λ n. 2 ^ n) {x = s .args .writer .held + (8 - s .args .writer .held)} {y = 8}
+    (omega (arith, s .pre .few)) in
     omega (arith, shifted s)
 
 slice-write-area : tie.Need-slice-write-area
