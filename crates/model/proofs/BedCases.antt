@@ -50,7 +50,8 @@ beds =
     (bedAfter 3 3 (positive (1 ∷ 2 ∷ 1 ∷ [])) gives bedAfter 3 3 (positive (2 ∷ 1 ∷ 2 ∷ []))) ∷
     -- the bobbins return after a full twist, and each two crossed twice
     (bedAfter 2 6 (positive (1 ∷ 2 ∷ 1 ∷ 2 ∷ 1 ∷ 2 ∷ [])) gives record { bobbins = 1 ∷ 2 ∷ 3 ∷ []; totals = replicate 3 (pos 2) }) ∷
-    (bedAfter 3 12 (positive (1 ∷ 2 ∷ 3 ∷ 1 ∷ 2 ∷ 3 ∷ 1 ∷ 2 ∷ 3 ∷ 1 ∷ 2 ∷ 3 ∷ [])) gives record { bobbins = 1 ∷ 2 ∷ 3 ∷ 4 ∷ []; totals = replicate 6 (pos 2) }) ∷
+    (bedAfter 3 12 (positive (1 ∷ 2 ∷ 3 ∷ 1 ∷ 2 ∷ 3 ∷ 1 ∷ 2 ∷ 3 ∷ 1 ∷ 2 ∷ 3 ∷ [])) gives record { bobbins = 1 ∷ 2 ∷ 3 ∷ 4 ∷ []; totals = replicate 6 (pos 2) })
+    ∷
     -- the bytes of a total
     (totalBytes (pos 4095) gives 0x0f ∷ 0xff ∷ []) ∷
     (totalBytes (negsuc 4094) gives 0xf0 ∷ 0x01 ∷ []) ∷
@@ -103,7 +104,13 @@ beds-hold = (refl, (refl, (refl, (refl, (refl, (refl, (refl, (refl, (refl, (refl
 
 bed-calls-hold : All bedCalls
 unfolding tableImage programImage field finish readTable readProgram isBraid readBraid bed complete
-bed-calls-hold = (refl, (refl, (refl, (refl, (refl, (refl, (refl, (refl, (refl, (refl, (refl, (refl, (refl, (refl, (refl, (refl, (refl, (refl, (refl, tt)))))))))))))))))))
+bed-calls-hold = (
+  refl,
+  (
+    refl,
+    (refl, (refl, (refl, (refl, (refl, (refl, (refl, (refl, (refl, (refl, (refl, (refl, (refl, (refl, (refl, (refl, (refl, tt))))))))))))))))),
+  ),
+)
 
 pub bed-cases-hold : BedCases
 bed-cases-hold =

@@ -13,7 +13,9 @@ use Rattle.model.specs.Outcome.{unplaced, pair-of, triple-of, answered, 
 use Rattle.model.specs.Bits.{field, finish}
 use Rattle.model.specs.Images.{readTable, readProgram, readChain, tableImage, programImage, chainImage}
 use Rattle.model.specs.Plain.{plainTable, readPlainTable, readPlainProgram}
-use Rattle.model.specs.Services.{Fraction, reverse, clear, readForward, compare, comparison, chain, check, followed, packTable, unpackTable, packProgram, unpackProgram, same-after, different-after, listed-after, unlisted-after, remainder, quotient, moves-after, none-after, joins, breaks, ends-elsewhere}
+use Rattle.model.specs.Services.{Fraction, reverse, clear, readForward, compare, comparison, chain, check, followed, packTable, unpackTable, packProgram}
+use Rattle.model.specs.Services.{unpackProgram, same-after, different-after, listed-after, unlisted-after, remainder, quotient, moves-after, none-after}
+use Rattle.model.specs.Services.{joins, breaks, ends-elsewhere}
 use Rattle.model.specs.Areas.{fractionBytes, remainderBytes, outputAfter, workspaceAfter}
 use Rattle.model.proofs.Case.{Case, _gives_, All}
 use Rattle.model.proofs.Samples.{braid1, open2, three, broken3, two, unequal2, heavy2, endless3, image, log, pattern, braidBytes, firstBytes}
@@ -76,7 +78,8 @@ triples =
     (clear (image (three (complement (3 ∷ 2 ∷ []) (1 ∷ 3 ∷ [])) (complement [] []) (complement (1 ∷ []) (2 ∷ [])))) 1 40 gives refused 11 (triple-of 1 3 2)) ∷
     -- 12 in a triple
     (clear braidBytes 65535 1 gives refused 12 (triple-of 1 2 3)) ∷
-    (clear (image (three (complement (2 ∷ []) (3 ∷ [])) (complement (2 ∷ 2 ∷ []) (2 ∷ 3 ∷ [])) (complement (2 ∷ []) (2 ∷ [])))) 2 4 gives refused 12 (triple-of 2 3 1)) ∷
+    (clear (image (three (complement (2 ∷ []) (3 ∷ [])) (complement (2 ∷ 2 ∷ []) (2 ∷ 3 ∷ [])) (complement (2 ∷ []) (2 ∷ [])))) 2 4 gives refused 12
+    (triple-of 2 3 1)) ∷
     -- L keeps its bytes while R is worked out: without them a room of 8 would do
     (clear braidBytes 65535 11 gives answered tt) ∷
     (clear braidBytes 65535 10 gives refused 12 (triple-of 1 2 3)) ∷
@@ -197,7 +200,8 @@ comparisons =
     (chain (image braid1) (pattern 1 (1 ∷ [])) (pattern 1 (1 ∷ [])) 1 2 2 gives answered (listed-after 1 0 2)) ∷
     (chain (image braid1) (pattern 1 (1 ∷ [])) (pattern 1 (1 ∷ [])) 1 2 1 gives refused 13 unplaced) ∷
     -- a step on two different letters counts, also where nothing is put in their place
-    (chain (image (record { size = 2; excess = 0 ∷ 0 ∷ []; rows = (complement [] [] ∷ []) ∷ [] ∷ [] })) (pattern 2 (1 ∷ [])) (pattern 2 (2 ∷ [])) 1 2 5 gives answered (listed-after 1 1 5)) ∷
+    (chain (image (record { size = 2; excess = 0 ∷ 0 ∷ []; rows = (complement [] [] ∷ []) ∷ [] ∷ [] })) (pattern 2 (1 ∷ [])) (pattern 2 (2 ∷ [])) 1 2 5 gives
+    answered (listed-after 1 1 5)) ∷
     -- 13 comes only after same
     (chain braidBytes (pattern 3 (1 ∷ [])) (pattern 3 (2 ∷ [])) 65535 32768 0 gives answered (unlisted-after 1)) ∷
     -- programs of equal weight and unequal length are reversed, those of unequal weight and equal length are not
@@ -206,7 +210,8 @@ comparisons =
     -- the sides are weighed whole, with their first letters
     (clear (image heavy2) 65535 32768 gives answered tt) ∷
     (clear (image (two 1 1)) 65535 32768 gives refused 8 (pair-of 1 2)) ∷
-    (clear (image (record { size = 2; excess = 0 ∷ 1 ∷ []; rows = (complement (2 ∷ []) (2 ∷ []) ∷ []) ∷ [] ∷ [] })) 65535 32768 gives refused 8 (pair-of 1 2)) ∷ []
+    (clear (image (record { size = 2; excess = 0 ∷ 1 ∷ []; rows = (complement (2 ∷ []) (2 ∷ []) ∷ []) ∷ [] ∷ [] })) 65535 32768 gives refused 8 (pair-of 1 2))
+    ∷ []
 
 -- What is left to run: moves, none for each reason, and the order of the tests.
 abbrev pub remainders : List {1} Case
@@ -306,35 +311,168 @@ pub record Further : Type 0 where
   pub areas-hold : All areas
 
 endings-hold : All endings
-unfolding tableImage programImage chainImage plainTable field finish readTable readProgram readChain readForward readPlainTable readPlainProgram reverse compare comparison chain remainder quotient check followed applied clear cleared packTable unpackTable packProgram unpackProgram under side against cubeAt reversing run next complete
+unfolding tableImage programImage chainImage plainTable field finish readTable readProgram readChain readForward readPlainTable readPlainProgram reverse compare
+    comparison chain remainder quotient check followed applied clear cleared packTable unpackTable packProgram unpackProgram under side against cubeAt reversing
+    run next complete
 endings-hold = (refl, (refl, (refl, (refl, (refl, (refl, (refl, (refl, (refl, (refl, (refl, (refl, (refl, (refl, (refl, tt)))))))))))))))
 
 triples-hold : All triples
-unfolding tableImage programImage chainImage plainTable field finish readTable readProgram readChain readForward readPlainTable readPlainProgram reverse compare comparison chain remainder quotient check followed applied clear cleared packTable unpackTable packProgram unpackProgram under side against cubeAt reversing run next complete
+unfolding tableImage programImage chainImage plainTable field finish readTable readProgram readChain readForward readPlainTable readPlainProgram reverse compare
+    comparison chain remainder quotient check followed applied clear cleared packTable unpackTable packProgram unpackProgram under side against cubeAt reversing
+    run next complete
 triples-hold = (refl, (refl, (refl, (refl, (refl, (refl, (refl, (refl, (refl, (refl, (refl, (refl, (refl, (refl, (refl, (refl, (refl, tt)))))))))))))))))
 
 tables-hold : All tables
-unfolding tableImage programImage chainImage plainTable field finish readTable readProgram readChain readForward readPlainTable readPlainProgram reverse compare comparison chain remainder quotient check followed applied clear cleared packTable unpackTable packProgram unpackProgram under side against cubeAt reversing run next complete
-tables-hold = (refl, (refl, (refl, (refl, (refl, (refl, (refl, (refl, (refl, (refl, (refl, (refl, (refl, (refl, (refl, (refl, (refl, (refl, (refl, (refl, (refl, (refl, (refl, (refl, (refl, (refl, (refl, (refl, (refl, (refl, (refl, (refl, (refl, (refl, tt))))))))))))))))))))))))))))))))))
+unfolding tableImage programImage chainImage plainTable field finish readTable readProgram readChain readForward readPlainTable readPlainProgram reverse compare
+    comparison chain remainder quotient check followed applied clear cleared packTable unpackTable packProgram unpackProgram under side against cubeAt reversing
+    run next complete
+tables-hold = (
+  refl,
+  (
+    refl,
+    (
+      refl,
+      (
+        refl,
+        (
+          refl,
+          (
+            refl,
+            (
+              refl,
+              (
+                refl,
+                (
+                  refl,
+                  (
+                    refl,
+                    (
+                      refl,
+                      (
+                        refl,
+                        (
+                          refl,
+                          (
+                            refl,
+                            (
+                              refl,
+                              (
+                                refl,
+                                (
+                                  refl,
+                                  (
+                                    refl,
+                                    (
+                                      refl,
+                                      (
+                                        refl,
+                                        (
+                                          refl,
+                                          (
+                                            refl,
+                                            (refl, (refl, (refl, (refl, (refl, (refl, (refl, (refl, (refl, (refl, (refl, (refl, tt)))))))))))),
+                                          ),
+                                        ),
+                                      ),
+                                    ),
+                                  ),
+                                ),
+                              ),
+                            ),
+                          ),
+                        ),
+                      ),
+                    ),
+                  ),
+                ),
+              ),
+            ),
+          ),
+        ),
+      ),
+    ),
+  ),
+)
 
 programs-hold : All programs
-unfolding tableImage programImage chainImage plainTable field finish readTable readProgram readChain readForward readPlainTable readPlainProgram reverse compare comparison chain remainder quotient check followed applied clear cleared packTable unpackTable packProgram unpackProgram under side against cubeAt reversing run next complete
-programs-hold = (refl, (refl, (refl, (refl, (refl, (refl, (refl, (refl, (refl, (refl, (refl, (refl, (refl, (refl, (refl, (refl, (refl, (refl, (refl, (refl, (refl, (refl, (refl, (refl, tt))))))))))))))))))))))))
+unfolding tableImage programImage chainImage plainTable field finish readTable readProgram readChain readForward readPlainTable readPlainProgram reverse compare
+    comparison chain remainder quotient check followed applied clear cleared packTable unpackTable packProgram unpackProgram under side against cubeAt reversing
+    run next complete
+programs-hold = (
+  refl,
+  (
+    refl,
+    (
+      refl,
+      (
+        refl,
+        (
+          refl,
+          (
+            refl,
+            (refl, (refl, (refl, (refl, (refl, (refl, (refl, (refl, (refl, (refl, (refl, (refl, (refl, (refl, (refl, (refl, (refl, (refl, tt)))))))))))))))))),
+          ),
+        ),
+      ),
+    ),
+  ),
+)
 
 comparisons-hold : All comparisons
-unfolding tableImage programImage chainImage plainTable field finish readTable readProgram readChain readForward readPlainTable readPlainProgram reverse compare comparison chain remainder quotient check followed applied clear cleared packTable unpackTable packProgram unpackProgram under side against cubeAt reversing run next complete
+unfolding tableImage programImage chainImage plainTable field finish readTable readProgram readChain readForward readPlainTable readPlainProgram reverse compare
+    comparison chain remainder quotient check followed applied clear cleared packTable unpackTable packProgram unpackProgram under side against cubeAt reversing
+    run next complete
 comparisons-hold = (refl, (refl, (refl, (refl, (refl, (refl, (refl, (refl, (refl, (refl, (refl, (refl, (refl, (refl, (refl, (refl, tt))))))))))))))))
 
 remainders-hold : All remainders
-unfolding tableImage programImage chainImage plainTable field finish readTable readProgram readChain readForward readPlainTable readPlainProgram reverse compare comparison chain remainder quotient check followed applied clear cleared packTable unpackTable packProgram unpackProgram under side against cubeAt reversing run next complete
-remainders-hold = (refl, (refl, (refl, (refl, (refl, (refl, (refl, (refl, (refl, (refl, (refl, (refl, (refl, (refl, (refl, (refl, (refl, (refl, (refl, (refl, (refl, (refl, (refl, (refl, (refl, (refl, tt))))))))))))))))))))))))))
+unfolding tableImage programImage chainImage plainTable field finish readTable readProgram readChain readForward readPlainTable readPlainProgram reverse compare
+    comparison chain remainder quotient check followed applied clear cleared packTable unpackTable packProgram unpackProgram under side against cubeAt reversing
+    run next complete
+remainders-hold = (
+  refl,
+  (
+    refl,
+    (
+      refl,
+      (
+        refl,
+        (
+          refl,
+          (
+            refl,
+            (
+              refl,
+              (
+                refl,
+                (
+                  refl,
+                  (refl, (refl, (refl, (refl, (refl, (refl, (refl, (refl, (refl, (refl, (refl, (refl, (refl, (refl, (refl, (refl, (refl, tt))))))))))))))))),
+                ),
+              ),
+            ),
+          ),
+        ),
+      ),
+    ),
+  ),
+)
 
 chains-hold : All chains
-unfolding tableImage programImage chainImage plainTable field finish readTable readProgram readChain readForward readPlainTable readPlainProgram reverse compare comparison chain remainder quotient check followed applied clear cleared packTable unpackTable packProgram unpackProgram under side against cubeAt reversing run next complete
-chains-hold = (refl, (refl, (refl, (refl, (refl, (refl, (refl, (refl, (refl, (refl, (refl, (refl, (refl, (refl, (refl, (refl, (refl, (refl, (refl, (refl, tt))))))))))))))))))))
+unfolding tableImage programImage chainImage plainTable field finish readTable readProgram readChain readForward readPlainTable readPlainProgram reverse compare
+    comparison chain remainder quotient check followed applied clear cleared packTable unpackTable packProgram unpackProgram under side against cubeAt reversing
+    run next complete
+chains-hold = (
+  refl,
+  (
+    refl,
+    (refl, (refl, (refl, (refl, (refl, (refl, (refl, (refl, (refl, (refl, (refl, (refl, (refl, (refl, (refl, (refl, (refl, (refl, tt)))))))))))))))))),
+  ),
+)
 
 areas-hold : All areas
-unfolding tableImage programImage chainImage plainTable field finish readTable readProgram readChain readForward readPlainTable readPlainProgram reverse compare comparison chain remainder quotient check followed applied clear cleared packTable unpackTable packProgram unpackProgram under side against cubeAt reversing run next complete
+unfolding tableImage programImage chainImage plainTable field finish readTable readProgram readChain readForward readPlainTable readPlainProgram reverse compare
+    comparison chain remainder quotient check followed applied clear cleared packTable unpackTable packProgram unpackProgram under side against cubeAt reversing
+    run next complete
 areas-hold = (refl, (refl, (refl, (refl, (refl, (refl, (refl, (refl, tt))))))))
 
 pub further-holds : Further

@@ -9,7 +9,8 @@ use native.Mathlib.Decide.{decLt}
 use lib.ListN.{length}
 use Rattle.model.specs.Word.{Word, Positive, positive, negative}
 use Rattle.model.specs.Presentation.{Presentation, Complement, undefined, complement, complete}
-use Rattle.model.specs.Reversing.{Site, nowhere, at, site, replaced, Stop, budget, room, Ending, finished, open-pair, stopped, ended, count, reversing, Leftmost, CoversRoom, differing}
+use Rattle.model.specs.Reversing.{Site, nowhere, at, site, replaced, Stop, budget, room, Ending, finished, open-pair, stopped, ended, count, reversing}
+use Rattle.model.specs.Reversing.{Leftmost, CoversRoom, differing}
 use Rattle.model.proofs.Words.{fraction-nowhere, numerator-of, denominator-of, site-fraction}
 use Rattle.model.proofs.Leftmost.{Counted}
 use Rattle.model.proofs.Reversal.{prepended, reversing-long, reversing-none, reversing-open, reversing-spent, reversing-step}

@@ -42,7 +42,8 @@ module _ (Becomes : ℕ → ℕ → Type 0) where
       at-low : Becomes (getD after low 0) (getD before (count - 1 - low) 0)
       at-low =
           let e : high - 1 ≡ count - 1 - low = omega (arith, p .meet) in
-          subst (λ x. Becomes x (getD before (count - 1 - low) 0)) (sym (getD-set-same stored low last 0 (simp length-set (omega (arith, p .same-length, p .meet)))))
+          subst (λ x. Becomes x (getD before (count - 1 - low) 0))
+          (sym (getD-set-same stored low last 0 (simp length-set (omega (arith, p .same-length, p .meet)))))
           (subst (Becomes last) (p .between (high - 1) (omega arith) (omega arith) ∙ ap (λ i. getD before i 0) e) el)
 
       untouched : (k : ℕ) → (k ≡ low → ⊥) → (k ≡ high - 1 → ⊥) → getD after k 0 ≡ getD bytes k 0

@@ -114,19 +114,29 @@ pub record MirrorCases : Type 0 where
   pub mirror-clears-hold : All mirrorClears
 
 mirrors-hold : All mirrors
-unfolding complete mirrorCheck leftComplete leftNext leftRun leftReversing leftFraction leftReverse mirrorCleared mirrorClear clear cleared reversing run next under side against cubeAt readTable readProgram tableImage programImage field finish
-mirrors-hold = (refl, (refl, (refl, (refl, (refl, (refl, (refl, (refl, (refl, (refl, (refl, (refl, (refl, (refl, (refl, (refl, (refl, (refl, tt))))))))))))))))))
+unfolding complete mirrorCheck leftComplete leftNext leftRun leftReversing leftFraction leftReverse mirrorCleared mirrorClear clear cleared reversing run next
+    under side against cubeAt readTable readProgram tableImage programImage field finish
+mirrors-hold = (
+  refl,
+  (
+    refl,
+    (refl, (refl, (refl, (refl, (refl, (refl, (refl, (refl, (refl, (refl, (refl, (refl, (refl, (refl, (refl, (refl, tt)))))))))))))))),
+  ),
+)
 
 left-reversings-hold : All leftReversings
-unfolding complete mirrorCheck leftComplete leftNext leftRun leftReversing leftFraction leftReverse mirrorCleared mirrorClear clear cleared reversing run next under side against cubeAt readTable readProgram tableImage programImage field finish
+unfolding complete mirrorCheck leftComplete leftNext leftRun leftReversing leftFraction leftReverse mirrorCleared mirrorClear clear cleared reversing run next
+    under side against cubeAt readTable readProgram tableImage programImage field finish
 left-reversings-hold = (refl, (refl, (refl, (refl, (refl, (refl, (refl, (refl, (refl, tt)))))))))
 
 left-reverses-hold : All leftReverses
-unfolding complete mirrorCheck leftComplete leftNext leftRun leftReversing leftFraction leftReverse mirrorCleared mirrorClear clear cleared reversing run next under side against cubeAt readTable readProgram tableImage programImage field finish
+unfolding complete mirrorCheck leftComplete leftNext leftRun leftReversing leftFraction leftReverse mirrorCleared mirrorClear clear cleared reversing run next
+    under side against cubeAt readTable readProgram tableImage programImage field finish
 left-reverses-hold = (refl, (refl, (refl, (refl, (refl, (refl, (refl, (refl, (refl, (refl, (refl, tt)))))))))))
 
 mirror-clears-hold : All mirrorClears
-unfolding complete mirrorCheck leftComplete leftNext leftRun leftReversing leftFraction leftReverse mirrorCleared mirrorClear clear cleared reversing run next under side against cubeAt readTable readProgram tableImage programImage field finish
+unfolding complete mirrorCheck leftComplete leftNext leftRun leftReversing leftFraction leftReverse mirrorCleared mirrorClear clear cleared reversing run next
+    under side against cubeAt readTable readProgram tableImage programImage field finish
 mirror-clears-hold = (refl, (refl, (refl, (refl, (refl, (refl, (refl, (refl, (refl, (refl, (refl, (refl, (refl, (refl, tt))))))))))))))
 
 pub mirror-cases-hold : MirrorCases

@@ -50,7 +50,8 @@ one-neither false t x y f = refl
 
 pub ending-own : (u v : FromEnd) → endingIn (u .last) (v .last) u v ≡ complement (u .before) (v .before)
 ending-own u v =
-    ap₂ (λ s t. cond (s && t) (complement (u .before) (v .before)) (cond (eqb (u .last) (v .last) && eqb (v .last) (u .last)) (complement (v .before) (u .before)) undefined))
+    ap₂ (λ s t. cond (s && t) (complement (u .before) (v .before))
+    (cond (eqb (u .last) (v .last) && eqb (v .last) (u .last)) (complement (v .before) (u .before)) undefined))
     (eq-eqb (u .last) (u .last) refl) (eq-eqb (v .last) (v .last) refl)
 
 -- two sides that do not end in p and q, in either order
@@ -142,7 +143,8 @@ module _ (T : Presentation) where
   listed-mirror p q low less high =
       ap₂ (λ s t. cond (s && t) (getD (getD (mirror T .rows) (p - 1) []) (q - p - 1) undefined) undefined) (le-leb 1 p low) (le-leb q (T .size) high)
       ∙ (ap (λ row. getD row (q - p - 1) undefined)
-      (ranged (λ p. map (entry p) (range (suc p) (T .size - p))) 1 (T .size) (p - 1) [] (omega arith) ∙ ap (λ p. map (entry p) (range (suc p) (T .size - p))) back-p)
+      (ranged (λ p. map (entry p) (range (suc p) (T .size - p))) 1 (T .size) (p - 1) [] (omega arith)
+      ∙ ap (λ p. map (entry p) (range (suc p) (T .size - p))) back-p)
       ∙ (ranged (entry p) (suc p) (T .size - p) (q - p - 1) undefined (omega arith) ∙ ap (entry p) back-q))
     where
       back-p : 1 + (p - 1) ≡ p

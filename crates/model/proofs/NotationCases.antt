@@ -12,7 +12,8 @@ use Rattle.model.specs.Bits.{field, finish}
 use Rattle.model.specs.Images.{readTable}
 use Rattle.model.specs.Plain.{plainProgram}
 use Rattle.model.specs.Areas.{outputAfter}
-use Rattle.model.specs.Notation.{Pattern, nothing, _then_, Item, item, move, bracket, meaning, moves, highest, decimal, patternText, readItem, readItems, readPattern, readText, imported, import}
+use Rattle.model.specs.Notation.{Pattern, nothing, _then_, Item, item, move, bracket, meaning, moves, highest, decimal, patternText, readItem, readItems}
+use Rattle.model.specs.Notation.{readPattern, readText, imported, import}
 use Rattle.model.proofs.Case.{Case, _gives_, All}
 use Rattle.model.proofs.Samples.{braidBytes}
 
@@ -69,7 +70,8 @@ readings =
     -- 99^99 10
     (readText (57 ∷ 57 ∷ 94 ∷ 57 ∷ 57 ∷ 32 ∷ 49 ∷ 48 ∷ []) gives answered (item false (move 99) (some 99) then plain 10 then nothing)) ∷
     -- (1 -2)^3 4
-    (readText (40 ∷ 49 ∷ 32 ∷ 45 ∷ 50 ∷ 41 ∷ 94 ∷ 51 ∷ 32 ∷ 52 ∷ []) gives answered (item false (bracket (plain 1 then item true (move 2) none then nothing)) (some 3) then plain 4 then nothing)) ∷
+    (readText (40 ∷ 49 ∷ 32 ∷ 45 ∷ 50 ∷ 41 ∷ 94 ∷ 51 ∷ 32 ∷ 52 ∷ []) gives answered
+    (item false (bracket (plain 1 then item true (move 2) none then nothing)) (some 3) then plain 4 then nothing)) ∷
     -- brackets eight deep
     (readText (replicate 8 40 ++ (49 ∷ replicate 8 41)) gives answered (nested 8)) ∷ []
 
@@ -139,7 +141,8 @@ meanings =
     -- -(1 2)^2
     (meaning undoneTwice gives back 2 ∷ back 1 ∷ back 2 ∷ back 1 ∷ []) ∷
     -- -(1 -2^3 (3))
-    (meaning (item true (bracket (plain 1 then item true (move 2) (some 3) then item false (bracket (plain 3 then nothing)) none then nothing)) none then nothing) gives back 3 ∷ forward 2 ∷ forward 2 ∷ forward 2 ∷ back 1 ∷ []) ∷
+    (meaning (item true (bracket (plain 1 then item true (move 2) (some 3) then item false (bracket (plain 3 then nothing)) none then nothing)) none then
+    nothing) gives back 3 ∷ forward 2 ∷ forward 2 ∷ forward 2 ∷ back 1 ∷ []) ∷
     -- a count of 0 means nothing
     (meaning (item true (bracket (plain 1 then nothing)) (some 0) then plain 2 then nothing) gives forward 2 ∷ []) ∷
     -- 1^1 and 1
@@ -157,7 +160,8 @@ calls =
     -- -(1 2)^2
     (import braidBytes (45 ∷ 40 ∷ 49 ∷ 32 ∷ 50 ∷ 41 ∷ 94 ∷ 50 ∷ []) 4 gives answered (back 2 ∷ back 1 ∷ back 2 ∷ back 1 ∷ [])) ∷
     -- its bytes, in an area of five
-    (outputAfter plainProgram (import braidBytes (45 ∷ 40 ∷ 49 ∷ 32 ∷ 50 ∷ 41 ∷ 94 ∷ 50 ∷ []) 5) (7 ∷ 7 ∷ 7 ∷ 7 ∷ 7 ∷ []) gives 130 ∷ 129 ∷ 130 ∷ 129 ∷ 7 ∷ []) ∷
+    (outputAfter plainProgram (import braidBytes (45 ∷ 40 ∷ 49 ∷ 32 ∷ 50 ∷ 41 ∷ 94 ∷ 50 ∷ []) 5) (7 ∷ 7 ∷ 7 ∷ 7 ∷ 7 ∷ []) gives 130 ∷ 129 ∷ 130 ∷ 129 ∷ 7 ∷ [])
+    ∷
     -- 13 by the moves, and the area as it was
     (import braidBytes (45 ∷ 40 ∷ 49 ∷ 32 ∷ 50 ∷ 41 ∷ 94 ∷ 50 ∷ []) 3 gives refused 13 unplaced) ∷
     -- no moves need no area: nothing, (1 2)^0, ()^99 -()
@@ -202,7 +206,49 @@ readings-hold = (refl, (refl, (refl, (refl, (refl, (refl, (refl, (refl, (refl, t
 
 others-hold : All others
 unfolding field finish readTable readItem readItems readPattern readText imported import
-others-hold = (refl, (refl, (refl, (refl, (refl, (refl, (refl, (refl, (refl, (refl, (refl, (refl, (refl, (refl, (refl, (refl, (refl, (refl, (refl, (refl, (refl, (refl, (refl, (refl, (refl, (refl, (refl, (refl, tt))))))))))))))))))))))))))))
+others-hold = (
+  refl,
+  (
+    refl,
+    (
+      refl,
+      (
+        refl,
+        (
+          refl,
+          (
+            refl,
+            (
+              refl,
+              (
+                refl,
+                (
+                  refl,
+                  (
+                    refl,
+                    (
+                      refl,
+                      (
+                        refl,
+                        (
+                          refl,
+                          (
+                            refl,
+                            (refl, (refl, (refl, (refl, (refl, (refl, (refl, (refl, (refl, (refl, (refl, (refl, (refl, (refl, tt)))))))))))))),
+                          ),
+                        ),
+                      ),
+                    ),
+                  ),
+                ),
+              ),
+            ),
+          ),
+        ),
+      ),
+    ),
+  ),
+)
 
 meanings-hold : All meanings
 unfolding field finish readTable readItem readItems readPattern readText imported import

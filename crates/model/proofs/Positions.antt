@@ -105,7 +105,8 @@ module _ (m x y : ℕ) (order : x < y) (high : y ≤ m) where
       go : Dec (a ≡ x) → (suc a ≤ x → FromRow (suc a) k (position x y (rowsFrom m (suc a) k))) → FromRow a (suc k) (position x y (rowsFrom m a (suc k)))
       go (yes p) rest =
           let met : position x y (rowsFrom m a (suc k)) ≡ y - suc a =
-          ap (λ n. position x y (rowOf n (suc a) (m - a) ++ rowsFrom m (suc a) k)) p ∙ row-met x y order (suc a) (m - a) (rowsFrom m (suc a) k) (omega arith) (omega arith) in
+          ap (λ n. position x y (rowOf n (suc a) (m - a) ++ rowsFrom m (suc a) k)) p ∙ row-met x y order (suc a) (m - a) (rowsFrom m (suc a) k) (omega arith)
+          (omega arith) in
           record {
             at-is = met ∙ (nothing-before ∙ ap (λ j. rows m a j + (y - x - 1)) {x = 0} {y = x - a} (omega arith));
             inside = omega (arith, met);

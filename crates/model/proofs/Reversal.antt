@@ -8,7 +8,8 @@ use lib.ListN.{length}
 use borrow.Author.Tests.{lt-ltb, le-ltb}
 use Rattle.model.specs.Word.{Word, Positive}
 use Rattle.model.specs.Presentation.{Presentation, undefined, complement, complete}
-use Rattle.model.specs.Reversing.{nowhere, at, site, replaced, Next, no-site, blocked, step, byComplement, bySite, next, budget, room, Ending, finished, open-pair, stopped, ended, count, spent, onward, run, reversing}
+use Rattle.model.specs.Reversing.{nowhere, at, site, replaced, Next, no-site, blocked, step, byComplement, bySite, next, budget, room, Ending, finished}
+use Rattle.model.specs.Reversing.{open-pair, stopped, ended, count, spent, onward, run, reversing}
 use Rattle.model.proofs.Count.{count-past}
 
 -- the ending with one more step, on a and b, in front
@@ -54,7 +55,8 @@ module _ (T : Presentation) where
   unfolding next
   next-open w {p} {s} {a} {b} e c = ap (bySite T) e ∙ ap (byComplement p a b s) c
 
-  next-step : (w : Word) {p s : Word} {a b : ℕ} {x y : Positive} → site w ≡ at p a b s → complete T a b ≡ complement x y → next T w ≡ step a b (replaced p x y s)
+  next-step : (w : Word) {p s : Word} {a b : ℕ} {x y : Positive} → site w ≡ at p a b s → complete T a b ≡ complement x y
+      → next T w ≡ step a b (replaced p x y s)
   unfolding next
   next-step w {p} {s} {a} {b} e c = ap (bySite T) e ∙ ap (byComplement p a b s) c
 

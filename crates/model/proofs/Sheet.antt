@@ -48,5 +48,6 @@ sheet =
     (compare (image heavy2) (pattern 2 []) (pattern 2 []) 65535 32768 gives answered (same-after 0 0)) ∷ []
 
 pub sheet-holds : All sheet
-unfolding tableImage programImage chainImage field finish readTable readProgram readChain readForward reverse compare comparison check followed applied clear cleared under side against cubeAt reversing run next complete
+unfolding tableImage programImage chainImage field finish readTable readProgram readChain readForward reverse compare comparison check followed applied clear
+    cleared under side against cubeAt reversing run next complete
 sheet-holds = (refl, (refl, (refl, (refl, (refl, (refl, (refl, (refl, (refl, (refl, (refl, (refl, (refl, (refl, (refl, (refl, (refl, tt)))))))))))))))))

@@ -14,7 +14,8 @@ use Rattle.model.specs.Outcome.{unplaced, pair-of, triple-of, mirror-tri
 use Rattle.model.specs.Checks.{under, side, against, cubeAt, cleared}
 use Rattle.model.specs.Mirror.{mirror, mirrorCheck}
 use Rattle.model.specs.Areas.{workspaceAfter}
-use Rattle.model.specs.Signed.{firstWords, placesAt, setBytes, beside, addedTo, takenPairs, grownFrom, grownSet, SignedVerdict, same-after-both, different-after-both, signedComparison, compareSigned}
+use Rattle.model.specs.Signed.{firstWords, placesAt, setBytes, beside, addedTo, takenPairs, grownFrom, grownSet, SignedVerdict, same-after-both}
+use Rattle.model.specs.Signed.{different-after-both, signedComparison, compareSigned}
 use Rattle.model.proofs.Case.{Case, _gives_, All}
 use Rattle.model.proofs.Samples.{braid1, braid2, open2, three, broken3, unequal2, heavy2, mirrorFails3, image, log, braidBytes}
 
@@ -216,28 +217,64 @@ pub record SignedCases : Type 0 where
   pub refusals-hold : All refusals
 
 growings-hold : All growings
-unfolding complete mirrorCheck cleared reversing run next under side against cubeAt readTable readProgram tableImage programImage field finish grownFrom grownSet signedComparison compareSigned
+unfolding complete mirrorCheck cleared reversing run next under side against cubeAt readTable readProgram tableImage programImage field finish grownFrom
+    grownSet signedComparison compareSigned
 growings-hold = (refl, (refl, (refl, (refl, (refl, (refl, (refl, (refl, (refl, (refl, (refl, (refl, (refl, (refl, (refl, (refl, (refl, tt)))))))))))))))))
 
 sets-hold : All sets
-unfolding complete mirrorCheck cleared reversing run next under side against cubeAt readTable readProgram tableImage programImage field finish grownFrom grownSet signedComparison compareSigned
+unfolding complete mirrorCheck cleared reversing run next under side against cubeAt readTable readProgram tableImage programImage field finish grownFrom
+    grownSet signedComparison compareSigned
 sets-hold = (refl, (refl, (refl, (refl, (refl, (refl, (refl, (refl, (refl, (refl, (refl, (refl, (refl, (refl, (refl, (refl, (refl, tt)))))))))))))))))
 
 sames-hold : All sames
-unfolding complete mirrorCheck cleared reversing run next under side against cubeAt readTable readProgram tableImage programImage field finish grownFrom grownSet signedComparison compareSigned
+unfolding complete mirrorCheck cleared reversing run next under side against cubeAt readTable readProgram tableImage programImage field finish grownFrom
+    grownSet signedComparison compareSigned
 sames-hold = (refl, (refl, (refl, (refl, (refl, (refl, (refl, (refl, (refl, (refl, (refl, (refl, (refl, (refl, (refl, (refl, tt))))))))))))))))
 
 differents-hold : All differents
-unfolding complete mirrorCheck cleared reversing run next under side against cubeAt readTable readProgram tableImage programImage field finish grownFrom grownSet signedComparison compareSigned
+unfolding complete mirrorCheck cleared reversing run next under side against cubeAt readTable readProgram tableImage programImage field finish grownFrom
+    grownSet signedComparison compareSigned
 differents-hold = (refl, (refl, (refl, (refl, (refl, (refl, (refl, (refl, (refl, (refl, tt))))))))))
 
 stops-hold : All stops
-unfolding complete mirrorCheck cleared reversing run next under side against cubeAt readTable readProgram tableImage programImage field finish grownFrom grownSet signedComparison compareSigned
+unfolding complete mirrorCheck cleared reversing run next under side against cubeAt readTable readProgram tableImage programImage field finish grownFrom
+    grownSet signedComparison compareSigned
 stops-hold = (refl, (refl, (refl, (refl, (refl, (refl, (refl, (refl, (refl, (refl, (refl, (refl, tt))))))))))))
 
 refusals-hold : All refusals
-unfolding complete mirrorCheck cleared reversing run next under side against cubeAt readTable readProgram tableImage programImage field finish grownFrom grownSet signedComparison compareSigned
-refusals-hold = (refl, (refl, (refl, (refl, (refl, (refl, (refl, (refl, (refl, (refl, (refl, (refl, (refl, (refl, (refl, (refl, (refl, (refl, (refl, (refl, (refl, (refl, (refl, (refl, (refl, (refl, tt))))))))))))))))))))))))))
+unfolding complete mirrorCheck cleared reversing run next under side against cubeAt readTable readProgram tableImage programImage field finish grownFrom
+    grownSet signedComparison compareSigned
+refusals-hold = (
+  refl,
+  (
+    refl,
+    (
+      refl,
+      (
+        refl,
+        (
+          refl,
+          (
+            refl,
+            (
+              refl,
+              (
+                refl,
+                (
+                  refl,
+                  (
+                    refl,
+                    (refl, (refl, (refl, (refl, (refl, (refl, (refl, (refl, (refl, (refl, (refl, (refl, (refl, (refl, (refl, (refl, tt)))))))))))))))),
+                  ),
+                ),
+              ),
+            ),
+          ),
+        ),
+      ),
+    ),
+  ),
+)
 
 pub signed-cases-hold : SignedCases
 signed-cases-hold =

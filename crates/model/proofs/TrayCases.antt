@@ -107,16 +107,25 @@ pub record TrayCases : Type 0 where
   pub orders-hold : All orders
 
 trays-hold : All trays
-unfolding complete cleared reversing run next under side against cubeAt readTable readProgram readForward tableImage programImage field finish compare comparison readLog readTray tray
+unfolding complete cleared reversing run next under side against cubeAt readTable readProgram readForward tableImage programImage field finish compare
+    comparison readLog readTray tray
 trays-hold = (refl, (refl, (refl, (refl, (refl, (refl, (refl, (refl, (refl, (refl, (refl, (refl, (refl, (refl, (refl, tt)))))))))))))))
 
 answers-hold : All answers
-unfolding complete cleared reversing run next under side against cubeAt readTable readProgram readForward tableImage programImage field finish compare comparison readLog readTray tray
+unfolding complete cleared reversing run next under side against cubeAt readTable readProgram readForward tableImage programImage field finish compare
+    comparison readLog readTray tray
 answers-hold = (refl, (refl, (refl, (refl, (refl, (refl, (refl, (refl, (refl, (refl, tt))))))))))
 
 orders-hold : All orders
-unfolding complete cleared reversing run next under side against cubeAt readTable readProgram readForward tableImage programImage field finish compare comparison readLog readTray tray
-orders-hold = (refl, (refl, (refl, (refl, (refl, (refl, (refl, (refl, (refl, (refl, (refl, (refl, (refl, (refl, (refl, (refl, (refl, (refl, (refl, (refl, tt))))))))))))))))))))
+unfolding complete cleared reversing run next under side against cubeAt readTable readProgram readForward tableImage programImage field finish compare
+    comparison readLog readTray tray
+orders-hold = (
+  refl,
+  (
+    refl,
+    (refl, (refl, (refl, (refl, (refl, (refl, (refl, (refl, (refl, (refl, (refl, (refl, (refl, (refl, (refl, (refl, (refl, (refl, tt)))))))))))))))))),
+  ),
+)
 
 pub tray-cases-hold : TrayCases
 tray-cases-hold =

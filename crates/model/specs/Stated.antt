@@ -10,7 +10,10 @@ use Rattle.model.specs.declared.answers.Stop.the-variants.{Budget, Room}
 use Rattle.model.specs.declared.answers.Ending.{Ending as EndingAnswer}
 use Rattle.model.specs.declared.answers.Ending.the-variants.{Finished, Undefined, Stopped}
 use Rattle.model.specs.declared.answers.Refusal.{Refusal}
-use Rattle.model.specs.declared.answers.Refusal.the-variants.{TableEnds, TableField, TableTail, ImageEnds, ImageField, ImageTail, BackMove, UnequalWeights, CubeFails, OpenPair, AllowanceUsed, WorkspaceShort, AnswerShort, NotBraidTable, NoMirror, MirrorFails, OtherNumbers, NotPattern, TooManyMoves, SetOpenPair, SetTooLarge, TooManyLogs, NotTray}
+use Rattle.model.specs.declared.answers.Refusal.the-variants.{TableEnds, TableField, TableTail, ImageEnds, ImageField, ImageTail, BackMove}
+use Rattle.model.specs.declared.answers.Refusal.the-variants.{UnequalWeights, CubeFails, OpenPair, AllowanceUsed, WorkspaceShort, AnswerShort}
+use Rattle.model.specs.declared.answers.Refusal.the-variants.{NotBraidTable, NoMirror, MirrorFails, OtherNumbers, NotPattern, TooManyMoves, SetOpenPair}
+use Rattle.model.specs.declared.answers.Refusal.the-variants.{SetTooLarge, TooManyLogs, NotTray}
 use Rattle.model.specs.declared.answers.Reversed.{Reversed}
 use Rattle.model.specs.declared.answers.Reversed.the-variants.{Answer, Refused as ReverseRefused}
 use Rattle.model.specs.declared.answers.Cleared.{Cleared}
@@ -36,7 +39,8 @@ use Rattle.model.specs.Reversing.{Stop, budget, room, Ending, finished, 
 use Rattle.model.specs.Outcome.{Place, unplaced, pair-of, triple-of, mirror-triple-of, the-set, Outcome, answered, refused}
 use Rattle.model.specs.Ways.{listingBytes}
 use Rattle.model.specs.Signed.{SignedVerdict, same-after-both, different-after-both}
-use Rattle.model.specs.Services.{Sizes, Verdict, same-after, different-after, ChainAnswer, listed-after, unlisted-after, Remainder, moves-after, none-after, Passage, joins, breaks, ends-elsewhere}
+use Rattle.model.specs.Services.{Sizes, Verdict, same-after, different-after, ChainAnswer, listed-after, unlisted-after, Remainder, moves-after}
+use Rattle.model.specs.Services.{none-after, Passage, joins, breaks, ends-elsewhere}
 
 -- 7.3: the place of 11 and 12: the triple that was under way, of the table or of its mirror, or the set, or none if the programs were
 abbrev pub placed : PlaceAnswer → Place

@@ -7,7 +7,8 @@ use model::answers::Place;
 use model::answers::Refusal;
 use model::answers::Triple;
 
-// `place` is what the place is: 0 none or the programs, 1 a pair, 2 a triple of the table, 3 a triple of the mirror, 4 the set. `count` of `number`, `a`, `b` and `c` are the numbers to tell; the
+// `place` is what the place is: 0 none or the programs, 1 a pair, 2 a triple of the table, 3 a triple of the mirror, 4 the set. `count` of `number`, `a`, `b`
+// and `c` are the numbers to tell; the
 // others are 0.
 pub struct RefusalNumbers {
     pub number: u8,

@@ -16,7 +16,8 @@ use Rattle.model.specs.Enumeration.{Two, pairs}
 use Rattle.model.specs.Equivalence.{Joined}
 use Rattle.model.specs.Range.{PairInRange, TableInRange}
 use Rattle.model.specs.Outcome.{pair-of, answered, refused}
-use Rattle.model.specs.Mirror.{FromEnd, fromEnd, endingIn, relationEnding, orElse, found, backward, mirror, isDefined, offending, mirrored, mirrorCheck, leftComplete}
+use Rattle.model.specs.Mirror.{FromEnd, fromEnd, endingIn, relationEnding, orElse, found, backward, mirror, isDefined, offending, mirrored, mirrorCheck}
+use Rattle.model.specs.Mirror.{leftComplete}
 use Rattle.model.proofs.Impossible.{impossible}
 use Rattle.model.proofs.Booleans.{both-true, neither-true}
 use Rattle.model.proofs.Complete.{complete-turn, complete-named, complete-in-range}
@@ -57,7 +58,8 @@ module _ (T : Presentation) (p q : ℕ) (u v : Positive) where
       go (eqb (fromEnd a x .last) p && eqb (fromEnd b y .last) q) (eqb (fromEnd a x .last) q && eqb (fromEnd b y .last) p) refl refl e
     where
       go : (s t : Bool) → eqb (fromEnd a x .last) p && eqb (fromEnd b y .last) q ≡ s → eqb (fromEnd a x .last) q && eqb (fromEnd b y .last) p ≡ t
-          → cond s (complement (fromEnd a x .before) (fromEnd b y .before)) (cond t (complement (fromEnd b y .before) (fromEnd a x .before)) undefined) ≡ complement u v
+          → cond s (complement (fromEnd a x .before) (fromEnd b y .before))
+          (cond t (complement (fromEnd b y .before) (fromEnd a x .before)) undefined) ≡ complement u v
           → Sides T u p v q
       go true t f g h =
           let ends = both-true (eqb (fromEnd a x .last) p) (eqb (fromEnd b y .last) q) f in
@@ -143,7 +145,8 @@ module _ (T : Presentation) where
   own-first earlier r rs {x} {y} rule h =
       let u = fromEnd (r .a) x in
       let v = fromEnd (r .b) y in
-      let parts = neither-true (eqb (u .last) (v .last)) (isDefined (found T (u .last) (v .last) earlier)) (ap (offending T earlier (r .a) (r .b)) (sym rule) ∙ h) in
+      let parts = neither-true (eqb (u .last) (v .last)) (isDefined (found T (u .last) (v .last) earlier))
+      (ap (offending T earlier (r .a) (r .b)) (sym rule) ∙ h) in
       let none : found T (u .last) (v .last) earlier ≡ undefined = not-defined (found T (u .last) (v .last) earlier) (parts .1) in
       record {
         apart = eqb-false (u .last) (v .last) (parts .0);
@@ -188,7 +191,8 @@ module _ (T : Presentation) (named : TableInRange T) (exists : mirrorCheck T ≡
       → complete (mirror T) (fromEnd a x .last) (fromEnd b y .last) ≡ complement (reverse (fromEnd a x .before)) (reverse (fromEnd b y .before))
   mirrored-rule {a} {b} {x} {y} d rule = go (decLt a b)
     where
-      go : Dec (a < b) → complete (mirror T) (fromEnd a x .last) (fromEnd b y .last) ≡ complement (reverse (fromEnd a x .before)) (reverse (fromEnd b y .before))
+      go : Dec (a < b) → complete (mirror T) (fromEnd a x .last) (fromEnd b y .last) ≡ complement (reverse (fromEnd a x .before))
+          (reverse (fromEnd b y .before))
       go (yes h) = mirrored-below h rule
       go (no h) =
           let below : b < a = omega arith in

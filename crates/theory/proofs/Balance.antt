@@ -56,28 +56,63 @@ module _ (weight : ℕ → ℕ) where
   -- what a step puts in the place of a pair
   gains-replaced : (p s : Word) (x y : Positive) → gains (replaced p x y s) ≡ gains p + (total weight x + gains s)
   gains-replaced p s x y =
-      omega
-      (arith, gains-append p (positive x ++ (negative y ++ s)), gains-append (positive x) (negative y ++ s), gains-append (negative y) s, gains-positive x, gains-negative y)
+      omega (
+        arith,
+        gains-append p (positive x ++ (negative y ++ s)),
+        gains-append (positive x) (negative y ++ s),
+        gains-append (negative y) s,
+        gains-positive x,
+        gains-negative y,
+      )
 
   losses-replaced : (p s : Word) (x y : Positive) → losses (replaced p x y s) ≡ losses p + (total weight y + losses s)
   losses-replaced p s x y =
-      omega
-      (arith, losses-append p (positive x ++ (negative y ++ s)), losses-append (positive x) (negative y ++ s), losses-append (negative y) s, losses-positive x, losses-negative y)
+      omega (
+        arith,
+        losses-append p (positive x ++ (negative y ++ s)),
+        losses-append (positive x) (negative y ++ s),
+        losses-append (negative y) s,
+        losses-positive x,
+        losses-negative y,
+      )
 
   module _ (T : Presentation) (even : Homogeneous weight (complete T)) where
     pub balance-kept : {w w′ : Word} {k : ℕ} → Reduces T w w′ k → gains w + losses w′ ≡ gains w′ + losses w
     balance-kept stay = refl
     balance-kept {w} {w′} (go p a b s {x} {y} e c r) =
         let rest = balance-kept r in
-        omega
-        (arith, rest, ap gains e, ap losses e, gains-append p (back a ∷ forward b ∷ s), losses-append p (back a ∷ forward b ∷ s), gains-replaced p s x y, losses-replaced p s x y, even a b x y c)
+        omega (
+          arith,
+          rest,
+          ap gains e,
+          ap losses e,
+          gains-append p (back a ∷ forward b ∷ s),
+          losses-append p (back a ∷ forward b ∷ s),
+          gains-replaced p s x y,
+          losses-replaced p s x y,
+          even a b x y c,
+        )
 
     -- words of equal weight end with a numerator and a denominator of equal weight
     pub ends-weigh-alike : (u v n d : Positive) {k : ℕ} → total weight u ≡ total weight v → Reduces T (negative u ++ positive v) (positive n ++ negative d) k
         → total weight n ≡ total weight d
     ends-weigh-alike u v n d h r =
-        omega
-        (arith, balance-kept r, gains-append (negative u) (positive v), losses-append (negative u) (positive v), gains-append (positive n) (negative d), losses-append (positive n) (negative d), gains-negative u, gains-positive v, losses-negative u, losses-positive v, gains-positive n, gains-negative d, losses-positive n, losses-negative d)
+        omega (
+          arith,
+          balance-kept r,
+          gains-append (negative u) (positive v),
+          losses-append (negative u) (positive v),
+          gains-append (positive n) (negative d),
+          losses-append (positive n) (negative d),
+          gains-negative u,
+          gains-positive v,
+          losses-negative u,
+          losses-positive v,
+          gains-positive n,
+          gains-negative d,
+          losses-positive n,
+          losses-negative d,
+        )
 
 -- AFTER THE WEIGHT CHECK
 

@@ -126,7 +126,8 @@ module _ (T : Presentation) (braid : isBraid T ≡ true) where
   -- JOINED WORDS
 
   -- one side of a relation within a word
-  within-word : (p s : Positive) (side : Positive) (B : Bed) → laid (positive (p ++ (side ++ s))) B ≡ laid (positive s) (laid (positive side) (laid (positive p) B))
+  within-word : (p s : Positive) (side : Positive) (B : Bed) → laid (positive (p ++ (side ++ s))) B ≡ laid (positive s)
+      (laid (positive side) (laid (positive p) B))
   within-word p s side B =
       ap (λ w. laid w B) (positive-append p (side ++ s))
       ∙ (laid-append (positive p) (positive (side ++ s)) B
@@ -136,7 +137,8 @@ module _ (T : Presentation) (braid : isBraid T ≡ true) where
   one-swap s B m =
       ap (λ u. laid (positive u) B) (s .left)
       ∙ (within-word (s .before) (s .after) (s .a ∷ s .x) B
-      ∙ (ap (laid (positive (s .after))) (relation (s .a) (s .b) (s .x) (s .y) (s .rule) (laid (positive (s .before)) B) (laid-places (positive (s .before)) B ∙ m))
+      ∙ (ap (laid (positive (s .after)))
+      (relation (s .a) (s .b) (s .x) (s .y) (s .rule) (laid (positive (s .before)) B) (laid-places (positive (s .before)) B ∙ m))
       ∙ (sym (within-word (s .before) (s .after) (s .b ∷ s .y) B) ∙ ap (λ u. laid (positive u) B) (sym (s .right)))))
 
   equivalent : {u v : Positive} → Equiv (complete T) u v → LeaveEqual (suc (T .size)) (positive u) (positive v)

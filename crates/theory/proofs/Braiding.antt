@@ -42,7 +42,8 @@ module _ (test : Two → Bool) (n : ℕ) (each : (a b : ℕ) → 1 ≤ a → a <
   every-in-rows : (a k : ℕ) → 1 ≤ a → a + k ≤ suc n → every test (rowsFrom n a k) ≡ true
   every-in-rows a zero low high = refl
   every-in-rows a (suc k) low high =
-      every-append test (rowOf a (suc a) (n - a)) (rowsFrom n (suc a) k) (every-in-row a (suc a) (n - a) low (omega arith) (omega arith)) (every-in-rows (suc a) k (omega arith) (omega arith))
+      every-append test (rowOf a (suc a) (n - a)) (rowsFrom n (suc a) k) (every-in-row a (suc a) (n - a) low (omega arith) (omega arith))
+      (every-in-rows (suc a) k (omega arith) (omega arith))
 
   every-pair : every test (pairs n) ≡ true
   every-pair = every-in-rows 1 n (omega arith) (omega arith)
@@ -62,7 +63,8 @@ module _ (T : Presentation) where
       has-words (braidWord a b) (braidWord b a) (complete T a b) (every-each (braidPair T) (pairs-have (T .size) a b low h high) e)
 
   -- in either order
-  pub braid-words : isBraid T ≡ true → (a b : ℕ) → a ≢ b → InRange (T .size) a → InRange (T .size) b → complete T a b ≡ complement (braidWord a b) (braidWord b a)
+  pub braid-words : isBraid T ≡ true → (a b : ℕ) → a ≢ b → InRange (T .size) a → InRange (T .size) b → complete T a b ≡ complement (braidWord a b)
+      (braidWord b a)
   braid-words e a b h ra rb = go (decLt a b)
     where
       go : Dec (a < b) → complete T a b ≡ complement (braidWord a b) (braidWord b a)

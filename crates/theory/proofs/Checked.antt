@@ -15,7 +15,8 @@ use Rattle.model.specs.Reversing.{budget, room, Ending, finished, open-pair, st
 use Rattle.model.specs.Enumeration.{Two, Three, pairs, triples}
 use Rattle.model.specs.Range.{All}
 use Rattle.model.specs.Outcome.{Place, pair-of, Outcome, answered, refused, _>>=_}
-use Rattle.model.specs.Checks.{balanced, weightCheck, Side, CubeRule, both-undefined, both-defined, Residue, residue, missing, halted, andThen, CubeVerdict, holds, fails, halts, empties, bothMissing, bothThere, whereDefined, reported, under, side, against, cubeAt, cubeCheck, cleared}
+use Rattle.model.specs.Checks.{balanced, weightCheck, Side, CubeRule, both-undefined, both-defined, Residue, residue, missing, halted, andThen, CubeVerdict}
+use Rattle.model.specs.Checks.{holds, fails, halts, empties, bothMissing, bothThere, whereDefined, reported, under, side, against, cubeAt, cubeCheck, cleared}
 use Rattle.theory.specs.Cube.{Obeys, Says, FirstBroken, CubeMeaning}
 use Rattle.model.proofs.Impossible.{impossible}
 use Rattle.model.proofs.Leftmost.{open-unfinished}
@@ -183,7 +184,8 @@ pub went-on : {A B : Type 0} (o : Outcome A) (f : A → Outcome B) {y : B} → (
 went-on (answered x) f e = (x, refl, e)
 went-on (refused n place) f e = impossible (cc)
 
-weight-each : (T : Presentation) {ps : List Two} {p : Two} → weightCheck T ps ≡ answered tt → List·Memᴰ p ps → balanced T (p .a) (p .b) (complete T (p .a) (p .b)) ≡ true
+weight-each : (T : Presentation) {ps : List Two} {p : Two} → weightCheck T ps ≡ answered tt → List·Memᴰ p ps
+    → balanced T (p .a) (p .b) (complete T (p .a) (p .b)) ≡ true
 weight-each T {p} h (List·Memᴰ·head {x} {xs} e) = rw e (passes x (balanced T (x .a) (x .b) (complete T (x .a) (x .b))) (weightCheck T xs) h .0)
 weight-each T {p} h (List·Memᴰ·tail {x} {xs} m) = weight-each T (passes x (balanced T (x .a) (x .b) (complete T (x .a) (x .b))) (weightCheck T xs) h .1) m
 
@@ -197,7 +199,8 @@ weight-only T (p ∷ ps) n place h = go (balanced T (p .a) (p .b) (complete T (p
     go false rest e = cc
 
 -- the weight check, of letters in order
-pub checked-weight : (T : Presentation) → weightCheck T (pairs (T .size)) ≡ answered tt → {a b : ℕ} → 1 ≤ a → a < b → b ≤ T .size → balanced T a b (complete T a b) ≡ true
+pub checked-weight : (T : Presentation) → weightCheck T (pairs (T .size)) ≡ answered tt → {a b : ℕ} → 1 ≤ a → a < b → b ≤ T .size
+    → balanced T a b (complete T a b) ≡ true
 checked-weight T h {a} {b} low ordered high = weight-each T h (pairs-have (T .size) a b low ordered high)
 
 module _ (T : Presentation) (steps width : ℕ) (clear : cleared T steps width ≡ answered tt) where

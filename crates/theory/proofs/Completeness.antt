@@ -72,7 +72,8 @@ module _ (weight : ℕ → ℕ) (weighs : (a : ℕ) → 1 ≤ weight a) {f : ℕ
       let first = cube a b c a≢b a≢c b≢c ab ba ac ca e p _ r ac-rule (turned turn g) in
       let second = cube a c b a≢c a≢b (λ h. b≢c (sym h)) ac ca ab ba p e _ ac-rule r g in
       let ba-rule : f b a ≡ complement ba ab = turn a b ∙ ap swapped r in
-      let third = cube b c a b≢c (λ h. a≢b (sym h)) (λ h. a≢c (sym h)) (first .bc) (first .cb) ba ab (first .d′) (first .n′) _ (first .rule) ba-rule (turned turn (first .grid)) in
+      let third = cube b c a b≢c (λ h. a≢b (sym h)) (λ h. a≢c (sym h)) (first .bc) (first .cb) ba ab (first .d′) (first .n′) _ (first .rule) ba-rule
+      (turned turn (first .grid)) in
       apart-closed a b c r s (q ∙ ap (λ l. l ++ p) m≡ca) first second third
 
   -- a letter that is one of the two: a against a C(a,b) and b C(b,a)

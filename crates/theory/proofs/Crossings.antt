@@ -60,7 +60,8 @@ crossing-after bs i j = ap (λ n. meeting (pairs n) (exchanged bs i) j) (exchang
 pub crossed-back : (i : ℕ) (d e : ℤ) → d +ℤ e ≡ pos 0 → (B : Bed) → crossed i e (crossed i d B) ≡ B
 crossed-back i d e h B =
     bed-same (crossed i e (crossed i d B)) B (exchanged-back (B .bobbins) i)
-    (ap (λ k. increased (increased (B .totals) (crossing (B .bobbins) i) d) k e) (crossing-after (B .bobbins) i i ∙ meeting-back (pairs (length (B .bobbins))) (B .bobbins) i)
+    (ap (λ k. increased (increased (B .totals) (crossing (B .bobbins) i) d) k e)
+    (crossing-after (B .bobbins) i i ∙ meeting-back (pairs (length (B .bobbins))) (B .bobbins) i)
     ∙ increased-back (B .totals) (crossing (B .bobbins) i) d e h)
 
 -- DISTANT CROSSINGS
@@ -92,9 +93,11 @@ pub crossed-far : (i j : ℕ) (d e : ℤ) → suc i < j → (B : Bed) → crosse
 crossed-far i j d e h B =
     let bs = B .bobbins in
     bed-same (crossed j e (crossed i d B)) (crossed i d (crossed j e B)) (exchanged-far bs i j h)
-    (ap (λ k. increased (increased (B .totals) (crossing bs i) d) k e) (crossing-after bs i j ∙ meeting-else (pairs (length bs)) bs i j (omega arith) (omega arith) (omega arith))
+    (ap (λ k. increased (increased (B .totals) (crossing bs i) d) k e)
+    (crossing-after bs i j ∙ meeting-else (pairs (length bs)) bs i j (omega arith) (omega arith) (omega arith))
     ∙ (increased-commute (B .totals) (crossing bs i) (crossing bs j) d e
-    ∙ ap (λ k. increased (increased (B .totals) (crossing bs j) e) k d) (sym (crossing-after bs j i ∙ meeting-else (pairs (length bs)) bs j i (omega arith) (omega arith) (omega arith)))))
+    ∙ ap (λ k. increased (increased (B .totals) (crossing bs j) e) k d)
+    (sym (crossing-after bs j i ∙ meeting-else (pairs (length bs)) bs j i (omega arith) (omega arith) (omega arith)))))
 
 -- THREE CROSSINGS AT NEIGHBOURING PLACES
 
@@ -128,24 +131,35 @@ crossed-three j d B h =
     let r = three ps bs j h in
     bed-same (crossed j d (crossed (suc j) d (crossed j d B))) (crossed (suc j) d (crossed j d (crossed (suc j) d B))) (r .bobbins)
     (left
-    ∙ (ap (λ k. increased (increased (increased (B .totals) k d) (meeting ps (exchanged bs j) (suc j)) d) (meeting ps (exchanged (exchanged bs j) (suc j)) j) d) (r .first)
-    ∙ (ap (λ k. increased (increased (increased (B .totals) (meeting ps (exchanged (exchanged bs (suc j)) j) (suc j)) d) k d) (meeting ps (exchanged (exchanged bs j) (suc j)) j) d) (r .second)
-    ∙ (ap (λ k. increased (increased (increased (B .totals) (meeting ps (exchanged (exchanged bs (suc j)) j) (suc j)) d) (meeting ps (exchanged bs (suc j)) j) d) k d) (r .third)
-    ∙ (increased-three (B .totals) (meeting ps (exchanged (exchanged bs (suc j)) j) (suc j)) (meeting ps (exchanged bs (suc j)) j) (meeting ps bs (suc j)) d ∙ sym right)))))
+    ∙ (ap (λ k. increased (increased (increased (B .totals) k d) (meeting ps (exchanged bs j) (suc j)) d) (meeting ps (exchanged (exchanged bs j) (suc j)) j) d)
+    (r .first)
+    ∙ (ap (λ k. increased (increased (increased (B .totals) (meeting ps (exchanged (exchanged bs (suc j)) j) (suc j)) d) k d)
+    (meeting ps (exchanged (exchanged bs j) (suc j)) j) d) (r .second)
+    ∙ (ap (λ k. increased (increased (increased (B .totals) (meeting ps (exchanged (exchanged bs (suc j)) j) (suc j)) d) (meeting ps (exchanged bs (suc j)) j)
+    d) k d) (r .third)
+    ∙ (increased-three (B .totals) (meeting ps (exchanged (exchanged bs (suc j)) j) (suc j)) (meeting ps (exchanged bs (suc j)) j) (meeting ps bs (suc j)) d
+    ∙ sym right)))))
   where
     -- the totals of three crossings, at the pairs of the first bed's bobbins
     totals-of : (a b c : ℕ) → crossed c d (crossed b d (crossed a d B)) .totals
-        ≡ increased (increased (increased (B .totals) (meeting (pairs (length (B .bobbins))) (B .bobbins) a) d) (meeting (pairs (length (B .bobbins))) (exchanged (B .bobbins) a) b) d) (meeting (pairs (length (B .bobbins))) (exchanged (exchanged (B .bobbins) a) b) c) d
+        ≡ increased (increased (increased (B .totals) (meeting (pairs (length (B .bobbins))) (B .bobbins) a) d)
+        (meeting (pairs (length (B .bobbins))) (exchanged (B .bobbins) a) b) d)
+        (meeting (pairs (length (B .bobbins))) (exchanged (exchanged (B .bobbins) a) b) c) d
     totals-of a b c =
         let bs = B .bobbins in
         ap (λ k. increased (increased (increased (B .totals) (crossing bs a) d) k d) (crossing (exchanged (exchanged bs a) b) c) d) (crossing-after bs a b)
-        ∙ ap (λ n. increased (increased (increased (B .totals) (crossing bs a) d) (meeting (pairs (length bs)) (exchanged bs a) b) d) (meeting (pairs n) (exchanged (exchanged bs a) b) c) d)
+        ∙ ap (λ n. increased (increased (increased (B .totals) (crossing bs a) d) (meeting (pairs (length bs)) (exchanged bs a) b) d)
+        (meeting (pairs n) (exchanged (exchanged bs a) b) c) d)
         (exchanged-length (exchanged bs a) b ∙ exchanged-length bs a)
 
     left : crossed j d (crossed (suc j) d (crossed j d B)) .totals
-        ≡ increased (increased (increased (B .totals) (meeting (pairs (length (B .bobbins))) (B .bobbins) j) d) (meeting (pairs (length (B .bobbins))) (exchanged (B .bobbins) j) (suc j)) d) (meeting (pairs (length (B .bobbins))) (exchanged (exchanged (B .bobbins) j) (suc j)) j) d
+        ≡ increased (increased (increased (B .totals) (meeting (pairs (length (B .bobbins))) (B .bobbins) j) d)
+        (meeting (pairs (length (B .bobbins))) (exchanged (B .bobbins) j) (suc j)) d)
+        (meeting (pairs (length (B .bobbins))) (exchanged (exchanged (B .bobbins) j) (suc j)) j) d
     left = totals-of j (suc j) j
 
     right : crossed (suc j) d (crossed j d (crossed (suc j) d B)) .totals
-        ≡ increased (increased (increased (B .totals) (meeting (pairs (length (B .bobbins))) (B .bobbins) (suc j)) d) (meeting (pairs (length (B .bobbins))) (exchanged (B .bobbins) (suc j)) j) d) (meeting (pairs (length (B .bobbins))) (exchanged (exchanged (B .bobbins) (suc j)) j) (suc j)) d
+        ≡ increased (increased (increased (B .totals) (meeting (pairs (length (B .bobbins))) (B .bobbins) (suc j)) d)
+        (meeting (pairs (length (B .bobbins))) (exchanged (B .bobbins) (suc j)) j) d)
+        (meeting (pairs (length (B .bobbins))) (exchanged (exchanged (B .bobbins) (suc j)) j) (suc j)) d
     right = totals-of (suc j) j (suc j)

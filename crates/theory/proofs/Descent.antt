@@ -55,7 +55,8 @@ regroup p x y m s =
 
 module _ (T : Presentation) where
   -- steps at two sites, the second after the first, commute
-  crossed : (p : Word) (a b : ℕ) (m : Word) (a′ b′ : ℕ) (s′ : Word) (x y x′ y′ : Positive) → complete T a b ≡ complement x y → complete T a′ b′ ≡ complement x′ y′
+  crossed : (p : Word) (a b : ℕ) (m : Word) (a′ b′ : ℕ) (s′ : Word) (x y x′ y′ : Positive) → complete T a b ≡ complement x y
+      → complete T a′ b′ ≡ complement x′ y′
       → (v v′ : Word) → v ≡ replaced p x y (m ++ (back a′ ∷ forward b′ ∷ s′)) → v′ ≡ replaced (p ++ (back a ∷ forward b ∷ m)) x′ y′ s′
       → (w : Word) × Step T v w × Step T v′ w
   crossed p a b m a′ b′ s′ x y x′ y′ c c′ v v′ h h′ =
@@ -133,7 +134,8 @@ module _ (T : Presentation) where
       let u = goes-on r (t .reduces) free in
       record { left = u .left; steps = omega (arith, t .steps, u .steps); reduces = u .reduces }
 
-  open-stays : {w f : Word} {k : ℕ} (p : Word) (a b : ℕ) (s : Word) → w ≡ p ++ (back a ∷ forward b ∷ s) → complete T a b ≡ undefined → Reduces T w f k → Free f → ⊥
+  open-stays : {w f : Word} {k : ℕ} (p : Word) (a b : ℕ) (s : Word) → w ≡ p ++ (back a ∷ forward b ∷ s) → complete T a b ≡ undefined → Reduces T w f k → Free f
+      → ⊥
   open-stays p a b s e c Reduces.stay free = free p a b s e
   open-stays {f} p a b s e c (Reduces.go p′ a′ b′ s′ {k} {x} {y} e′ c′ r) free =
       go (apart p a b s p′ a′ b′ s′ (sym e ∙ e′)) (λ q t h. open-stays q a b t h c r free)

@@ -46,7 +46,18 @@ balanced-check T h (p ∷ ps) =
 module _ (T : Presentation) (range : TableInRange T) (has : mirrorCheck T ≡ answered tt) (even : weightCheck T (pairs (T .size)) ≡ answered tt) where
   mirror-homogeneous : Homogeneous (weightOf T) (complete (mirror T))
   mirror-homogeneous a b x y e =
-      let swap = one (record { before = []; after = []; a = a; b = b; x = x; y = y; rule = e; left = sym (append-nil (a ∷ x)); right = sym (append-nil (b ∷ y)) }) in
+      let swap = one (record {
+        before = [];
+        after = [];
+        a = a;
+        b = b;
+        x = x;
+        y = y;
+        rule = e;
+        left = sym (append-nil (a ∷ x));
+        right =
+            sym (append-nil (b ∷ y));
+      }) in
       let joined = equiv-joined (mirror T) swap in
       let turned = joined-backward T range has (reverse (a ∷ x)) (reverse (b ∷ y)) .1
       (subst (λ u. Joined (mirror T) u (reverse (reverse (b ∷ y)))) (sym (reverse-reverse (a ∷ x)))
@@ -81,12 +92,15 @@ of-mirror-passed (refused n place) e = impossible (cc)
 
 module _ (M : Presentation) (steps width a b c : ℕ) where
   -- 17 is what 9 comes to
-  of-mirror-broken : (ts : List Three) → ofMirror (cubeCheck M steps width ts) ≡ refused 17 (mirror-triple-of a b c) → cubeCheck M steps width ts ≡ refused 9 (triple-of a b c)
+  of-mirror-broken : (ts : List Three) → ofMirror (cubeCheck M steps width ts) ≡ refused 17 (mirror-triple-of a b c)
+      → cubeCheck M steps width ts ≡ refused 9 (triple-of a b c)
   of-mirror-broken [] h = impossible (cc)
   of-mirror-broken (t ∷ ts) h = go (cubeAt M steps width t) (of-mirror-broken ts) h
     where
-      go : (v : CubeVerdict) → (ofMirror (cubeCheck M steps width ts) ≡ refused 17 (mirror-triple-of a b c) → cubeCheck M steps width ts ≡ refused 9 (triple-of a b c))
-          → ofMirror (reported t v (cubeCheck M steps width ts)) ≡ refused 17 (mirror-triple-of a b c) → reported t v (cubeCheck M steps width ts) ≡ refused 9 (triple-of a b c)
+      go : (v : CubeVerdict) → (ofMirror (cubeCheck M steps width ts) ≡ refused 17 (mirror-triple-of a b c)
+          → cubeCheck M steps width ts ≡ refused 9 (triple-of a b c))
+          → ofMirror (reported t v (cubeCheck M steps width ts)) ≡ refused 17 (mirror-triple-of a b c) → reported t v (cubeCheck M steps width ts) ≡ refused 9
+          (triple-of a b c)
       go holds rest e = rest e
       go fails rest e =
           let same : mirror-triple-of (t .a) (t .b) (t .c) ≡ mirror-triple-of a b c = cc in

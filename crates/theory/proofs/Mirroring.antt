@@ -10,7 +10,8 @@ use lib.Dec.{ltb}
 use lib.ListN.{length, length-reverse}
 use Rattle.model.specs.Word.{Letter, forward, back, Word, Positive, flip, positive, negative, forwards, backs}
 use Rattle.model.specs.Presentation.{Presentation, Complement, undefined, complement, swapped}
-use Rattle.model.specs.Reversing.{Site, nowhere, at, beyond, siteAfter, site, replaced, Next, no-site, blocked, step, byComplement, bySite, next, Ending, finished, stopped, room, ended, count, spent, onward, run, reversing}
+use Rattle.model.specs.Reversing.{Site, nowhere, at, beyond, siteAfter, site, replaced, Next, no-site, blocked, step, byComplement, bySite, next, Ending}
+use Rattle.model.specs.Reversing.{finished, stopped, room, ended, count, spent, onward, run, reversing}
 use Rattle.model.specs.Mirror.{backward, mirror, leftOf, leftSite, leftComplete, leftReplaced, leftByComplement, leftBySite, leftNext, leftRun, leftReversing}
 use Rattle.model.proofs.Words.{beyond-at, beyond-nowhere, forwards-append, backs-append, map-reverse}
 use Rattle.model.proofs.Mirrors.{mirror-complete}

@@ -131,8 +131,11 @@ module _ (T : Presentation) (u v : Positive) (steps width area : ℕ) where
       → Completes T u v m × Finishes T (negative u ++ positive v) m [] k
   means-moves m k (moves m′ k′ f c) e =
       let em : m′ ≡ m = cc in
-      let ek : k′ ≡ k = cc in
-      (subst (Completes T u v) em c, subst (λ i. Finishes T (negative u ++ positive v) m [] i) ek (subst (λ x. Finishes T (negative u ++ positive v) x [] k′) em f))
+      let ek : k′ ≡ k = cc in (
+        subst (Completes T u v) em c,
+        subst (λ i. Finishes T (negative u ++ positive v) m [] i) ek
+            (subst (λ x. Finishes T (negative u ++ positive v) x [] k′) em f),
+      )
   means-moves m k (none k′ a) e = impossible (cc)
   means-moves m k out-of-budget e = impossible (cc)
   means-moves m k out-of-room e = impossible (cc)

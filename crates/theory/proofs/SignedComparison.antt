@@ -22,7 +22,8 @@ use Rattle.theory.specs.Signed.{Settles, SignedReversings, Prepared, Ver
 use Rattle.theory.proofs.Letters.{all-append, inverse-lettered}
 use Rattle.theory.proofs.Orders.{any-order}
 use Rattle.theory.proofs.Checked.{went-on, clear-weights}
-use Rattle.theory.proofs.Comparison.{Meaning, same, different, out-of-budget, out-of-room, compared-forward, joined-empties, joined-same-after, empties-joined, comparison-means}
+use Rattle.theory.proofs.Comparison.{Meaning, same, different, out-of-budget, out-of-room, compared-forward, joined-empties, joined-same-after}
+use Rattle.theory.proofs.Comparison.{empties-joined, comparison-means}
 use Rattle.theory.proofs.GrownSet.{set-closed}
 use Rattle.theory.proofs.Signed.{finished-by-some, ends-are-joined, signed-meaning}
 

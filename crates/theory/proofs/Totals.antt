@@ -13,7 +13,8 @@ use Rattle.model.specs.Word.{forward, back, Word, forwards, backs}
 use Rattle.model.specs.Presentation.{Presentation}
 use Rattle.model.specs.Enumeration.{concatMap, pairs}
 use Rattle.model.specs.Range.{InRange, Lettered, ProgramInRange}
-use Rattle.model.specs.Bed.{isBraid, Bed, Sound, Within, firstBed, position, increased, crossing, crossed, moved, laid, bedAfter, sixteenBits, totalBytes, bedBytes}
+use Rattle.model.specs.Bed.{isBraid, Bed, Sound, Within, firstBed, position, increased, crossing, crossed, moved, laid, bedAfter, sixteenBits, totalBytes}
+use Rattle.model.specs.Bed.{bedBytes}
 use Rattle.model.proofs.Positions.{position-inside}
 use Rattle.model.proofs.Beds.{first-sound, moved-sound, laid-sound, bobbin-named, bobbins-differ}
 use Rattle.theory.specs.Beds.{added, balance, BedHolds, BedLaws, signed, totalsIn, bedIn, BedMeaning}
@@ -80,7 +81,8 @@ bed-laws n w r k =
     record {
       order = s .order;
       sum =
-          laid-sum (suc n) 0 (take k w) (firstBed n) (subst (λ m. Lettered m (take k w)) {x = n} {y = suc n - 1} (omega arith) (lettered-take n k w (r .letters))) (first-sound n)
+          laid-sum (suc n) 0 (take k w) (firstBed n)
+          (subst (λ m. Lettered m (take k w)) {x = n} {y = suc n - 1} (omega arith) (lettered-take n k w (r .letters))) (first-sound n)
           ∙ (ap (λ x. x +ℤ balance (take k w)) (zeros-sum (length (pairs (suc n)))) ∙ +ℤ-idl (balance (take k w)));
       within = λ i. omega (arith, s .within i, length-take k w, r .short);
     }
@@ -117,7 +119,8 @@ module _ (T : Presentation) (braid : isBraid T ≡ true) (w : Word) (r : Program
   bed-meaning =
       let laws = bed-laws (T .size) w r moves in
       let s = laid-sound (suc (T .size)) 0 (take moves w) (firstBed (T .size)) (first-sound (T .size)) in
-      let same : bedIn (suc (T .size)) (bedBytes (bedAfter (T .size) moves w)) ≡ bedAfter (T .size) moves w = bed-back (suc (T .size)) (bedAfter (T .size) moves w) (s .places) (laws .within) in
+      let same : bedIn (suc (T .size)) (bedBytes (bedAfter (T .size) moves w)) ≡ bedAfter (T .size) moves w =
+      bed-back (suc (T .size)) (bedAfter (T .size) moves w) (s .places) (laws .within) in
       let equal = equal-beds T braid in
       let first = first-sound (T .size) .places in
       record {

@@ -12,7 +12,8 @@ use Rattle.model.specs.Checks.{cleared}
 use Rattle.model.specs.Services.{Verdict, same-after, different-after, comparison}
 use Rattle.model.proofs.Impossible.{impossible}
 use Rattle.theory.specs.Verdicts.{Settled, settled, by-allowance, by-memory, DemandThree}
-use Rattle.theory.proofs.Comparison.{Meaning, same, different, out-of-budget, out-of-room, joined-empties, joined-same-after, comparison-means, same-joined, different-apart}
+use Rattle.theory.proofs.Comparison.{Meaning, same, different, out-of-budget, out-of-room, joined-empties, joined-same-after, comparison-means}
+use Rattle.theory.proofs.Comparison.{same-joined, different-apart}
 
 as-settled : {T : Presentation} {u v : Positive} {o : Outcome Verdict} → Meaning T u v o → Settled answered o
 as-settled (same k r j) = settled (same-after k r)

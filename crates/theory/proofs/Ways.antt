@@ -4,7 +4,8 @@
 -- Main names: `listing-meaning`, `listing-closed`, `lists-once`, `words-in-order`.
 use mathlib.Core.Path.{_≡_, refl, sym, ap, subst}
 use mathlib.Core.Logic.{_≢_, _⊎_, inl, inr}
-use mathlib.Core.List.{List, [], _∷_, _++_, map, List·Memᴰ, List·Memᴰ·head, List·Memᴰ·tail, List·Memᴰ·not-nil, List·Memᴰ·eq-of-singleton, List·Memᴰ·append-cases, Memᴰ·map}
+use mathlib.Core.List.{List, [], _∷_, _++_, map, List·Memᴰ, List·Memᴰ·head, List·Memᴰ·tail, List·Memᴰ·not-nil, List·Memᴰ·eq-of-singleton}
+use mathlib.Core.List.{List·Memᴰ·append-cases, Memᴰ·map}
 use mathlib.Core.Bool.{Bool, true, false}
 use mathlib.Core.Option.{Option, none, some}
 use Prim.Native.Nat.{ℕ, zero, suc, _+_, _*_, _^_, _≤_, _<_}
@@ -27,7 +28,8 @@ use Rattle.model.proofs.Complete.{complete-named, complete-in-range}
 use Rattle.model.proofs.Equiv.{Swap, Equiv, done, step, Homogeneous, length-total, total-append}
 use Rattle.model.proofs.Entries.{applied-applies, entry-inside}
 use Rattle.model.proofs.Joining.{joined-equiv, joined-same, joined-transitive, joined-weight, idle}
-use Rattle.model.proofs.Listing.{earlier-cases, same-weight-same, Weighing, all-ordered, all-keeps, all-member, all-longer, all-unchanged, all-are-there, Within, same-members}
+use Rattle.model.proofs.Listing.{earlier-cases, same-weight-same, Weighing, all-ordered, all-keeps, all-member, all-longer, all-unchanged, all-are-there}
+use Rattle.model.proofs.Listing.{Within, same-members}
 use Rattle.theory.specs.Ways.{Lists, Weighed, ListingMeaning, WordsInOrder}
 use Rattle.theory.proofs.Letters.{all-append, all-first, all-second}
 use Rattle.theory.proofs.Enumerated.{range-has, concat-has}
@@ -165,7 +167,8 @@ module _ (T : Presentation) where
 abbrev pub Closed : Presentation → List Positive → Type 0
 Closed T vs = (v w : Positive) (e : Entry) → List·Memᴰ v vs → applied T v e ≡ some w → List·Memᴰ w vs
 
-leads-closed : (T : Presentation) (vs : List Positive) → Closed T vs → (u : Positive) (es : List Entry) (v : Positive) → Leads T u es v → List·Memᴰ u vs → List·Memᴰ v vs
+leads-closed : (T : Presentation) (vs : List Positive) → Closed T vs → (u : Positive) (es : List Entry) (v : Positive) → Leads T u es v → List·Memᴰ u vs
+    → List·Memᴰ v vs
 leads-closed T vs c u [] v h m = subst (λ x. List·Memᴰ x vs) h m
 leads-closed T vs c u (e ∷ es) v h m = leads-closed T vs c (h .0) es v (h .2) (c u (h .0) e m (h .1))
 
@@ -244,7 +247,8 @@ module _ (T : Presentation) (u : Positive) (h : Weighed T u) where
   unspread-closed : (vs : List Positive) → Finding T u vs → length (spread T vs) ≡ length vs → Closed T vs
   unspread-closed vs f e v w entry m q =
       let new : List·Memᴰ w (concatMap (neighbours T) vs) = concat-has (neighbours T) m (applied-neighbour T v w entry q) in
-      let weighing : Weighing (weightOf T) (weigh T u) (concatMap (neighbours T) vs) = λ x n. sym (joined-weight T (weightOf T) homogeneous u x (spread-joined T u vs f x n)) in
+      let weighing : Weighing (weightOf T) (weigh T u) (concatMap (neighbours T) vs) =
+      λ x n. sym (joined-weight T (weightOf T) homogeneous u x (spread-joined T u vs f x n)) in
       let there : List·Memᴰ w (spread T vs) =
       all-are-there (weightOf T) weighs (weigh T u) (concatMap (neighbours T) vs) vs weighing (finding-weighing vs f) w new in
       subst (λ l. List·Memᴰ w l) (all-unchanged (concatMap (neighbours T) vs) vs (omega (arith, e))) there
