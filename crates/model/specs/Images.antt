@@ -11,8 +11,7 @@ use Rattle.model.specs.Enumeration.{concatMap}
 use Rattle.model.specs.Outcome.{Outcome, answered, _>>=_, unless}
 use Rattle.model.specs.Bits.{Read, field, digits, bitsOf, pack, letterWidth, finish}
 
--- FIELD WIDTHS (5.4 to 5.6): of a table's number of letters, of a letter's weight and of a word's length, of a program's count, of a chain's count and of an
--- entry's offset
+-- FIELD WIDTHS (5.4 to 5.6): of a table's number of letters, a letter's weight, a word's length, a program's count, a chain's count and an entry's offset
 
 abbrev pub sizeWidth : ℕ
 sizeWidth = 4
