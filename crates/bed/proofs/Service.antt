@@ -27,7 +27,7 @@ use Rattle.theory.specs.Beds.{BedMeaning}
 use Rattle.theory.proofs.Totals.{bed-meaning}
 use Rattle.bed.specs.BraidTable.{BraidOf}
 use Rattle.bed.specs.Shown.{Answers}
-use Rattle.bed.specs.Meaning.{BedSays}
+use Rattle.bed.specs.Meaning.{BedSays, BedPromise}
 
 -- THE TABLE
 
@@ -107,5 +107,5 @@ module _ (table program : List ℕ) (moves : ℕ) (before after : List ℕ) (r :
           impossible (cc)
 
   -- the service's promise
-  pub promised : (packedAs r ≡ mapped length (bed table program moves (length before))) × ((after ≡ outputAfter (λ b. b) (bed table program moves (length before)) before) × BedSays table program moves (packedAs r) after)
-  promised = (a .result, (a .area, bed-says))
+  pub promised : BedPromise table program moves before after (packedAs r)
+  promised = record { stated = a .result; answer-is = a .area; meaning = bed-says }

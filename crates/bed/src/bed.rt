@@ -8,15 +8,11 @@ use images::programs::read_program;
 use images::tables::TableRead;
 use model::answers::Packed;
 use model::answers::Refusal;
-ghost use mathlib.Core.Path.{_≡_};
-ghost use lib.ListN.{length};
-ghost use Rattle.model.specs.Outcome.{mapped};
-ghost use Rattle.model.specs.Areas.{outputAfter};
 ghost use Rattle.model.specs.Stated.{packedAs};
 ghost use Rattle.model.specs.Bed.{bed};
 ghost use Rattle.images.specs.Programs.{Accepted};
 ghost use Rattle.bed.specs.Shown.{Made, ProgramAnswered};
-ghost use Rattle.bed.specs.Meaning.{BedSays};
+ghost use Rattle.bed.specs.Meaning.{BedPromise};
 
 // How many moves of a program are made where the caller names any number.
 pub fn moves_made(count: u16, moves: u64) -> u16
@@ -44,9 +40,7 @@ pub fn show_program(program: &[u8], size: u8, count: u16, moves: u64, answer: &m
 }
 
 pub fn bed(table: &[u8], program: &[u8], moves: u64, answer: &mut [u8]) -> Packed
-    ensures stated { λ r. ⌜ packedAs r ≡ mapped length (bed (now (table .entry)) (now (program .entry)) moves (length (now (answer .entry)))) ⌝ }
-    ensures answer { λ r. ⌜ now (answer .exit) ≡ outputAfter (λ b. b) (bed (now (table .entry)) (now (program .entry)) moves (length (now (answer .entry)))) (now (answer .entry)) ⌝ }
-    ensures meaning { λ r. ⌜ BedSays (now (table .entry)) (now (program .entry)) moves (packedAs r) (now (answer .exit)) ⌝ }
+    ensures { λ r. ⌜ BedPromise (now (table .entry)) (now (program .entry)) moves (now (answer .entry)) (now (answer .exit)) (packedAs r) ⌝ }
 {
     let mut cells = [0u8; CELLS];
     let read = read_braid(table, &mut cells);

@@ -3,15 +3,16 @@ ghost use lib.ListN.{length};
 ghost use mathlib.Core.Path.{_≡_};
 ghost use Rattle.model.specs.Outcome.{mapped, answered};
 ghost use Rattle.model.specs.Images.{readTable};
-ghost use Rattle.model.specs.Plain.{plainProgram, readPlainTable};
-ghost use Rattle.model.specs.Services.{sizes, reverse, enquire, commit, leftReverse, clear, mirrorClear, compare, chain, remainder, check, packTable, unpackTable, packProgram, unpackProgram, programUnder, plainProgramUnder};
+ghost use Rattle.model.specs.Plain.{readPlainTable};
+ghost use Rattle.model.specs.Services.{sizes, reverse, enquire, commit, leftReverse, clear, mirrorClear, compare, chain, remainder, check, packTable};
+ghost use Rattle.model.specs.Services.{unpackTable, packProgram, unpackProgram, programUnder, plainProgramUnder};
 ghost use Rattle.model.specs.Bed.{bed};
-ghost use Rattle.model.specs.Ways.{ways, waysArea};
+ghost use Rattle.model.specs.Ways.{ways};
 ghost use Rattle.model.specs.Notation.{import};
 ghost use Rattle.model.specs.Signed.{compareSigned};
-ghost use Rattle.model.specs.Tray.{trayBytes, tray};
-ghost use Rattle.model.specs.Areas.{outputAfter, workspaceAfter, fractionBytes, remainderBytes, ChainArea, ReadsBack};
-ghost use Rattle.model.specs.Stated.{counted, counts};
+ghost use Rattle.model.specs.Tray.{tray};
+ghost use Rattle.model.specs.Areas.{outputAfter, workspaceAfter, fractionBytes, remainderBytes, ChainArea};
+ghost use Rattle.model.specs.Stated.{counted};
 ghost use Rattle.clearing.specs.Clear.{ClearMeaning};
 ghost use Rattle.reversal.specs.Reverse.{ReverseMeaning};
 ghost use Rattle.enquiring.specs.Enquire.{EnquireMeaning};
@@ -22,15 +23,16 @@ ghost use Rattle.comparing.specs.Compare.{Meaning};
 ghost use Rattle.chaining.specs.Chain.{ListedChecks};
 ghost use Rattle.remainders.specs.Remainder.{RemainderMeaning};
 ghost use Rattle.checking.specs.Check.{CheckMeaning};
-ghost use Rattle.bed.specs.Meaning.{BedSays};
-ghost use Rattle.ways.specs.Service.{WaysSay};
-ghost use Rattle.packing.specs.RoundTrips.{Undone};
-ghost use Rattle.importing.specs.Import.{ImportSays};
+ghost use Rattle.packing.specs.RoundTrips.{PackPromise};
 ghost use Rattle.signed_comparing.specs.Service.{SignedSays};
-ghost use Rattle.trays.specs.Meaning.{TraySays};
-ghost use Rattle.braid.specs.Told.{told, sizesTold, passedTold, verdictTold, signedTold, chainTold, remainderTold, passageTold, bytesTold, countsTold, logsTold};
+ghost use Rattle.braid.specs.Told.{told, sizesTold, passedTold, verdictTold, signedTold, chainTold, remainderTold, passageTold, bytesTold, countsTold};
+ghost use Rattle.braid.specs.Told.{logsTold};
 ghost use Rattle.braid.specs.Values.{Tells};
 ghost use Rattle.braid.specs.Meant.{Meant, ChainSays};
+ghost use Rattle.bed.specs.Meaning.{BedPromise};
+ghost use Rattle.ways.specs.Service.{WaysPromise};
+ghost use Rattle.importing.specs.Import.{ImportPromise};
+ghost use Rattle.trays.specs.Meaning.{TrayPromise};
 use crate::numbers::Numbers;
 use crate::numbers::of_chained;
 use crate::numbers::of_checked;
@@ -80,9 +82,17 @@ pub extern "C" fn braid_reverse(
     answer: &mut [u8],
     values: &mut [u64; 4],
 ) -> u8
-    ensures told { λ r. ⌜ Tells (told sizesTold (mapped sizes (reverse (now (table .entry)) (now (program .entry)) allowance (length (now (workspace .entry))) (length (now (answer .entry)))))) r (now (values .exit)) ⌝ }
-    ensures answer { λ r. ⌜ now (answer .exit) ≡ outputAfter fractionBytes (reverse (now (table .entry)) (now (program .entry)) allowance (length (now (workspace .entry))) (length (now (answer .entry)))) (now (answer .entry)) ⌝ }
-    ensures workspace { λ r. ⌜ now (workspace .exit) ≡ workspaceAfter (reverse (now (table .entry)) (now (program .entry)) allowance (length (now (workspace .entry))) (length (now (answer .entry)))) (now (workspace .entry)) ⌝ }
+    ensures told { λ r. ⌜ Tells
+        (told sizesTold (mapped sizes
+        (reverse (now (table .entry)) (now (program .entry)) allowance (length (now (workspace .entry))) (length (now (answer .entry)))))) r
+        (now (values .exit)) ⌝ }
+    ensures answer { λ r. ⌜ now (answer .exit) ≡ outputAfter fractionBytes
+        (reverse (now (table .entry)) (now (program .entry)) allowance (length (now (workspace .entry))) (length (now (answer .entry))))
+        (now (answer .entry)) ⌝ }
+    ensures workspace { λ r.
+        ⌜ now (workspace .exit) ≡ workspaceAfter
+        (reverse (now (table .entry)) (now (program .entry)) allowance (length (now (workspace .entry))) (length (now (answer .entry))))
+        (now (workspace .entry)) ⌝ }
     ensures meaning { λ r. ⌜ Meant sizesTold (λ o. ReverseMeaning (now (table .entry)) (now (program .entry)) o (now (answer .exit))) r (now (values .exit)) ⌝ }
 {
     let reversed = reverse(table, program, allowance, workspace, answer);
@@ -97,9 +107,13 @@ pub extern "C" fn braid_enquire(
     workspace: &mut [u8],
     values: &mut [u64; 4],
 ) -> u8
-    ensures told { λ r. ⌜ Tells (told sizesTold (enquire (now (table .entry)) (now (program .entry)) allowance (length (now (workspace .entry))))) r (now (values .exit)) ⌝ }
-    ensures workspace { λ r. ⌜ now (workspace .exit) ≡ workspaceAfter (enquire (now (table .entry)) (now (program .entry)) allowance (length (now (workspace .entry)))) (now (workspace .entry)) ⌝ }
-    ensures meaning { λ r. ⌜ Meant sizesTold (EnquireMeaning (now (table .entry)) (now (program .entry)) allowance (length (now (workspace .entry)))) r (now (values .exit)) ⌝ }
+    ensures told { λ r. ⌜ Tells (told sizesTold (enquire (now (table .entry)) (now (program .entry)) allowance (length (now (workspace .entry))))) r
+        (now (values .exit)) ⌝ }
+    ensures workspace { λ r.
+        ⌜ now (workspace .exit) ≡ workspaceAfter (enquire (now (table .entry)) (now (program .entry)) allowance (length (now (workspace .entry))))
+        (now (workspace .entry)) ⌝ }
+    ensures meaning { λ r. ⌜ Meant sizesTold (EnquireMeaning (now (table .entry)) (now (program .entry)) allowance (length (now (workspace .entry)))) r
+        (now (values .exit)) ⌝ }
 {
     let reversed = enquire(table, program, allowance, workspace);
     tell(of_reversed(reversed), values)
@@ -117,10 +131,20 @@ pub extern "C" fn braid_commit(
     answer: &mut [u8],
     values: &mut [u64; 4],
 ) -> u8
-    ensures told { λ r. ⌜ Tells (told sizesTold (mapped sizes (commit (now (table .entry)) (now (program .entry)) allowance (length (now (workspace .entry))) (record { numerator = numerator; denominator = denominator; steps = steps }) (length (now (answer .entry)))))) r (now (values .exit)) ⌝ }
-    ensures answer { λ r. ⌜ now (answer .exit) ≡ outputAfter fractionBytes (commit (now (table .entry)) (now (program .entry)) allowance (length (now (workspace .entry))) (record { numerator = numerator; denominator = denominator; steps = steps }) (length (now (answer .entry)))) (now (answer .entry)) ⌝ }
-    ensures workspace { λ r. ⌜ now (workspace .exit) ≡ workspaceAfter (commit (now (table .entry)) (now (program .entry)) allowance (length (now (workspace .entry))) (record { numerator = numerator; denominator = denominator; steps = steps }) (length (now (answer .entry)))) (now (workspace .entry)) ⌝ }
-    ensures meaning { λ r. ⌜ Meant sizesTold (CommitMeaning (now (table .entry)) (now (program .entry)) allowance (length (now (workspace .entry))) (record { numerator = numerator; denominator = denominator; steps = steps }) (now (answer .entry)) (now (answer .exit))) r (now (values .exit)) ⌝ }
+    ensures told { λ r. ⌜ Tells
+        (told sizesTold (mapped sizes
+        (commit (now (table .entry)) (now (program .entry)) allowance (length (now (workspace .entry)))
+        (record { numerator = numerator; denominator = denominator; steps = steps }) (length (now (answer .entry)))))) r (now (values .exit)) ⌝ }
+    ensures answer { λ r. ⌜ now (answer .exit) ≡ outputAfter fractionBytes
+        (commit (now (table .entry)) (now (program .entry)) allowance (length (now (workspace .entry)))
+        (record { numerator = numerator; denominator = denominator; steps = steps }) (length (now (answer .entry)))) (now (answer .entry)) ⌝ }
+    ensures workspace { λ r.
+        ⌜ now (workspace .exit) ≡ workspaceAfter
+        (commit (now (table .entry)) (now (program .entry)) allowance (length (now (workspace .entry)))
+        (record { numerator = numerator; denominator = denominator; steps = steps }) (length (now (answer .entry)))) (now (workspace .entry)) ⌝ }
+    ensures meaning { λ r. ⌜ Meant sizesTold
+        (CommitMeaning (now (table .entry)) (now (program .entry)) allowance (length (now (workspace .entry)))
+        (record { numerator = numerator; denominator = denominator; steps = steps }) (now (answer .entry)) (now (answer .exit))) r (now (values .exit)) ⌝ }
 {
     let numbers = Handed {
         numerator,
@@ -140,10 +164,20 @@ pub extern "C" fn braid_left_reverse(
     answer: &mut [u8],
     values: &mut [u64; 4],
 ) -> u8
-    ensures told { λ r. ⌜ Tells (told sizesTold (mapped sizes (leftReverse (now (table .entry)) (now (program .entry)) allowance (length (now (workspace .entry))) (length (now (answer .entry)))))) r (now (values .exit)) ⌝ }
-    ensures answer { λ r. ⌜ now (answer .exit) ≡ outputAfter fractionBytes (leftReverse (now (table .entry)) (now (program .entry)) allowance (length (now (workspace .entry))) (length (now (answer .entry)))) (now (answer .entry)) ⌝ }
-    ensures workspace { λ r. ⌜ now (workspace .exit) ≡ workspaceAfter (leftReverse (now (table .entry)) (now (program .entry)) allowance (length (now (workspace .entry))) (length (now (answer .entry)))) (now (workspace .entry)) ⌝ }
-    ensures meaning { λ r. ⌜ Meant sizesTold (LeftMeaning (now (table .entry)) (now (program .entry)) allowance (length (now (workspace .entry))) (now (answer .entry)) (now (answer .exit))) r (now (values .exit)) ⌝ }
+    ensures told { λ r. ⌜ Tells
+        (told sizesTold (mapped sizes
+        (leftReverse (now (table .entry)) (now (program .entry)) allowance (length (now (workspace .entry))) (length (now (answer .entry)))))) r
+        (now (values .exit)) ⌝ }
+    ensures answer { λ r. ⌜ now (answer .exit) ≡ outputAfter fractionBytes
+        (leftReverse (now (table .entry)) (now (program .entry)) allowance (length (now (workspace .entry))) (length (now (answer .entry))))
+        (now (answer .entry)) ⌝ }
+    ensures workspace { λ r.
+        ⌜ now (workspace .exit) ≡ workspaceAfter
+        (leftReverse (now (table .entry)) (now (program .entry)) allowance (length (now (workspace .entry))) (length (now (answer .entry))))
+        (now (workspace .entry)) ⌝ }
+    ensures meaning { λ r. ⌜ Meant sizesTold
+        (LeftMeaning (now (table .entry)) (now (program .entry)) allowance (length (now (workspace .entry))) (now (answer .entry)) (now (answer .exit))) r
+        (now (values .exit)) ⌝ }
 {
     let reversed = left_reverse(table, program, allowance, workspace, answer);
     tell(of_reversed(reversed), values)
@@ -157,7 +191,8 @@ pub extern "C" fn braid_clear(
     values: &mut [u64; 4],
 ) -> u8
     ensures told { λ r. ⌜ Tells (told passedTold (clear (now (table .entry)) allowance (length (now (workspace .entry))))) r (now (values .exit)) ⌝ }
-    ensures workspace { λ r. ⌜ now (workspace .exit) ≡ workspaceAfter (clear (now (table .entry)) allowance (length (now (workspace .entry)))) (now (workspace .entry)) ⌝ }
+    ensures workspace { λ r. ⌜ now (workspace .exit) ≡ workspaceAfter (clear (now (table .entry)) allowance (length (now (workspace .entry))))
+        (now (workspace .entry)) ⌝ }
     ensures meaning { λ r. ⌜ Meant passedTold (ClearMeaning (now (table .entry))) r (now (values .exit)) ⌝ }
 {
     let cleared = clear(table, allowance, workspace);
@@ -172,7 +207,8 @@ pub extern "C" fn braid_mirror_clear(
     values: &mut [u64; 4],
 ) -> u8
     ensures told { λ r. ⌜ Tells (told passedTold (mirrorClear (now (table .entry)) allowance (length (now (workspace .entry))))) r (now (values .exit)) ⌝ }
-    ensures workspace { λ r. ⌜ now (workspace .exit) ≡ workspaceAfter (mirrorClear (now (table .entry)) allowance (length (now (workspace .entry)))) (now (workspace .entry)) ⌝ }
+    ensures workspace { λ r. ⌜ now (workspace .exit) ≡ workspaceAfter (mirrorClear (now (table .entry)) allowance (length (now (workspace .entry))))
+        (now (workspace .entry)) ⌝ }
     ensures meaning { λ r. ⌜ Meant passedTold (MirrorClearMeaning (now (table .entry)) allowance (length (now (workspace .entry)))) r (now (values .exit)) ⌝ }
 {
     let cleared = mirror_clear(table, allowance, workspace);
@@ -188,9 +224,15 @@ pub extern "C" fn braid_compare(
     workspace: &mut [u8],
     values: &mut [u64; 4],
 ) -> u8
-    ensures told { λ r. ⌜ Tells (told verdictTold (compare (now (table .entry)) (now (first .entry)) (now (second .entry)) allowance (length (now (workspace .entry))))) r (now (values .exit)) ⌝ }
-    ensures workspace { λ r. ⌜ now (workspace .exit) ≡ workspaceAfter (compare (now (table .entry)) (now (first .entry)) (now (second .entry)) allowance (length (now (workspace .entry)))) (now (workspace .entry)) ⌝ }
-    ensures meaning { λ r. ⌜ Meant verdictTold (Meaning (now (table .entry)) (now (first .entry)) (now (second .entry)) allowance (length (now (workspace .entry))) (λ T v. answered v)) r (now (values .exit)) ⌝ }
+    ensures told { λ r. ⌜ Tells
+        (told verdictTold (compare (now (table .entry)) (now (first .entry)) (now (second .entry)) allowance (length (now (workspace .entry))))) r
+        (now (values .exit)) ⌝ }
+    ensures workspace { λ r.
+        ⌜ now (workspace .exit) ≡ workspaceAfter
+        (compare (now (table .entry)) (now (first .entry)) (now (second .entry)) allowance (length (now (workspace .entry)))) (now (workspace .entry)) ⌝ }
+    ensures meaning { λ r. ⌜ Meant verdictTold
+        (Meaning (now (table .entry)) (now (first .entry)) (now (second .entry)) allowance (length (now (workspace .entry))) (λ T v. answered v)) r
+        (now (values .exit)) ⌝ }
 {
     let compared = compare(table, first, second, allowance, workspace);
     tell(of_compared(compared), values)
@@ -205,9 +247,14 @@ pub extern "C" fn braid_compare_signed(
     workspace: &mut [u8],
     values: &mut [u64; 4],
 ) -> u8
-    ensures told { λ r. ⌜ Tells (told signedTold (compareSigned (now (table .entry)) (now (first .entry)) (now (second .entry)) allowance (length (now (workspace .entry))))) r (now (values .exit)) ⌝ }
-    ensures workspace { λ r. ⌜ now (workspace .exit) ≡ workspaceAfter (compareSigned (now (table .entry)) (now (first .entry)) (now (second .entry)) allowance (length (now (workspace .entry)))) (now (workspace .entry)) ⌝ }
-    ensures meaning { λ r. ⌜ Meant signedTold (SignedSays (now (table .entry)) (now (first .entry)) (now (second .entry)) allowance (length (now (workspace .entry)))) r (now (values .exit)) ⌝ }
+    ensures told { λ r. ⌜ Tells
+        (told signedTold (compareSigned (now (table .entry)) (now (first .entry)) (now (second .entry)) allowance (length (now (workspace .entry))))) r
+        (now (values .exit)) ⌝ }
+    ensures workspace { λ r.
+        ⌜ now (workspace .exit) ≡ workspaceAfter
+        (compareSigned (now (table .entry)) (now (first .entry)) (now (second .entry)) allowance (length (now (workspace .entry)))) (now (workspace .entry)) ⌝ }
+    ensures meaning { λ r. ⌜ Meant signedTold
+        (SignedSays (now (table .entry)) (now (first .entry)) (now (second .entry)) allowance (length (now (workspace .entry)))) r (now (values .exit)) ⌝ }
 {
     let compared = compare_signed(table, first, second, allowance, workspace);
     tell(of_compared_signed(compared), values)
@@ -223,11 +270,20 @@ pub extern "C" fn braid_chain(
     answer: &mut [u8],
     values: &mut [u64; 4],
 ) -> u8
-    ensures told { λ r. ⌜ Tells (told chainTold (chain (now (table .entry)) (now (first .entry)) (now (second .entry)) allowance (length (now (workspace .entry))) (length (now (answer .entry))))) r (now (values .exit)) ⌝ }
-    ensures workspace { λ r. ⌜ now (workspace .exit) ≡ workspaceAfter (chain (now (table .entry)) (now (first .entry)) (now (second .entry)) allowance (length (now (workspace .entry))) (length (now (answer .entry)))) (now (workspace .entry)) ⌝ }
-    ensures area { λ r. ⌜ ChainArea (now (table .entry)) (now (first .entry)) (now (second .entry)) (now (answer .entry)) (now (answer .exit)) (chain (now (table .entry)) (now (first .entry)) (now (second .entry)) allowance (length (now (workspace .entry))) (length (now (answer .entry)))) ⌝ }
-    ensures checks { λ r. ⌜ ListedChecks (now (table .entry)) (now (first .entry)) (now (second .entry)) (now (answer .entry)) (now (answer .exit)) (chain (now (table .entry)) (now (first .entry)) (now (second .entry)) allowance (length (now (workspace .entry))) (length (now (answer .entry)))) ⌝ }
-    ensures meaning { λ r. ⌜ Meant chainTold (ChainSays (now (table .entry)) (now (first .entry)) (now (second .entry)) allowance (length (now (workspace .entry))) (now (answer .entry)) (now (answer .exit))) r (now (values .exit)) ⌝ }
+    ensures told { λ r. ⌜ Tells
+        (told chainTold (chain (now (table .entry)) (now (first .entry)) (now (second .entry)) allowance (length (now (workspace .entry)))
+        (length (now (answer .entry))))) r (now (values .exit)) ⌝ }
+    ensures workspace { λ r.
+        ⌜ now (workspace .exit) ≡ workspaceAfter
+        (chain (now (table .entry)) (now (first .entry)) (now (second .entry)) allowance (length (now (workspace .entry))) (length (now (answer .entry))))
+        (now (workspace .entry)) ⌝ }
+    ensures area { λ r. ⌜ ChainArea (now (table .entry)) (now (first .entry)) (now (second .entry)) (now (answer .entry)) (now (answer .exit))
+        (chain (now (table .entry)) (now (first .entry)) (now (second .entry)) allowance (length (now (workspace .entry))) (length (now (answer .entry)))) ⌝ }
+    ensures checks { λ r. ⌜ ListedChecks (now (table .entry)) (now (first .entry)) (now (second .entry)) (now (answer .entry)) (now (answer .exit))
+        (chain (now (table .entry)) (now (first .entry)) (now (second .entry)) allowance (length (now (workspace .entry))) (length (now (answer .entry)))) ⌝ }
+    ensures meaning { λ r. ⌜ Meant chainTold
+        (ChainSays (now (table .entry)) (now (first .entry)) (now (second .entry)) allowance (length (now (workspace .entry))) (now (answer .entry))
+        (now (answer .exit))) r (now (values .exit)) ⌝ }
 {
     let chained = chain(table, first, second, allowance, workspace, answer);
     tell(of_chained(chained), values)
@@ -243,10 +299,20 @@ pub extern "C" fn braid_remainder(
     answer: &mut [u8],
     values: &mut [u64; 4],
 ) -> u8
-    ensures told { λ r. ⌜ Tells (told remainderTold (mapped counted (remainder (now (table .entry)) (now (done .entry)) (now (pattern .entry)) allowance (length (now (workspace .entry))) (length (now (answer .entry)))))) r (now (values .exit)) ⌝ }
-    ensures answer { λ r. ⌜ now (answer .exit) ≡ outputAfter remainderBytes (remainder (now (table .entry)) (now (done .entry)) (now (pattern .entry)) allowance (length (now (workspace .entry))) (length (now (answer .entry)))) (now (answer .entry)) ⌝ }
-    ensures workspace { λ r. ⌜ now (workspace .exit) ≡ workspaceAfter (remainder (now (table .entry)) (now (done .entry)) (now (pattern .entry)) allowance (length (now (workspace .entry))) (length (now (answer .entry)))) (now (workspace .entry)) ⌝ }
-    ensures meaning { λ r. ⌜ Meant remainderTold (λ o. RemainderMeaning (now (table .entry)) (now (done .entry)) (now (pattern .entry)) allowance (length (now (workspace .entry))) (length (now (answer .entry))) o (now (answer .exit))) r (now (values .exit)) ⌝ }
+    ensures told { λ r. ⌜ Tells
+        (told remainderTold (mapped counted
+        (remainder (now (table .entry)) (now (done .entry)) (now (pattern .entry)) allowance (length (now (workspace .entry))) (length (now (answer .entry))))))
+        r (now (values .exit)) ⌝ }
+    ensures answer { λ r. ⌜ now (answer .exit) ≡ outputAfter remainderBytes
+        (remainder (now (table .entry)) (now (done .entry)) (now (pattern .entry)) allowance (length (now (workspace .entry))) (length (now (answer .entry))))
+        (now (answer .entry)) ⌝ }
+    ensures workspace { λ r.
+        ⌜ now (workspace .exit) ≡ workspaceAfter
+        (remainder (now (table .entry)) (now (done .entry)) (now (pattern .entry)) allowance (length (now (workspace .entry))) (length (now (answer .entry))))
+        (now (workspace .entry)) ⌝ }
+    ensures meaning { λ r. ⌜ Meant remainderTold
+        (λ o. RemainderMeaning (now (table .entry)) (now (done .entry)) (now (pattern .entry)) allowance (length (now (workspace .entry)))
+        (length (now (answer .entry))) o (now (answer .exit))) r (now (values .exit)) ⌝ }
 {
     let remaining = remainder(table, done, pattern, allowance, workspace, answer);
     tell(of_remaining(remaining), values)
@@ -261,9 +327,16 @@ pub extern "C" fn braid_check(
     workspace: &mut [u8],
     values: &mut [u64; 4],
 ) -> u8
-    ensures told { λ r. ⌜ Tells (told passageTold (check (now (table .entry)) (now (first .entry)) (now (second .entry)) (now (entries .entry)) (length (now (workspace .entry))))) r (now (values .exit)) ⌝ }
-    ensures workspace { λ r. ⌜ now (workspace .exit) ≡ workspaceAfter (check (now (table .entry)) (now (first .entry)) (now (second .entry)) (now (entries .entry)) (length (now (workspace .entry)))) (now (workspace .entry)) ⌝ }
-    ensures meaning { λ r. ⌜ Meant passageTold (CheckMeaning (now (table .entry)) (now (first .entry)) (now (second .entry)) (now (entries .entry)) (length (now (workspace .entry)))) r (now (values .exit)) ⌝ }
+    ensures told { λ r. ⌜ Tells
+        (told passageTold (check (now (table .entry)) (now (first .entry)) (now (second .entry)) (now (entries .entry)) (length (now (workspace .entry))))) r
+        (now (values .exit)) ⌝ }
+    ensures workspace { λ r.
+        ⌜ now (workspace .exit) ≡ workspaceAfter
+        (check (now (table .entry)) (now (first .entry)) (now (second .entry)) (now (entries .entry)) (length (now (workspace .entry))))
+        (now (workspace .entry)) ⌝ }
+    ensures meaning { λ r. ⌜ Meant passageTold
+        (CheckMeaning (now (table .entry)) (now (first .entry)) (now (second .entry)) (now (entries .entry)) (length (now (workspace .entry)))) r
+        (now (values .exit)) ⌝ }
 {
     let checked = check(table, first, second, entries, workspace);
     tell(of_checked(checked), values)
@@ -271,10 +344,8 @@ pub extern "C" fn braid_check(
 
 #[no_mangle]
 pub extern "C" fn braid_pack_table(plain: &[u8], answer: &mut [u8], values: &mut [u64; 4]) -> u8
-    ensures told { λ r. ⌜ Tells (told bytesTold (mapped length (packTable (now (plain .entry)) (length (now (answer .entry)))))) r (now (values .exit)) ⌝ }
-    ensures answer { λ r. ⌜ now (answer .exit) ≡ outputAfter (λ b. b) (packTable (now (plain .entry)) (length (now (answer .entry)))) (now (answer .entry)) ⌝ }
-    ensures readable { λ r. ⌜ Meant bytesTold (λ o. ReadsBack (readPlainTable (now (plain .entry))) readTable o (now (answer .exit))) r (now (values .exit)) ⌝ }
-    ensures undone { λ r. ⌜ Meant bytesTold (λ o. Undone unpackTable (now (plain .entry)) o (now (answer .exit))) r (now (values .exit)) ⌝ }
+    ensures { λ r. ⌜ Meant bytesTold
+        (PackPromise packTable unpackTable readPlainTable readTable (now (plain .entry)) (now (answer .entry)) (now (answer .exit))) r (now (values .exit)) ⌝ }
 {
     let packed = pack_table::pack(plain, answer);
     tell(of_packed(packed), values)
@@ -282,10 +353,8 @@ pub extern "C" fn braid_pack_table(plain: &[u8], answer: &mut [u8], values: &mut
 
 #[no_mangle]
 pub extern "C" fn braid_unpack_table(table: &[u8], answer: &mut [u8], values: &mut [u64; 4]) -> u8
-    ensures told { λ r. ⌜ Tells (told bytesTold (mapped length (unpackTable (now (table .entry)) (length (now (answer .entry)))))) r (now (values .exit)) ⌝ }
-    ensures answer { λ r. ⌜ now (answer .exit) ≡ outputAfter (λ b. b) (unpackTable (now (table .entry)) (length (now (answer .entry)))) (now (answer .entry)) ⌝ }
-    ensures readable { λ r. ⌜ Meant bytesTold (λ o. ReadsBack (readTable (now (table .entry))) readPlainTable o (now (answer .exit))) r (now (values .exit)) ⌝ }
-    ensures undone { λ r. ⌜ Meant bytesTold (λ o. Undone packTable (now (table .entry)) o (now (answer .exit))) r (now (values .exit)) ⌝ }
+    ensures { λ r. ⌜ Meant bytesTold
+        (PackPromise unpackTable packTable readTable readPlainTable (now (table .entry)) (now (answer .entry)) (now (answer .exit))) r (now (values .exit)) ⌝ }
 {
     let unpacked = unpack_table::unpack(table, answer);
     tell(of_packed(unpacked), values)
@@ -298,10 +367,9 @@ pub extern "C" fn braid_pack_program(
     answer: &mut [u8],
     values: &mut [u64; 4],
 ) -> u8
-    ensures told { λ r. ⌜ Tells (told bytesTold (mapped length (packProgram (now (table .entry)) (now (plain .entry)) (length (now (answer .entry)))))) r (now (values .exit)) ⌝ }
-    ensures answer { λ r. ⌜ now (answer .exit) ≡ outputAfter (λ b. b) (packProgram (now (table .entry)) (now (plain .entry)) (length (now (answer .entry)))) (now (answer .entry)) ⌝ }
-    ensures readable { λ r. ⌜ Meant bytesTold (λ o. ReadsBack (plainProgramUnder (now (table .entry)) (now (plain .entry))) (programUnder (now (table .entry))) o (now (answer .exit))) r (now (values .exit)) ⌝ }
-    ensures undone { λ r. ⌜ Meant bytesTold (λ o. Undone (unpackProgram (now (table .entry))) (now (plain .entry)) o (now (answer .exit))) r (now (values .exit)) ⌝ }
+    ensures { λ r. ⌜ Meant bytesTold
+        (PackPromise (packProgram (now (table .entry))) (unpackProgram (now (table .entry))) (plainProgramUnder (now (table .entry)))
+        (programUnder (now (table .entry))) (now (plain .entry)) (now (answer .entry)) (now (answer .exit))) r (now (values .exit)) ⌝ }
 {
     let packed = pack_program::pack(table, plain, answer);
     tell(of_packed(packed), values)
@@ -314,10 +382,9 @@ pub extern "C" fn braid_unpack_program(
     answer: &mut [u8],
     values: &mut [u64; 4],
 ) -> u8
-    ensures told { λ r. ⌜ Tells (told bytesTold (mapped length (unpackProgram (now (table .entry)) (now (program .entry)) (length (now (answer .entry)))))) r (now (values .exit)) ⌝ }
-    ensures answer { λ r. ⌜ now (answer .exit) ≡ outputAfter (λ b. b) (unpackProgram (now (table .entry)) (now (program .entry)) (length (now (answer .entry)))) (now (answer .entry)) ⌝ }
-    ensures readable { λ r. ⌜ Meant bytesTold (λ o. ReadsBack (programUnder (now (table .entry)) (now (program .entry))) (plainProgramUnder (now (table .entry))) o (now (answer .exit))) r (now (values .exit)) ⌝ }
-    ensures undone { λ r. ⌜ Meant bytesTold (λ o. Undone (packProgram (now (table .entry))) (now (program .entry)) o (now (answer .exit))) r (now (values .exit)) ⌝ }
+    ensures { λ r. ⌜ Meant bytesTold
+        (PackPromise (unpackProgram (now (table .entry))) (packProgram (now (table .entry))) (programUnder (now (table .entry)))
+        (plainProgramUnder (now (table .entry))) (now (program .entry)) (now (answer .entry)) (now (answer .exit))) r (now (values .exit)) ⌝ }
 {
     let unpacked = unpack_program::unpack(table, program, answer);
     tell(of_packed(unpacked), values)
@@ -331,9 +398,8 @@ pub extern "C" fn braid_bed(
     answer: &mut [u8],
     values: &mut [u64; 4],
 ) -> u8
-    ensures told { λ r. ⌜ Tells (told bytesTold (mapped length (bed (now (table .entry)) (now (program .entry)) moves (length (now (answer .entry)))))) r (now (values .exit)) ⌝ }
-    ensures answer { λ r. ⌜ now (answer .exit) ≡ outputAfter (λ b. b) (bed (now (table .entry)) (now (program .entry)) moves (length (now (answer .entry)))) (now (answer .entry)) ⌝ }
-    ensures meaning { λ r. ⌜ Meant bytesTold (λ o. BedSays (now (table .entry)) (now (program .entry)) moves o (now (answer .exit))) r (now (values .exit)) ⌝ }
+    ensures { λ r. ⌜ Meant bytesTold (BedPromise (now (table .entry)) (now (program .entry)) moves (now (answer .entry)) (now (answer .exit))) r
+        (now (values .exit)) ⌝ }
 {
     let shown = bed(table, program, moves, answer);
     tell(of_packed(shown), values)
@@ -346,9 +412,8 @@ pub extern "C" fn braid_ways(
     answer: &mut [u8],
     values: &mut [u64; 4],
 ) -> u8
-    ensures told { λ r. ⌜ Tells (told countsTold (mapped counts (ways (now (table .entry)) (now (program .entry)) (length (now (answer .entry)))))) r (now (values .exit)) ⌝ }
-    ensures answer { λ r. ⌜ now (answer .exit) ≡ waysArea (ways (now (table .entry)) (now (program .entry)) (length (now (answer .entry)))) (now (answer .entry)) ⌝ }
-    ensures meaning { λ r. ⌜ Meant countsTold (λ o. WaysSay (now (table .entry)) (now (program .entry)) o (now (answer .exit))) r (now (values .exit)) ⌝ }
+    ensures { λ r. ⌜ Meant countsTold (WaysPromise (now (table .entry)) (now (program .entry)) (now (answer .entry)) (now (answer .exit))) r
+        (now (values .exit)) ⌝ }
 {
     let listed = ways(table, program, answer);
     tell(of_ways(listed), values)
@@ -361,9 +426,8 @@ pub extern "C" fn braid_import(
     answer: &mut [u8],
     values: &mut [u64; 4],
 ) -> u8
-    ensures told { λ r. ⌜ Tells (told bytesTold (mapped length (import (now (table .entry)) (now (text .entry)) (length (now (answer .entry)))))) r (now (values .exit)) ⌝ }
-    ensures answer { λ r. ⌜ now (answer .exit) ≡ outputAfter plainProgram (import (now (table .entry)) (now (text .entry)) (length (now (answer .entry)))) (now (answer .entry)) ⌝ }
-    ensures meaning { λ r. ⌜ Meant bytesTold (λ o. ImportSays (now (table .entry)) (now (text .entry)) o (now (answer .exit))) r (now (values .exit)) ⌝ }
+    ensures { λ r. ⌜ Meant bytesTold (ImportPromise (now (table .entry)) (now (text .entry)) (now (answer .entry)) (now (answer .exit))) r
+        (now (values .exit)) ⌝ }
 {
     let imported = import(table, text, answer);
     tell(of_packed(imported), values)
@@ -379,10 +443,9 @@ pub extern "C" fn braid_tray(
     answer: &mut [u8],
     values: &mut [u64; 4],
 ) -> u8
-    ensures told { λ r. ⌜ Tells (told logsTold (mapped length (tray (now (table .entry)) (now (logs .entry)) (now (pattern .entry)) allowance (length (now (workspace .entry))) (length (now (answer .entry)))))) r (now (values .exit)) ⌝ }
-    ensures answer { λ r. ⌜ now (answer .exit) ≡ outputAfter trayBytes (tray (now (table .entry)) (now (logs .entry)) (now (pattern .entry)) allowance (length (now (workspace .entry))) (length (now (answer .entry)))) (now (answer .entry)) ⌝ }
-    ensures workspace { λ r. ⌜ now (workspace .exit) ≡ workspaceAfter (tray (now (table .entry)) (now (logs .entry)) (now (pattern .entry)) allowance (length (now (workspace .entry))) (length (now (answer .entry)))) (now (workspace .entry)) ⌝ }
-    ensures meaning { λ r. ⌜ Meant logsTold (λ o. TraySays (now (table .entry)) (now (logs .entry)) (now (pattern .entry)) allowance (length (now (workspace .entry))) o (now (answer .exit))) r (now (values .exit)) ⌝ }
+    ensures { λ r. ⌜ Meant logsTold
+        (TrayPromise (now (table .entry)) (now (logs .entry)) (now (pattern .entry)) allowance (now (workspace .entry)) (now (workspace .exit))
+        (now (answer .entry)) (now (answer .exit))) r (now (values .exit)) ⌝ }
 {
     let compared = tray(table, logs, pattern, allowance, workspace, answer);
     tell(of_tray_compared(compared), values)

@@ -29,7 +29,7 @@ use Rattle.engine.proofs.Letters.{letter-forward, letter-back}
 use Rattle.importing.specs.declared.reading.Span.{Span}
 use Rattle.importing.specs.Reading.{capped, keptPattern}
 use Rattle.importing.specs.Laying.{WordPut, PatternFits, PatternLaid}
-use Rattle.importing.specs.Import.{TextOf, textOutcome, Answers, TextIs, Comes, ImportSays}
+use Rattle.importing.specs.Import.{TextOf, textOutcome, Answers, TextIs, Comes, ImportSays, ImportPromise}
 use Rattle.importing.proofs.Keeping.{Answered, kept-answered, kept-refused, capped-low, capped-high}
 
 -- THE WHOLE TEXT
@@ -232,16 +232,14 @@ module _ (table text before after : List ℕ) (r : Packed) (a : Answers (import 
   from-table (answered T) e = from-text T e (readText text) refl
   from-table (refused n place) e = by-table n place e
 
-  pub promised : (packedAs r ≡ mapped length (import table text (length before)))
-      × ((after ≡ outputAfter plainProgram (import table text (length before)) before) × ImportSays table text (packedAs r) after)
-  promised = (
-    a .0,
-    (
-      a .1,
-      record {
-        comes = from-table (readTable table) refl;
-        one-pattern = λ p q is is′. notation-meaning .one-tree p q (is .0) (is′ .0) (is .1 ∙ sym (is′ .1));
-        notation = notation-meaning;
-      },
-    ),
-  )
+  pub promised : ImportPromise table text before after (packedAs r)
+  promised = record {
+    stated = a .0;
+    answer-is = a .1;
+    meaning =
+        record {
+          comes = from-table (readTable table) refl;
+          one-pattern = λ p q is is′. notation-meaning .one-tree p q (is .0) (is′ .0) (is .1 ∙ sym (is′ .1));
+          notation = notation-meaning;
+        };
+  }

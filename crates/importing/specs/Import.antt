@@ -17,6 +17,7 @@ use Rattle.importing.specs.declared.reading.Span.{Span}
 use Rattle.importing.specs.declared.reading.Reading.{Reading}
 use Rattle.importing.specs.declared.reading.Reading.the-variants.{Read as SpanRead, NotPattern}
 use Rattle.importing.specs.Reading.{capped}
+use Rattle.model.specs.Notation.{import}
 
 -- the pattern that a text is, by the reader of patterns too
 pub record TextOf (text : List ℕ) (s : Span) : Type 0 where
@@ -70,3 +71,9 @@ pub record ImportSays (table text : List ℕ) (told : Outcome ℕ) (area : List 
   pub one-pattern : (p q : Pattern) → TextIs text p → TextIs text q → p ≡ q
   -- what holds of every text that is read, and of the text of every pattern in range
   pub notation : NotationMeaning
+
+-- THE SERVICE'S PROMISE (6.17): the outcome that is told, the answer area after the call, and what the answer says
+pub record ImportPromise (table text answer answer′ : List ℕ) (outcome : Outcome ℕ) : Type 0 where
+  pub stated : outcome ≡ mapped length (import table text (length answer))
+  pub answer-is : answer′ ≡ outputAfter plainProgram (import table text (length answer)) answer
+  pub meaning : ImportSays table text outcome answer′

@@ -8,14 +8,9 @@ use images::tables::TableRead;
 use model::answers::Packed;
 use model::answers::Refusal;
 use model::plain::MOST_LETTERS;
-ghost use mathlib.Core.Path.{_≡_};
-ghost use lib.ListN.{length};
-ghost use Rattle.model.specs.Outcome.{mapped};
-ghost use Rattle.model.specs.Plain.{plainProgram};
-ghost use Rattle.model.specs.Areas.{outputAfter};
 ghost use Rattle.model.specs.Stated.{packedAs};
 ghost use Rattle.model.specs.Notation.{import};
-ghost use Rattle.importing.specs.Import.{TextDone, TextAnswered, ImportSays};
+ghost use Rattle.importing.specs.Import.{TextDone, TextAnswered, ImportPromise};
 
 // How deep brackets nest.
 pub const MOST_NESTED: u8 = 8;
@@ -59,10 +54,7 @@ pub fn import_text(text: &[u8], size: u8, answer: &mut [u8]) -> Packed
 }
 
 pub fn import(table: &[u8], text: &[u8], answer: &mut [u8]) -> Packed
-    ensures stated { λ r. ⌜ packedAs r ≡ mapped length (import (now (table .entry)) (now (text .entry)) (length (now (answer .entry)))) ⌝ }
-    ensures answer { λ r. ⌜ now (answer .exit) ≡ outputAfter plainProgram (import (now (table .entry)) (now (text .entry)) (length (now (answer .entry))))
-        (now (answer .entry)) ⌝ }
-    ensures meaning { λ r. ⌜ ImportSays (now (table .entry)) (now (text .entry)) (packedAs r) (now (answer .exit)) ⌝ }
+    ensures { λ r. ⌜ ImportPromise (now (table .entry)) (now (text .entry)) (now (answer .entry)) (now (answer .exit)) (packedAs r) ⌝ }
 {
     match tables::table_size(table) {
         TableRead::Refused(refusal) => Packed::Refused(refusal),

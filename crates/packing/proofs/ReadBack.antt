@@ -10,14 +10,14 @@ use Rattle.model.specs.Presentation.{Presentation}
 use Rattle.model.specs.Word.{Word}
 use Rattle.model.specs.Outcome.{Outcome, answered, refused, _>>=_, mapped}
 use Rattle.model.specs.Range.{AreBytes}
-use Rattle.model.specs.Areas.{outputAfter}
+use Rattle.model.specs.Areas.{outputAfter, ReadsBack}
 use Rattle.model.specs.Images.{readTable, readProgram, programImage, tableImage}
 use Rattle.model.specs.Plain.{plainProgram, readPlainProgram, readPlainTable, plainTable}
 use Rattle.model.specs.Services.{fitted, programUnder, plainProgramUnder, unpackProgram, packProgram, packTable, unpackTable}
 use Rattle.model.proofs.Impossible.{impossible, answer-of, same-answer, not-refused}
 use Rattle.images.proofs.RoundTrip.{table-reads-back, table-image-of, table-in-range, program-reads-back, program-image-of, program-in-range}
 use Rattle.plain_forms.proofs.PlainTrip.{plain-table-reads-back, plain-table-of, plain-program-reads-back, plain-program-of}
-use Rattle.packing.specs.RoundTrips.{Undone}
+use Rattle.packing.specs.RoundTrips.{Undone, PackPromise}
 use Rattle.packing.proofs.Packing.{long-area}
 
 -- THE BYTES WRITTEN ARE READ AS THE SUBJECT
@@ -117,8 +117,9 @@ module _ (there back : List ℕ → ℕ → Outcome (List ℕ)) (undoes : Undoes
       ap (take k) (a ∙ ap (λ o. outputAfter (λ b. b) o before) e) ∙ take-at image (drop (length image) before) k long in
       ap (λ l. back l room) taken ∙ undoes bytes bs (length before) image e room fits
 
-  -- what a service promises of its outcome, and that this is undone
-  pub undone-too : {R : Type 0} → (told ≡ mapped length (there bytes (length before))) × ((after ≡ outputAfter (λ b. b) (there bytes (length before)) before) × R)
-      → (told ≡ mapped length (there bytes (length before)))
-      × ((after ≡ outputAfter (λ b. b) (there bytes (length before)) before) × (R × Undone back bytes told after))
-  undone-too p = (p .0, (p .1 .0, (p .1 .1, undone-by (p .0) (p .1 .0) (there bytes (length before)) refl)))
+  -- what a service promises
+  pub promised : {A : Type 0} (here read : List ℕ → Outcome A) → (told ≡ mapped length (there bytes (length before)))
+      × ((after ≡ outputAfter (λ b. b) (there bytes (length before)) before) × ReadsBack (here bytes) read told after)
+      → PackPromise there back here read bytes before after told
+  promised here read p =
+      record { stated = p .0; answer-is = p .1 .0; readable = p .1 .1; undone = undone-by (p .0) (p .1 .0) (there bytes (length before)) refl }

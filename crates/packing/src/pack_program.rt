@@ -6,19 +6,13 @@ use model::answers::Packed;
 use plain_forms::reading::PlainRead;
 use plain_forms::reading::read_plain_program;
 use writers::programs::write_program;
-ghost use mathlib.Core.Path.{_≡_};
-ghost use lib.ListN.{length};
-ghost use Rattle.model.specs.Outcome.{mapped};
-ghost use Rattle.model.specs.Areas.{outputAfter, ReadsBack};
 ghost use Rattle.model.specs.Stated.{packedAs};
 ghost use Rattle.model.specs.Services.{packProgram, programUnder, plainProgramUnder, unpackProgram};
-ghost use Rattle.packing.specs.RoundTrips.{Undone};
+ghost use Rattle.packing.specs.RoundTrips.{PackPromise};
 
 pub fn pack(table: &[u8], plain: &[u8], answer: &mut [u8]) -> Packed
-    ensures stated { λ r. ⌜ packedAs r ≡ mapped length (packProgram (now (table .entry)) (now (plain .entry)) (length (now (answer .entry)))) ⌝ }
-    ensures answer { λ r. ⌜ now (answer .exit) ≡ outputAfter (λ b. b) (packProgram (now (table .entry)) (now (plain .entry)) (length (now (answer .entry)))) (now (answer .entry)) ⌝ }
-    ensures readable { λ r. ⌜ ReadsBack (plainProgramUnder (now (table .entry)) (now (plain .entry))) (programUnder (now (table .entry))) (packedAs r) (now (answer .exit)) ⌝ }
-    ensures undone { λ r. ⌜ Undone (unpackProgram (now (table .entry))) (now (plain .entry)) (packedAs r) (now (answer .exit)) ⌝ }
+    ensures { λ r. ⌜ PackPromise (packProgram (now (table .entry))) (unpackProgram (now (table .entry))) (plainProgramUnder (now (table .entry)))
+        (programUnder (now (table .entry))) (now (plain .entry)) (now (answer .entry)) (now (answer .exit)) (packedAs r) ⌝ }
 {
     match tables::table_size(table) {
         TableRead::Refused(refusal) => Packed::Refused(refusal),

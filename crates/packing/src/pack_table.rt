@@ -6,21 +6,14 @@ use model::answers::Packed;
 use plain_forms::reading::read_plain_table;
 use writers::forms::image_form;
 use writers::tables::write_table;
-ghost use mathlib.Core.Path.{_≡_};
-ghost use lib.ListN.{length};
-ghost use Rattle.model.specs.Outcome.{mapped};
-ghost use Rattle.model.specs.Areas.{outputAfter, ReadsBack};
 ghost use Rattle.model.specs.Stated.{packedAs};
 ghost use Rattle.model.specs.Images.{readTable};
 ghost use Rattle.model.specs.Plain.{readPlainTable};
 ghost use Rattle.model.specs.Services.{packTable, unpackTable};
-ghost use Rattle.packing.specs.RoundTrips.{Undone};
+ghost use Rattle.packing.specs.RoundTrips.{PackPromise};
 
 pub fn pack(plain: &[u8], answer: &mut [u8]) -> Packed
-    ensures stated { λ r. ⌜ packedAs r ≡ mapped length (packTable (now (plain .entry)) (length (now (answer .entry)))) ⌝ }
-    ensures answer { λ r. ⌜ now (answer .exit) ≡ outputAfter (λ b. b) (packTable (now (plain .entry)) (length (now (answer .entry)))) (now (answer .entry)) ⌝ }
-    ensures readable { λ r. ⌜ ReadsBack (readPlainTable (now (plain .entry))) readTable (packedAs r) (now (answer .exit)) ⌝ }
-    ensures undone { λ r. ⌜ Undone unpackTable (now (plain .entry)) (packedAs r) (now (answer .exit)) ⌝ }
+    ensures { λ r. ⌜ PackPromise packTable unpackTable readPlainTable readTable (now (plain .entry)) (now (answer .entry)) (now (answer .exit)) (packedAs r) ⌝ }
 {
     let mut cells = [0u8; CELLS];
     match read_plain_table(plain, &mut cells) {

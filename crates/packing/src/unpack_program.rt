@@ -7,19 +7,13 @@ use images::tables;
 use images::tables::TableRead;
 use model::answers::Packed;
 use model::answers::Refusal;
-ghost use mathlib.Core.Path.{_≡_};
-ghost use lib.ListN.{length};
-ghost use Rattle.model.specs.Outcome.{mapped};
-ghost use Rattle.model.specs.Areas.{outputAfter, ReadsBack};
 ghost use Rattle.model.specs.Stated.{packedAs};
 ghost use Rattle.model.specs.Services.{unpackProgram, programUnder, plainProgramUnder, packProgram};
-ghost use Rattle.packing.specs.RoundTrips.{Undone};
+ghost use Rattle.packing.specs.RoundTrips.{PackPromise};
 
 pub fn unpack(table: &[u8], program: &[u8], answer: &mut [u8]) -> Packed
-    ensures stated { λ r. ⌜ packedAs r ≡ mapped length (unpackProgram (now (table .entry)) (now (program .entry)) (length (now (answer .entry)))) ⌝ }
-    ensures answer { λ r. ⌜ now (answer .exit) ≡ outputAfter (λ b. b) (unpackProgram (now (table .entry)) (now (program .entry)) (length (now (answer .entry)))) (now (answer .entry)) ⌝ }
-    ensures readable { λ r. ⌜ ReadsBack (programUnder (now (table .entry)) (now (program .entry))) (plainProgramUnder (now (table .entry))) (packedAs r) (now (answer .exit)) ⌝ }
-    ensures undone { λ r. ⌜ Undone (packProgram (now (table .entry))) (now (program .entry)) (packedAs r) (now (answer .exit)) ⌝ }
+    ensures { λ r. ⌜ PackPromise (unpackProgram (now (table .entry))) (packProgram (now (table .entry))) (programUnder (now (table .entry)))
+        (plainProgramUnder (now (table .entry))) (now (program .entry)) (now (answer .entry)) (now (answer .exit)) (packedAs r) ⌝ }
 {
     let mut cells = [0u8; CELLS];
     match tables::read_table(table, &mut cells) {

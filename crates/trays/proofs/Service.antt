@@ -30,7 +30,7 @@ use Rattle.loading.proofs.Early.{Early}
 use Rattle.loading.proofs.Outcomes.{refused-stated, refused-output, refused-workspace}
 use Rattle.loading.proofs.Reading.{program-still-refused, program-runs}
 use Rattle.trays.specs.Tray.{logVerdict, trayVerdicts, States}
-use Rattle.trays.specs.Meaning.{Told, told-same, told-different, by-allowance as stopped-by-allowance, by-memory as stopped-by-memory, LogSays, LogMeans, TraySays}
+use Rattle.trays.specs.Meaning.{Told, told-same, told-different, by-allowance as stopped-by-allowance, by-memory as stopped-by-memory, LogSays, LogMeans, TraySays, TrayPromise}
 use Rattle.trays.proofs.Answering.{log-bytes-long, answers-long, answers-append}
 
 -- the area begins with what is written at its start
@@ -251,21 +251,18 @@ pub tray-says : (table logs pattern : List ℕ) (steps width : ℕ) (before : Li
 tray-says table logs pattern steps width before (refused n place) e after a = tt
 tray-says table logs pattern steps width before (answered vs) e after a = log-means table logs pattern steps width before vs e after a
 
--- the four promises of the service
+-- what the service promises
 module _ (table logs pattern : List ℕ) (steps : ℕ) (workspace workspace-after before after : List ℕ) (r : TrayCompared) where
   abbrev result : Outcome (List (Outcome Verdict))
   result = tray table logs pattern steps (length workspace) (length before)
 
   pub promised : States result workspace workspace-after before after r
-      → (trayCompared r ≡ mapped length result) × ((after ≡ outputAfter trayBytes result before) × ((workspace-after ≡ workspaceAfter result workspace)
-      × TraySays table logs pattern steps (length workspace) (trayCompared r) after))
-  promised s = (
-    s .result,
-    (
-      s .answer,
-      (
-        s .workspace,
-        subst (λ o. TraySays table logs pattern steps (length workspace) o after) (sym (s .result)) (tray-says table logs pattern steps (length workspace) before result refl after (s .answer)),
-      ),
-    ),
-  )
+      → TrayPromise table logs pattern steps workspace workspace-after before after (trayCompared r)
+  promised s = record {
+    stated = s .result;
+    answer-is = s .answer;
+    workspace-is = s .workspace;
+    meaning =
+        subst (λ o. TraySays table logs pattern steps (length workspace) o after) (sym (s .result))
+        (tray-says table logs pattern steps (length workspace) before result refl after (s .answer));
+  }

@@ -12,6 +12,9 @@ use Rattle.model.specs.Images.{readTable}
 use Rattle.model.specs.Services.{readForward}
 use Rattle.model.specs.Areas.{Compares}
 use Rattle.model.specs.Tray.{readTray}
+use Rattle.model.specs.Outcome.{mapped}
+use Rattle.model.specs.Areas.{outputAfter, workspaceAfter}
+use Rattle.model.specs.Tray.{trayBytes, tray as trayOutcome}
 
 -- same or different, with two bytes of steps, or a stop without steps by allowance or memory
 pub data Told : List ℕ → Type 0 where
@@ -47,3 +50,10 @@ TraySays table tray pattern steps width (refused n place) area = Unit {0}
 TraySays table tray pattern steps width (answered logs) area =
     (earlier later : List (List ℕ)) (log : List ℕ) → readTray tray ≡ answered (earlier ++ (log ∷ later))
     → LogMeans table log pattern steps width (take 3 (drop (3 * length earlier) area))
+
+-- THE SERVICE'S PROMISE (6.19): the outcome that is told, both areas after the call, and what the answer says
+pub record TrayPromise (table tray pattern : List ℕ) (allowance : ℕ) (workspace workspace′ answer answer′ : List ℕ) (outcome : Outcome ℕ) : Type 0 where
+  pub stated : outcome ≡ mapped length (trayOutcome table tray pattern allowance (length workspace) (length answer))
+  pub answer-is : answer′ ≡ outputAfter trayBytes (trayOutcome table tray pattern allowance (length workspace) (length answer)) answer
+  pub workspace-is : workspace′ ≡ workspaceAfter (trayOutcome table tray pattern allowance (length workspace) (length answer)) workspace
+  pub meaning : TraySays table tray pattern allowance (length workspace) outcome answer′

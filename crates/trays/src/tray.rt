@@ -2,14 +2,11 @@
 ghost use mathlib.Core.Path.{_≡_};
 ghost use Prim.Native.Nat.{_+_, _*_, _≤_};
 ghost use lib.ListN.{length, replicate};
-ghost use Rattle.model.specs.Outcome.{mapped};
-ghost use Rattle.model.specs.Areas.{outputAfter, workspaceAfter};
 ghost use Rattle.model.specs.Stated.{trayCompared};
-ghost use Rattle.model.specs.Tray.{trayBytes, tray as trayOutcome};
 ghost use Rattle.loading.specs.Loading.{ForwardRuns};
 ghost use Rattle.trays.specs.Logs.{lengthAt, LogsOf, TrayOf};
 ghost use Rattle.trays.specs.Tray.{LogCompared, LogAnswered, LogsAnswered, TrayJudged, TrayStated};
-ghost use Rattle.trays.specs.Meaning.{TraySays};
+ghost use Rattle.trays.specs.Meaning.{TrayPromise};
 use crate::answers::LOG_BYTES;
 use crate::answers::write_answer;
 use crate::logs::TrayRead;
@@ -41,7 +38,8 @@ pub fn compare_log(
 ) -> Compared
     requires pattern { ⌜ ForwardRuns (now cells) size (now pattern) n weight ⌝ }
     requires zero { ⌜ now workspace ≡ replicate (length (now workspace)) 0 ⌝ }
-    ensures { λ r. ⌜ LogCompared (now (cells .entry)) size (now (log .entry)) (now (pattern .entry)) budget (now (workspace .entry)) (now (workspace .exit)) r ⌝ }
+    ensures { λ r. ⌜ LogCompared (now (cells .entry)) size (now (log .entry)) (now (pattern .entry)) budget (now (workspace .entry))
+        (now (workspace .exit)) r ⌝ }
 {
     let read = read_as(log, cells, size, Signs::Forward);
     match read {
@@ -83,7 +81,8 @@ pub fn answer_log(
     requires zero { ⌜ now workspace ≡ replicate (length (now workspace)) 0 ⌝ }
     requires log { ⌜ at + 2 + lengthAt (now tray) at ≤ length (now tray) ⌝ }
     requires room { ⌜ place + 3 ≤ length (now answer) ⌝ }
-    ensures { λ r. ⌜ LogAnswered (now (cells .entry)) size (now (tray .entry)) at (now (pattern .entry)) budget (now (workspace .entry)) (now (workspace .exit)) (now (answer .entry)) (now (answer .exit)) place r ⌝ }
+    ensures { λ r. ⌜ LogAnswered (now (cells .entry)) size (now (tray .entry)) at (now (pattern .entry)) budget (now (workspace .entry)) (now (workspace .exit))
+        (now (answer .entry)) (now (answer .exit)) place r ⌝ }
 {
     let start = at + 2;
     let end = start + log_length(tray, at);
@@ -118,7 +117,8 @@ pub fn answer_logs(
     requires zero { ⌜ now workspace ≡ replicate (length (now workspace)) 0 ⌝ }
     requires logs { ⌜ LogsOf (now tray) logs ⌝ }
     requires room { ⌜ 3 * logs ≤ length (now answer) ⌝ }
-    ensures { λ r. ⌜ LogsAnswered (now (cells .entry)) size (now (tray .entry)) logs (now (pattern .entry)) budget (now (workspace .entry)) (now (workspace .exit)) (now (answer .entry)) (now (answer .exit)) ⌝ }
+    ensures { λ r. ⌜ LogsAnswered (now (cells .entry)) size (now (tray .entry)) logs (now (pattern .entry)) budget (now (workspace .entry))
+        (now (workspace .exit)) (now (answer .entry)) (now (answer .exit)) ⌝ }
 {
     let mut at: usize = 1;
     let mut place: usize = 0;
@@ -157,7 +157,8 @@ pub fn compare_tray(
 ) -> TrayCompared
     requires pattern { ⌜ ForwardRuns (now cells) size (now pattern) n weight ⌝ }
     requires logs { ⌜ LogsOf (now tray) logs ⌝ }
-    ensures { λ r. ⌜ TrayJudged (now (cells .entry)) size (now (tray .entry)) logs (now (pattern .entry)) budget (now (workspace .entry)) (now (workspace .exit)) (now (answer .entry)) (now (answer .exit)) r ⌝ }
+    ensures { λ r. ⌜ TrayJudged (now (cells .entry)) size (now (tray .entry)) logs (now (pattern .entry)) budget (now (workspace .entry))
+        (now (workspace .exit)) (now (answer .entry)) (now (answer .exit)) r ⌝ }
 {
     let clear = clear_cells(cells, size, budget, workspace);
     match clear {
@@ -194,7 +195,8 @@ pub fn tray_under(
     answer: &mut [u8],
 ) -> TrayCompared
     requires { ⌜ TrayOf (now tray) logs ⌝ }
-    ensures { λ r. ⌜ TrayStated (now (table .entry)) (now (tray .entry)) (now (pattern .entry)) budget (now (workspace .entry)) (now (workspace .exit)) (now (answer .entry)) (now (answer .exit)) r ⌝ }
+    ensures { λ r. ⌜ TrayStated (now (table .entry)) (now (tray .entry)) (now (pattern .entry)) budget (now (workspace .entry)) (now (workspace .exit))
+        (now (answer .entry)) (now (answer .exit)) r ⌝ }
 {
     let mut cells = [0u8; CELLS];
     let read = read_table_program(table, pattern, Signs::Forward, &mut cells);
@@ -227,10 +229,8 @@ pub fn tray(
     workspace: &mut [u8],
     answer: &mut [u8],
 ) -> TrayCompared
-    ensures stated { λ r. ⌜ trayCompared r ≡ mapped length (trayOutcome (now (table .entry)) (now (tray .entry)) (now (pattern .entry)) allowance (length (now (workspace .entry))) (length (now (answer .entry)))) ⌝ }
-    ensures answer { λ r. ⌜ now (answer .exit) ≡ outputAfter trayBytes (trayOutcome (now (table .entry)) (now (tray .entry)) (now (pattern .entry)) allowance (length (now (workspace .entry))) (length (now (answer .entry)))) (now (answer .entry)) ⌝ }
-    ensures workspace { λ r. ⌜ now (workspace .exit) ≡ workspaceAfter (trayOutcome (now (table .entry)) (now (tray .entry)) (now (pattern .entry)) allowance (length (now (workspace .entry))) (length (now (answer .entry)))) (now (workspace .entry)) ⌝ }
-    ensures meaning { λ r. ⌜ TraySays (now (table .entry)) (now (tray .entry)) (now (pattern .entry)) allowance (length (now (workspace .entry))) (trayCompared r) (now (answer .exit)) ⌝ }
+    ensures { λ r. ⌜ TrayPromise (now (table .entry)) (now (tray .entry)) (now (pattern .entry)) allowance (now (workspace .entry)) (now (workspace .exit))
+        (now (answer .entry)) (now (answer .exit)) (trayCompared r) ⌝ }
 {
     let read = read_tray(tray);
     match read {

@@ -48,7 +48,7 @@ use Rattle.ways.specs.Marks.{untried}
 use Rattle.ways.specs.Area.{words, Legible}
 use Rattle.ways.specs.State.{current}
 use Rattle.ways.specs.Listing.{Task, State, ListedAll}
-use Rattle.ways.specs.Service.{Answers, Passed, WaysMeaning, WaysSay}
+use Rattle.ways.specs.Service.{Answers, Passed, WaysMeaning, WaysSay, WaysPromise}
 use Rattle.ways.proofs.Adding.{letter-ends-none}
 
 -- THE PROGRAM'S WORD
@@ -264,5 +264,5 @@ module _ (table program before after : List ℕ) (r : Ways) (a : Answers (ways t
           impossible (cc)
 
   -- the service's promise
-  pub promised : (listedAs r ≡ mapped counts (ways table program (length before))) × ((after ≡ waysArea (ways table program (length before)) before) × WaysSay table program (listedAs r) after)
-  promised = (a .result, (a .area, ways-say))
+  pub promised : WaysPromise table program before after (listedAs r)
+  promised = record { stated = a .result; answer-is = a .area; meaning = ways-say }

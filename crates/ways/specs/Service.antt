@@ -17,6 +17,7 @@ use Rattle.model.specs.Stated.{Counts, counts, listedAs}
 use Rattle.theory.specs.Ways.{ListingMeaning, WordsInOrder}
 use Rattle.images.specs.Programs.{ForwardOf}
 use Rattle.cells.specs.Stands.{Of}
+use Rattle.model.specs.Ways.{ways}
 
 -- the result and the area are those of an outcome
 pub record Answers (outcome : Outcome (List Positive)) (before after : List ℕ) (r : Ways) : Type 0 where
@@ -51,3 +52,9 @@ abbrev pub WaysSay : List ℕ → List ℕ → Outcome Counts → List ℕ → T
 WaysSay table program told area =
     (T : Presentation) → readTable table ≡ answered T → (u : Positive) → readForward (T .size) program ≡ answered u
     → (c : Counts) → told ≡ answered c → WaysMeaning T u c area
+
+-- THE SERVICE'S PROMISE (6.14): the outcome that is told, the answer area after the call, and what the answer says
+pub record WaysPromise (table program answer answer′ : List ℕ) (outcome : Outcome Counts) : Type 0 where
+  pub stated : outcome ≡ mapped counts (ways table program (length answer))
+  pub answer-is : answer′ ≡ waysArea (ways table program (length answer)) answer
+  pub meaning : WaysSay table program outcome answer′

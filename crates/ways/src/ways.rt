@@ -1,10 +1,7 @@
 // Ways (specification 6.14): all words of forward moves that are joined to a program, each once, in the answer area.
-ghost use mathlib.Core.Path.{_≡_};
-ghost use lib.ListN.{length};
-ghost use Rattle.model.specs.Outcome.{mapped};
-ghost use Rattle.model.specs.Ways.{ways, waysArea};
-ghost use Rattle.model.specs.Stated.{counts, listedAs};
-ghost use Rattle.ways.specs.Service.{Listable, ProgramListed, WaysSay};
+ghost use Rattle.model.specs.Ways.{ways};
+ghost use Rattle.model.specs.Stated.{listedAs};
+ghost use Rattle.ways.specs.Service.{Listable, ProgramListed, WaysPromise};
 use crate::listing::Listing;
 use crate::listing::list_words;
 use crate::marks::UNTRIED;
@@ -42,9 +39,7 @@ pub fn list_program(cells: &[u8], size: u8, program: &[u8], count: u16, answer: 
 }
 
 pub fn ways(table: &[u8], program: &[u8], answer: &mut [u8]) -> Ways
-    ensures stated { λ r. ⌜ listedAs r ≡ mapped counts (ways (now (table .entry)) (now (program .entry)) (length (now (answer .entry)))) ⌝ }
-    ensures answer { λ r. ⌜ now (answer .exit) ≡ waysArea (ways (now (table .entry)) (now (program .entry)) (length (now (answer .entry)))) (now (answer .entry)) ⌝ }
-    ensures meaning { λ r. ⌜ WaysSay (now (table .entry)) (now (program .entry)) (listedAs r) (now (answer .exit)) ⌝ }
+    ensures { λ r. ⌜ WaysPromise (now (table .entry)) (now (program .entry)) (now (answer .entry)) (now (answer .exit)) (listedAs r) ⌝ }
 {
     let mut cells = [0u8; CELLS];
     let read = read_table_program(table, program, Signs::Forward, &mut cells);

@@ -1,7 +1,7 @@
 -- `braid::calls::braid_tray` meets its contract.
 use Rattle.model.specs.Stated.{trayCompared}
 use Rattle.braid.specs.Told.{logsTold}
-use Rattle.braid.proofs.Telling.{tells-outcome, meant}
+use Rattle.braid.proofs.Telling.{meant}
 use borrow.Author.Needs.{needs}
 use Rattle.braid.proofs.calls.braid_tray.Statement.{statement}
 use Rattle.braid.proofs.calls.braid_tray.Tie as tie
@@ -24,8 +24,7 @@ same-length-2 c = c .before .before .before .before .before .before .before .tra
 returns : tie.Need-returns
 returns c =
     let z = c .before .before .before .before .before .before .before .tray in
-    let e = z .ensures .0 in
-    (tells-outcome logsTold (trayCompared (z .result)) (c .before .before .of-tray-compared .ensures) (c .tell .ensures) e, (z .ensures .1 .0, (z .ensures .1 .1 .0, meant logsTold (trayCompared (z .result)) (c .before .before .of-tray-compared .ensures) (c .tell .ensures) (z .ensures .1 .1 .1))))
+    meant logsTold (trayCompared (z .result)) (c .before .before .of-tray-compared .ensures) (c .tell .ensures) (z .ensures)
 
 pub braid-tray-spec : {M : Type 1} → statement M
 braid-tray-spec =

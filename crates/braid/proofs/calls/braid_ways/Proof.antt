@@ -1,7 +1,7 @@
 -- `braid::calls::braid_ways` meets its contract.
 use Rattle.model.specs.Stated.{listedAs}
 use Rattle.braid.specs.Told.{countsTold}
-use Rattle.braid.proofs.Telling.{tells-outcome, meant}
+use Rattle.braid.proofs.Telling.{meant}
 use borrow.Author.Needs.{needs}
 use Rattle.braid.proofs.calls.braid_ways.Statement.{statement}
 use Rattle.braid.proofs.calls.braid_ways.Tie as tie
@@ -21,8 +21,7 @@ same-length c = c .before .before .before .before .before .ways .kept .1 .1 .0
 returns : tie.Need-returns
 returns c =
     let z = c .before .before .before .before .before .ways in
-    let e = z .ensures .0 in
-    (tells-outcome countsTold (listedAs (z .result)) (c .before .before .of-ways .ensures) (c .tell .ensures) e, (z .ensures .1 .0, meant countsTold (listedAs (z .result)) (c .before .before .of-ways .ensures) (c .tell .ensures) (z .ensures .1 .1)))
+    meant countsTold (listedAs (z .result)) (c .before .before .of-ways .ensures) (c .tell .ensures) (z .ensures)
 
 pub braid-ways-spec : {M : Type 1} → statement M
 braid-ways-spec =

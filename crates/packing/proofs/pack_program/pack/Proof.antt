@@ -10,7 +10,7 @@ use Rattle.plain_forms.specs.Reading.{PlainDone, PlainProgram}
 use Rattle.writers.specs.Programs.{programBits}
 use Rattle.writers.proofs.Letters.{program-image}
 use Rattle.packing.proofs.Packing.{refused-keeps, fills-keeps, pack-table-refused, pack-program-refused, pack-read}
-use Rattle.packing.proofs.ReadBack.{undone-too, program-unpacked, program-back}
+use Rattle.packing.proofs.ReadBack.{promised, program-unpacked, program-back}
 use borrow.Author.Needs.{needs}
 use Rattle.packing.proofs.pack_program.pack.Statement.{statement}
 use Rattle.packing.proofs.pack_program.pack.Tie as tie
@@ -54,7 +54,7 @@ write-program-requires c κs =
 returns : tie.Need-returns
 returns c =
     let s = c .before .before .before .before .before .before .before in
-    undone-too (packProgram (s .args .table .now)) (unpackProgram (s .args .table .now)) (program-unpacked (s .args .table .now)) (s .args .plain .now) (s .args .answer .now) _ _
+    promised (packProgram (s .args .table .now)) (unpackProgram (s .args .table .now)) (program-unpacked (s .args .table .now)) (s .args .plain .now) (s .args .answer .now) _ _ (plainProgramUnder (s .args .table .now)) (programUnder (s .args .table .now))
     (refused-keeps (plainProgramUnder (s .args .table .now) (s .args .plain .now)) (programUnder (s .args .table .now)) (packProgram (s .args .table .now) (s .args .plain .now) (length (s .args .answer .now))) (s .args .answer .now) (c .before .refusal .given .0 .0)
     (pack-table-refused (s .args .table .now) (s .args .plain .now) (length (s .args .answer .now)) (c .before .refusal .given .0 .0) (subst (SizeDone (s .args .table .now)) (c .before .refusal .given .1) (c .before .before .before .table-size .ensures))))
 
@@ -62,7 +62,7 @@ returns-2 : tie.Need-returns-2
 returns-2 c =
     let k = c .before .before .before .before in
     let s = start k in
-    undone-too (packProgram (s .args .table .now)) (unpackProgram (s .args .table .now)) (program-unpacked (s .args .table .now)) (s .args .plain .now) (s .args .answer .now) _ _
+    promised (packProgram (s .args .table .now)) (unpackProgram (s .args .table .now)) (program-unpacked (s .args .table .now)) (s .args .plain .now) (s .args .answer .now) _ _ (plainProgramUnder (s .args .table .now)) (programUnder (s .args .table .now))
     (refused-keeps (plainProgramUnder (s .args .table .now) (s .args .plain .now)) (programUnder (s .args .table .now)) (packProgram (s .args .table .now) (s .args .plain .now) (length (s .args .answer .now))) (s .args .answer .now) (c .before .refusal2 .given .0 .0)
     (pack-program-refused (s .args .table .now) (s .args .plain .now) (length (s .args .answer .now)) (size-of k .table) _ (size-of k .read) (size-of k .size-is) (c .before .refusal2 .given .0 .0)
     (subst (PlainDone (s .args .plain .now) (k .before .size .given .0 .0)) (c .before .refusal2 .given .1) (c .before .before .before .read-plain-program .ensures))))
@@ -78,7 +78,7 @@ returns-3 c =
     let s = start k in
     let n = k .before .size .given .0 .0 in
     let image = program-image n (s .args .plain .now) in
-    undone-too (packProgram (s .args .table .now)) (unpackProgram (s .args .table .now)) (program-unpacked (s .args .table .now)) (s .args .plain .now) (s .args .answer .now) _ _
+    promised (packProgram (s .args .table .now)) (unpackProgram (s .args .table .now)) (program-unpacked (s .args .table .now)) (s .args .plain .now) (s .args .answer .now) _ _ (plainProgramUnder (s .args .table .now)) (programUnder (s .args .table .now))
     (fills-keeps (plainProgramUnder (s .args .table .now) (s .args .plain .now)) (programUnder (s .args .table .now)) (packProgram (s .args .table .now) (s .args .plain .now) (length (s .args .answer .now))) (s .args .answer .now) (pack (programBits n (s .args .plain .now)))
     (pack-read (s .args .table .now) (s .args .plain .now) (length (s .args .answer .now)) (size-of k .table) _ (size-of k .read) (size-of k .size-is) (map letter (s .args .plain .now)) (plain-of e .read)
     ∙ ap (fitted (length (s .args .answer .now))) image)

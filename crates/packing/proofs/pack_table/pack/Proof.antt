@@ -14,7 +14,7 @@ use Rattle.writers.specs.Forms.{imageForm, tableAs}
 use Rattle.writers.proofs.Parts.{loaded-weights, loaded-table}
 use Rattle.writers.proofs.TableForms.{image-fits, image-bits}
 use Rattle.packing.proofs.Packing.{refused-keeps, fills-keeps, plain-refused, plain-read}
-use Rattle.packing.proofs.ReadBack.{undone-too, table-unpacked, table-back}
+use Rattle.packing.proofs.ReadBack.{promised, table-unpacked, table-back}
 use borrow.Author.Needs.{needs}
 use Rattle.packing.proofs.pack_table.pack.Statement.{statement}
 use Rattle.packing.proofs.pack_table.pack.Tie as tie
@@ -68,7 +68,7 @@ returns : tie.Need-returns
 returns c =
     let s = c .before .before .before .before .before .before .before .before in
     let r = c .before .before .before .before in
-    undone-too packTable unpackTable table-unpacked (s .args .plain .now) (s .args .answer .now) _ _
+    promised packTable unpackTable table-unpacked (s .args .plain .now) (s .args .answer .now) _ _ readPlainTable readTable
     (refused-keeps (readPlainTable (s .args .plain .now)) readTable (packTable (s .args .plain .now) (length (s .args .answer .now))) (s .args .answer .now) (c .before .refusal .given .0 .0)
     (plain-refused (s .args .plain .now) (length (s .args .answer .now)) (c .before .refusal .given .0 .0)
     (subst (PlainTableDone (s .args .plain .now) (r .read-plain-table .last .1 .0)) (c .before .refusal .given .1) (r .read-plain-table .ensures .1))))
@@ -83,7 +83,7 @@ returns-2 c =
     let k = told f in
     let s = start k in
     let t = table-of k in
-    undone-too packTable unpackTable table-unpacked (s .args .plain .now) (s .args .answer .now) _ _
+    promised packTable unpackTable table-unpacked (s .args .plain .now) (s .args .answer .now) _ _ readPlainTable readTable
     (fills-keeps (readPlainTable (s .args .plain .now)) readTable (packTable (s .args .plain .now) (length (s .args .answer .now))) (s .args .answer .now) (tableImage (t .table))
     (plain-read (s .args .plain .now) (length (s .args .answer .now)) (t .table) (t .read)) (table-back (s .args .plain .now) (t .table) (t .read)) (w .result) (w .last .1 .1 .1 .0)
     (subst (λ bs. Fills (s .args .answer .now) bs (w .result) (w .last .1 .1 .1 .0)) (bytes f) (w .ensures (t .table .excess) (t .table .rows) (loaded-weights t) (t .listed))))

@@ -13,7 +13,7 @@ use Rattle.cells.proofs.Rules.{blank-zeros, of-some, of-few}
 use Rattle.images.specs.Tables.{TableDone, TableOf}
 use Rattle.images.specs.Programs.{ProgramDone, ProgramOf}
 use Rattle.packing.proofs.Packing.{refused-keeps, answered-writes, short-area, long-area, unpack-table-refused, unpack-program-refused, unpack-read}
-use Rattle.packing.proofs.ReadBack.{undone-too, program-packed, plain-program-back}
+use Rattle.packing.proofs.ReadBack.{promised, program-packed, plain-program-back}
 use borrow.Author.Needs.{needs}
 use Rattle.packing.proofs.unpack_program.unpack.Statement.{statement}
 use Rattle.packing.proofs.unpack_program.unpack.Tie as tie
@@ -83,7 +83,7 @@ returns c =
     let m = c .before in
     let k = at-size m in
     let w = program-of m .word in
-    undone-too (unpackProgram (table k)) (packProgram (table k)) (program-packed (table k)) (program k) (answer k) _ _
+    promised (unpackProgram (table k)) (packProgram (table k)) (program-packed (table k)) (program k) (answer k) _ _ (programUnder (table k)) (plainProgramUnder (table k))
     (refused-keeps (programUnder (table k) (program k)) (plainProgramUnder (table k)) (unpackProgram (table k) (program k) (length (answer k))) (answer k) AnswerShort
     (unpack-read (table k) (program k) (length (answer k)) (table-of k .table) _ (table-of k .read) (table-of k .of .sized) w (program-of m .read)
     ∙ short-area (length (answer k)) (plainProgram w) (omega (arith, c .if1 .taken, program-of m .count-is, length-map w byte))))
@@ -98,7 +98,7 @@ returns-2 : tie.Need-returns-2
 returns-2 c =
     let v = c .before .before .before .before in
     let s = start v in
-    undone-too (unpackProgram (s .args .table .now)) (packProgram (s .args .table .now)) (program-packed (s .args .table .now)) (s .args .program .now) (s .args .answer .now) _ _
+    promised (unpackProgram (s .args .table .now)) (packProgram (s .args .table .now)) (program-packed (s .args .table .now)) (s .args .program .now) (s .args .answer .now) _ _ (programUnder (s .args .table .now)) (plainProgramUnder (s .args .table .now))
     (refused-keeps (programUnder (s .args .table .now) (s .args .program .now)) (plainProgramUnder (s .args .table .now)) (unpackProgram (s .args .table .now) (s .args .program .now) (length (s .args .answer .now))) (s .args .answer .now) (c .before .refusal .given .0 .0)
     (unpack-table-refused (s .args .table .now) (s .args .program .now) (length (s .args .answer .now)) (c .before .refusal .given .0 .0)
     (subst (TableDone (s .args .table .now) (v .read-table .last .1 .0)) (c .before .refusal .given .1) (v .read-table .ensures .1))))
@@ -107,7 +107,7 @@ returns-3 : tie.Need-returns-3
 returns-3 c =
     let k = c .before .before .before .before .before in
     let r = c .before .refusal2 .given .0 .0 in
-    undone-too (unpackProgram (table k)) (packProgram (table k)) (program-packed (table k)) (program k) (answer k) _ _
+    promised (unpackProgram (table k)) (packProgram (table k)) (program-packed (table k)) (program k) (answer k) _ _ (programUnder (table k)) (plainProgramUnder (table k))
     (refused-keeps (programUnder (table k) (program k)) (plainProgramUnder (table k)) (unpackProgram (table k) (program k) (length (answer k))) (answer k) r
     (unpack-program-refused (table k) (program k) (length (answer k)) (table-of k .table) _ (table-of k .read) (table-of k .of .sized) r
     (subst (ProgramDone (program k) (cells k) (size k)) (c .before .refusal2 .given .1) (c .before .before .before .read-program .ensures))))
@@ -121,7 +121,7 @@ returns-4 c =
     let m = u .before .before .before in
     let k = at-size m in
     let w = program-of m .word in
-    undone-too (unpackProgram (table k)) (packProgram (table k)) (program-packed (table k)) (program k) (answer k) _ _
+    promised (unpackProgram (table k)) (packProgram (table k)) (program-packed (table k)) (program k) (answer k) _ _ (programUnder (table k)) (plainProgramUnder (table k))
     (answered-writes (programUnder (table k) (program k)) (plainProgramUnder (table k)) (unpackProgram (table k) (program k) (length (answer k))) (answer k) (plainProgram w) (u .unpack-letters .last .1 .1 .1 .0) _
     (unpack-read (table k) (program k) (length (answer k)) (table-of k .table) _ (table-of k .read) (table-of k .of .sized) w (program-of m .read)
     ∙ long-area (length (answer k)) (plainProgram w) (omega (arith, u .before .before .if1 .left, program-of m .count-is, length-map w byte)))

@@ -15,7 +15,7 @@ use Rattle.writers.proofs.Parts.{loaded-weights, loaded-table}
 use Rattle.writers.proofs.TableForms.{plain-fits, plain-packed}
 use Rattle.images.proofs.RoundTrip.{table-in-range}
 use Rattle.packing.proofs.Packing.{refused-keeps, fills-keeps, table-refused, table-read}
-use Rattle.packing.proofs.ReadBack.{undone-too, table-packed, plain-table-back}
+use Rattle.packing.proofs.ReadBack.{promised, table-packed, plain-table-back}
 use borrow.Author.Needs.{needs}
 use Rattle.packing.proofs.unpack_table.unpack.Statement.{statement}
 use Rattle.packing.proofs.unpack_table.unpack.Tie as tie
@@ -67,7 +67,7 @@ returns : tie.Need-returns
 returns c =
     let s = c .before .before .before .before .before .before .before .before in
     let r = c .before .before .before .before in
-    undone-too unpackTable packTable table-packed (s .args .table .now) (s .args .answer .now) _ _
+    promised unpackTable packTable table-packed (s .args .table .now) (s .args .answer .now) _ _ readTable readPlainTable
     (refused-keeps (readTable (s .args .table .now)) readPlainTable (unpackTable (s .args .table .now) (length (s .args .answer .now))) (s .args .answer .now) (c .before .refusal .given .0 .0)
     (table-refused (s .args .table .now) (length (s .args .answer .now)) (c .before .refusal .given .0 .0)
     (subst (TableDone (s .args .table .now) (r .read-table .last .1 .0)) (c .before .refusal .given .1) (r .read-table .ensures .1))))
@@ -82,7 +82,7 @@ returns-2 c =
     let k = told f in
     let s = start k in
     let t = table-of k in
-    undone-too unpackTable packTable table-packed (s .args .table .now) (s .args .answer .now) _ _
+    promised unpackTable packTable table-packed (s .args .table .now) (s .args .answer .now) _ _ readTable readPlainTable
     (fills-keeps (readTable (s .args .table .now)) readPlainTable (unpackTable (s .args .table .now) (length (s .args .answer .now))) (s .args .answer .now) (plainTable (t .table))
     (table-read (s .args .table .now) (length (s .args .answer .now)) (t .table) (t .read)) (plain-table-back (s .args .table .now) (t .table) (t .read)) (w .result) (w .last .1 .1 .1 .0)
     (subst (λ bs. Fills (s .args .answer .now) bs (w .result) (w .last .1 .1 .1 .0)) (bytes f) (w .ensures (t .table .excess) (t .table .rows) (loaded-weights t) (t .listed))))
