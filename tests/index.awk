@@ -138,7 +138,7 @@ function indentation(line) {
 # FILES
 
 FNR == 1 {
-    if (kind == "specs") group_done()
+    if (kind == "specs") { group_done(); promise_done() }
     if (kind == "proofs") law_done()
     n = split(FILENAME, path, "/")
     file = path[n]
@@ -146,7 +146,7 @@ FNR == 1 {
     kind = path[n - 1]
     if (file == "SPECIFICATION.md") kind = "specification"
     in_head = 1
-    head = pending = own = under = comment = names = law = clause = ""
+    head = pending = own = under = comment = names = law = promise = field = ""
     own = under = head_sections = " "
     fields = -1
     split("", cites)
@@ -188,6 +188,56 @@ kind == "specs" && crate != "theory" && /^use Rattle\.theory\.specs\./ {
     next
 }
 
+# THE PROMISES OF SERVICES: the fields of a record `..Promise`, each with the definitions that it cites
+
+kind == "specs" && /^use Rattle·/ {
+    line = $0
+    sub(/^use Rattle·/, "", line)
+    imports(line)
+}
+# what a line of imports brings in: where each name is from
+function imports(line,    from, module, imported, m, i, as, name) {
+    from = line
+    sub(/[·.].*/, "", from)
+    sub(/^[^{]*specs\./, "", line)
+    module = line
+    sub(/\..*/, "", module)
+    sub(/^[^{]*\{/, "", line)
+    sub(/\}.*/, "", line)
+    m = split(line, imported, ", ")
+    for (i = 1; i <= m; i++) {
+        as = name = imported[i]
+        sub(/ as .*/, "", name)
+        sub(/.* as /, "", as)
+        cites[as] = from SUBSEP module ".antt" SUBSEP name
+    }
+}
+# the definitions that a text cites
+function cited_in(text,    tokens, m, i, seen_here, place, module, found) {
+    gsub(/[^A-Za-z0-9_-]+/, " ", text)
+    m = split(text, tokens, " ")
+    found = ""
+    for (i = 1; i <= m; i++) if (tokens[i] in cites && !(tokens[i] in seen_here)) {
+        seen_here[tokens[i]] = 1
+        split(cites[tokens[i]], place, SUBSEP)
+        module = place[2]
+        sub(/\.antt$/, "", module)
+        found = found (found == "" ? "" : ", ") "`" (place[1] == "model" ? "" : place[1] "/") module "." place[3] "`"
+    }
+    return found
+}
+function promise_done() {
+    if (field == "") return
+    sub(/-is$/, "", field)
+    promised[promise] = promised[promise] (promised[promise] == "" ? "" : "\n") "  - `" field "`\t" cited_in(field_text)
+    promised_names[promise] = promised_names[promise] (promised_names[promise] == "" ? "" : ", ") "`" field "`"
+    field = ""
+}
+kind == "specs" && /^[^ ]/ { promise_done(); promise = "" }
+kind == "specs" && promise != "" && /^  pub [a-z-]+ : / { promise_done(); field = $2; field_text = $0; sub(/^  pub [a-z-]+ : /, "", field_text) }
+kind == "specs" && promise != "" && /^    / && field != "" { field_text = field_text " " $0 }
+kind == "specs" && /^pub record [A-Za-z]+Promise / { promise = crate SUBSEP file SUBSEP $3 }
+
 # DEFINITIONS
 
 kind == "specs" && /^ *-- / {
@@ -221,6 +271,7 @@ kind == "specs" {
             }
             names = names " " name
             defined[crate, file, name] = 1
+            cites[name] = crate SUBSEP file SUBSEP name
             section_of[crate, file, name] = own != " " ? own : under != " " ? under : head_sections
         }
         if (/^ *pub record /) fields = indentation($0)
@@ -284,20 +335,7 @@ kind == "proofs" && file ~ /(Cases|^Sheet)\.antt$/ {
 kind == "src" && /^ghost use Rattle·/ {
     line = $0
     sub(/^ghost use Rattle·/, "", line)
-    from = line
-    sub(/[·.].*/, "", from)
-    sub(/^[^{]*specs\./, "", line)
-    module = line
-    sub(/\..*/, "", module)
-    sub(/^[^{]*\{/, "", line)
-    sub(/\}.*/, "", line)
-    m = split(line, imported, ", ")
-    for (i = 1; i <= m; i++) {
-        as = name = imported[i]
-        sub(/ as .*/, "", name)
-        sub(/.* as /, "", as)
-        cites[as] = from SUBSEP module ".antt" SUBSEP name
-    }
+    imports(line)
     next
 }
 kind == "src" && /^pub (extern "C" )?fn / {
@@ -309,28 +347,15 @@ kind == "src" && /^pub (extern "C" )?fn / {
     service = ""
     next
 }
-kind == "src" && /^    ensures [a-z_]+ \{/ && function_name != "" {
-    clause = $2
+kind == "src" && /^    ensures \{.* [A-Za-z]+Promise / && function_name != "" {
     line = $0
-    sub(/^    ensures [a-z_]+ /, "", line)
-    if (clause == "stated" || clause == "told") {
-        service = clause
-        # the service's definition is the one that is handed the service's own images
-        if (match(line, /[A-Za-z]+ \(now \(/)) { name = substr(line, RSTART, RLENGTH - 7); stated = (name in cites) ? cites[name] : "" }
-    }
-    gsub(/[^A-Za-z0-9_-]+/, " ", line)
-    m = split(line, tokens, " ")
-    split("", seen_here)
-    found = ""
-    for (i = 1; i <= m; i++) if (tokens[i] in cites && !(tokens[i] in seen_here)) {
-        seen_here[tokens[i]] = 1
-        split(cites[tokens[i]], place, SUBSEP)
-        module = place[2]
-        sub(/\.antt$/, "", module)
-        found = found (found == "" ? "" : ", ") "`" (place[1] == "model" ? "" : place[1] "/") module "." place[3] "`"
-    }
-    held = held (held == "" ? "" : "\n") "  - `" clause "`\t" found
-    held_names = held_names (held_names == "" ? "" : ", ") "`" clause "`"
+    match(line, / \(?[A-Za-z]+Promise /)
+    name = substr(line, RSTART + 1, RLENGTH - 2)
+    sub(/^\(/, "", name)
+    stated = cites[name]
+    service = line ~ / Meant / ? "told" : "stated"
+    held = promised[stated]
+    held_names = promised_names[stated]
     next
 }
 kind == "src" && /^\{/ {

@@ -111,7 +111,8 @@ printf '# a version\n# wrong at: compare: 1, right is 2\n' > "$small/crates/x/mu
 # planted DEFINITIONS CLAUSE HEAD NAMED: the small tree with these
 planted() {
     printf -- '-- Specification 6, services.\nuse X\n\n%b' "$1" > "$small/crates/model/specs/A.antt"
-    printf 'ghost use Rattle.model.specs.A.{one, two as second};\npub fn call(\n)\n    ensures %b\n{\n}\n' "$2" > "$small/crates/x/src/x.rt"
+    printf -- '-- Specification 6, the promise.\nuse Rattle.model.specs.A.{one, two as second}\n\n%b\n' "$2" > "$small/crates/x/specs/P.antt"
+    printf 'ghost use Rattle.x.specs.P.{XPromise};\npub fn call(\n)\n    ensures { λ r. ⌜ XPromise (now (table .entry)) r ⌝ }\n{\n}\n' > "$small/crates/x/src/x.rt"
     printf -- '%b' "$3" > "$small/crates/theory/specs/S.antt"
     printf -- '-- Laws.\n-- `law` proves `Said`.\npub law : (u : U)\n    → Said u\nlaw u = u\n' > "$small/crates/theory/proofs/L.antt"
     printf -- '-- Laws.\n' > "$small/crates/model/proofs/M.antt"
@@ -119,7 +120,7 @@ planted() {
     printf 'An index\n' > "$small/docs/INDEX.md"
 }
 sound='-- 6.4: one of them\n-- and more of it\nabbrev pub one : U\nabbrev pub another : U\n\n-- THE SECOND (6.5)\n\npub record two : U where\n  pub field : U\n'
-clause='stated { f r ≡ one (now (table .entry)) }\n    ensures meaning { second r }'
+clause='-- THE PROMISE (6.4)\npub record XPromise (table : U) : U where\n  pub stated : r ≡ one table\n  pub meaning : second\n      r\n'
 statement='-- Specification 6.5: said.\n-- Twice.\nuse X\n\n-- what is said\npub record Said : U where\n'
 cited='`one`, `another` and\n`two` in `crates/model/specs/A.antt`, `law` in `L.antt`.\n'
 
@@ -130,6 +131,7 @@ held 'the page of a sound tree' '## 6.4 Compare
 Definitions:
 
 - `A.antt`: `one`, `another`: one of them and more of it
+- `x/specs/P.antt`: `XPromise`
 
 Promises:
 
@@ -156,11 +158,12 @@ Theorems:
 - `S.antt`: `Said` (law `law` of `L.antt`): what is said' "$(indexed "$small" '' | awk '/^## Wrong versions of/ { exit } { print }')"
 planted '-- one of them\nabbrev pub one : U\n' "$clause" '-- Specification 6.5 and 6.4: said.\n-- Twice.\n' "$cited"
 held 'a definition of a chapter' '' "$(indexed "$small" 1)"
-planted "-- 6.6: one of them\nabbrev pub one : U\n" "$clause" "$statement" "$cited"
+planted "-- 6.6: one of them\nabbrev pub one : U\n" "$(echo "$clause" | sed 's/6\.4/6.6/')" "$statement" "$cited"
 held 'a section that is not there' 'crates/model/specs/A.antt: the specification has no section 6.6
+crates/x/specs/P.antt: the specification has no section 6.6
 crates/x/src/x.rt: the specification has no section 6.6' "$(indexed "$small" 1 | sort -u)"
-planted "$sound" "stated { f r ≡ other (now (table .entry)) }" "$statement" "$cited"
-held 'a service without a definition' 'crates/x/src/x.rt: no section for the service call' "$(indexed "$small" 1)"
+planted "$sound" '-- 6.4\npub record OtherPromise (table : U) : U where\n' "$statement" "$cited"
+held 'a service without a promise' 'crates/x/src/x.rt: no section for the service call' "$(indexed "$small" 1)"
 planted "$sound" "$clause" "$statement" "$cited"
 sed -i 's/^-- Specification 6, services/-- Specification 6.4 and 6.5, services/; s/^-- 6.4: one/-- one/' "$small/crates/model/specs/A.antt"
 held 'a definition without a section' 'crates/model/specs/A.antt: no section in the comment of one another' "$(indexed "$small" 1 | head -1)"
