@@ -1,7 +1,6 @@
 -- The one pass over a program image: its letters, how many of them are back letters, and what they weigh under the cells of a table.
-use mathlib.Core.Path.{_≡_, refl, sym, ap, subst, _∙_}
+use mathlib.Core.Path.{_≡_, refl, sym, ap, _∙_}
 use mathlib.Core.List.{List, [], _∷_, _++_}
-use mathlib.Core.Bool.{true, false}
 use Prim.Native.Nat.{ℕ, suc, _+_, _*_, _/_, _%_, _≤_, _<_}
 use native.Mathlib.Omega.{arith}
 use borrow.Author.Tests.{ne-eqb}
@@ -9,8 +8,7 @@ use lib.Dec.{eqb}
 use lib.ListN.{length, getD}
 use Rattle.model.specs.Word.{Letter, forward, back, Word, Positive, positive, byte, backs}
 use Rattle.model.specs.Presentation.{Presentation, weigh}
-use Rattle.model.specs.Range.{InRange, numberOf, LetterInRange, Lettered}
-use Rattle.model.specs.Images.{signedField}
+use Rattle.model.specs.Range.{InRange, numberOf, Lettered}
 use Rattle.model.specs.Services.{isForward}
 use Rattle.cells.specs.Layout.{weightAt}
 use Rattle.cells.specs.Stands.{Of}
@@ -19,7 +17,7 @@ use Rattle.images.specs.Fields.{FieldAt}
 use Rattle.images.specs.BitReader.{place, Reads}
 use Rattle.images.specs.declared.bit_reader.BitReader.{BitReader}
 use Rattle.images.specs.Programs.{SignedTaken, cellsWeigh}
-use Rattle.images.proofs.Validating.{Validated, validated-none, validated-more}
+use Rattle.images.proofs.Validating.{program, Validated, validated-none, validated-more}
 
 -- a letter's byte has its number and its sign
 module _ (x : Letter) (h : numberOf x ≤ 16) where
@@ -55,7 +53,7 @@ no-back (back a ∷ w) = ne-eqb (suc (length (backs w))) 0 (λ e. omega arith)
 
 -- the letters that were passed
 pub record Passed (image cells : List ℕ) (size count : ℕ) (reader : BitReader) (turned weight i : ℕ) : Type 0 where
-  pub validated : Validated (signedField size) 12 image count (place reader) i
+  pub validated : Validated (program size) image count (place reader) i
   pub reads : Reads image reader
   pub signs : turned ≡ length (backs (validated .done))
   pub weighed : weight ≡ cellsWeigh cells (validated .done)
@@ -66,7 +64,7 @@ pub passed-none : (image cells : List ℕ) (size count : ℕ) (reader : BitReade
     → Passed image cells size count reader 0 0 0
 unfolding validated-none
 passed-none image cells size count reader first here reads =
-    let v : Validated (signedField size) 12 image count 12 0 = validated-none (signedField size) 12 image count first in
+    let v : Validated (program size) image count 12 0 = validated-none (program size) image count first in
     record {
       validated = record { some-left = v .some-left; inside = omega (arith, v .inside); near = omega arith; done = []; done-length = refl; resumed = rw here (v .resumed) };
       reads = reads;
@@ -113,7 +111,8 @@ module _ (image cells : List ℕ) (size : ℕ) (T : Presentation) (o : Of cells 
     passed-more count first reader here narrow turned weight i p h =
         let v = p .validated in
         let behind : place r ≡ at + 1 + width = s .after .place-is in
-        let m = validated-more (signedField size) 12 image count first (place reader) i v letter (at + 1 + width) (omega arith) (s .signed .inside) h (rw here (s .signed .read)) in
+        let m = validated-more (program size) image count first (place reader) i v letter (at + 1 + width)
+        (omega arith) (s .signed .inside) h (rw here (s .signed .read)) in
         record {
           validated =
               record {

@@ -87,6 +87,7 @@ module _ (n : ℕ) (area : List ℕ) (h : Held) (vs : List Positive) (g : Growin
                             ∙ (ap (λ l. l ++ (0 ∷ [])) front
                             ∙ (append-assoc (listingBytes vs) w (0 ∷ [])
                             ∙ (ap (λ l. listingBytes vs ++ l) (sym (append-nil (w ++ (0 ∷ [])))) ∙ sym (listing-both vs (w ∷ []))))));
+                        few = g .lists .few;
                         named = all-more (λ x. Lettered n (positive x)) vs w (g .lists .named) named;
                       };
                   counted = omega (arith, long, g .counted);

@@ -21,7 +21,7 @@ use Rattle.sets.specs.declared.growing.Held.{Held}
 use Rattle.sets.specs.declared.growing.Step.{Step}
 use Rattle.sets.specs.declared.growing.Step.the-variants.{Going, Ended}
 use Rattle.sets.specs.declared.places.Side.the-variants.{Second, First}
-use Rattle.sets.specs.Words.{HasEnd, EndFound}
+use Rattle.spans.specs.Ends.{HasEnd, EndFound}
 use Rattle.sets.specs.Growing.{stoppedAs, grownAs, Growing, Grew, StepMeans}
 use Rattle.sets.specs.Places.{sidedPair, sided, LaterWord}
 use Rattle.sets.proofs.Spelling.{used-is, place-below, start-more, word-has-end, word-inside, word-placed, next-start}
@@ -99,6 +99,7 @@ closing-begun T steps width size area e small inside bytes =
                 record {
                   inside = inside;
                   bytes = bytes ∙ ap (λ k. listingBytes (firstWords k)) (sym e);
+                  few = omega (arith, e, small);
                   named = first-named (T .size);
                 };
             counted = omega (arith, n, e);

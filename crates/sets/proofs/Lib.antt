@@ -1,4 +1,3 @@
-pub mod Ends
 pub mod Spelling
 pub mod Lookup
 pub mod FirstWords

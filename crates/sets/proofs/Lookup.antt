@@ -10,7 +10,7 @@ use lib.Seq.{drop-cons, take-length}
 use Rattle.model.specs.Word.{Positive}
 use Rattle.model.specs.Equivalence.{equal}
 use Rattle.model.specs.Signed.{isListed, setBytes}
-use Rattle.sets.specs.Words.{HasEnd, EndFound}
+use Rattle.spans.specs.Ends.{HasEnd, EndFound}
 use Rattle.sets.specs.Listed.{Lists}
 use Rattle.sets.proofs.Spelling.{used-is, place-below, word-part, word-has-end, word-end-is, word-inside, next-start}
 

@@ -181,6 +181,7 @@ module _ {cells area : List ℕ} {h : Held} {u v : Span} {T : Presentation} {vs 
                   record {
                     inside = omega (arith, inside, after-length);
                     bytes = b .front ∙ (l .front ∙ q .growing .lists .bytes);
+                    few = q .growing .lists .few;
                     named = q .growing .lists .named;
                   };
               counted = q .growing .counted;

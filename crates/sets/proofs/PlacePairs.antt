@@ -1,7 +1,7 @@
 -- The pairs of one place: those with the later word second, then those with it first.
 use mathlib.Core.Path.{_≡_, sym, ap, subst, _∙_}
 use mathlib.Core.List.{List, _++_, append-assoc}
-use Prim.Native.Nat.{ℕ, suc, _+_, _-_, _≤_, _<_}
+use Prim.Native.Nat.{ℕ, _+_, _-_, _≤_, _<_}
 use native.Mathlib.Omega.{arith}
 use native.Mathlib.Decide.{decLt}
 use mathlib.Core.Bool.{true, false}
@@ -19,7 +19,7 @@ use Rattle.sets.specs.declared.growing.Step.{Step}
 use Rattle.sets.specs.declared.growing.Step.the-variants.{Going, Ended}
 use Rattle.sets.specs.declared.places.Side.{Side}
 use Rattle.sets.specs.declared.places.Side.the-variants.{Second, First}
-use Rattle.sets.specs.Words.{EndFound}
+use Rattle.spans.specs.Ends.{EndFound}
 use Rattle.sets.specs.Listed.{Placed}
 use Rattle.sets.specs.Growing.{Grew, StopsLong, StepMeans, Paired}
 use Rattle.sets.specs.Places.{isTaken, chosenOf, sidedPair, sidedCount, sided, LaterWord, Later, PlacesMean}

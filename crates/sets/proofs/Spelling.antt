@@ -3,16 +3,17 @@ use mathlib.Core.Path.{_≡_, refl, sym, ap, _∙_}
 use mathlib.Core.List.{List, [], _∷_, _++_, append-assoc}
 use Prim.Native.Nat.{ℕ, zero, suc, _+_, _-_, _≤_, _<_}
 use native.Mathlib.Omega.{arith}
-use native.Mathlib.Decide.{decLe, decLt}
+use native.Mathlib.Decide.{decLt}
 use lib.ListN.{length, take, drop, getD, length-append, List·getD-append, take-append-drop}
 use lib.Seq.{drop-at, take-at, take-length, take-suc, take-append-le, split-at, getD-drop, getD-append-seam, length-take-le}
 use Rattle.model.specs.Word.{Positive, positive}
-use Rattle.model.specs.Range.{Lettered}
+use Rattle.model.specs.Range.{InRange, Lettered}
 use Rattle.model.specs.Ways.{listingBytes}
 use Rattle.model.specs.Signed.{setBytes}
 use Rattle.model.proofs.Lists.{all-at}
 use Rattle.sets.specs.declared.words.Span.{Span}
-use Rattle.sets.specs.Words.{HasEnd, EndFound}
+use Rattle.spans.specs.Ends.{isEnding, HasEnd, EndFound}
+use Rattle.spans.proofs.Runs.{letter-ends-none, WordAt, has-end, end-is}
 use Rattle.sets.specs.Listed.{Lists, Placed}
 
 -- BYTES OF WORDS
@@ -63,10 +64,10 @@ place-above vs i j l h = go (decLt i j)
 
 -- A WORD AT ITS PLACE
 
-letter-low : (n : ℕ) (w : Positive) (k : ℕ) → Lettered n (positive w) → k < length w → 1 ≤ getD w k 0
-letter-low n [] k p h = absurd (omega arith)
-letter-low n (a ∷ w) zero p h = p .0 .low
-letter-low n (a ∷ w) (suc k) p h = letter-low n w k (p .1) (omega arith)
+letter-named : (n : ℕ) (w : Positive) (k : ℕ) → Lettered n (positive w) → k < length w → InRange n (getD w k 0)
+letter-named n [] k p h = absurd (omega arith)
+letter-named n (a ∷ w) zero p h = p .0
+letter-named n (a ∷ w) (suc k) p h = letter-named n w k (p .1) (omega arith)
 
 module _ (n : ℕ) (area : List ℕ) (used : ℕ) (vs : List Positive) (s : Lists n area used vs) where
   pub used-is : used ≡ setBytes vs
@@ -106,35 +107,28 @@ module _ (n : ℕ) (area : List ℕ) (used : ℕ) (vs : List Positive) (s : List
     word-ends =
         sym (getD-drop start area (length word) 0) ∙ (ap (λ l. getD l (length word) 0) from-start ∙ getD-append-seam word 0 rest 0)
 
-    word-letter : (k : ℕ) → k < length word → getD area (start + k) 0 ≡ 0 → ⊥
-    word-letter k l e =
-        let f : getD area (start + k) 0 ≡ getD word k 0 =
-        sym (getD-drop start area k 0) ∙ (ap (λ l. getD l k 0) from-start ∙ List·getD-append word (0 ∷ rest) 0 k l) in
-        let low : 1 ≤ getD word k 0 = letter-low n word k word-named l in
-        omega (arith, e, f, low)
-
     pub word-inside : start + (length word + 1) ≤ used
     word-inside =
         let r : setBytes (take (suc i) vs) ≤ setBytes (take (length vs) vs) = places-up vs (suc i) (length vs) (omega arith) in
         let all : setBytes (take (length vs) vs) ≡ setBytes vs = ap setBytes (take-length vs) in
         omega (arith, r, all, used-is, place-next vs i h)
 
-    -- the word's end is the first zero byte
+    word-at : WordAt area start word
+    word-at =
+        record {
+          inside = omega (arith, word-inside, s .inside);
+          letters = λ k l. sym (getD-drop start area k 0) ∙ (ap (λ l. getD l k 0) from-start ∙ List·getD-append word (0 ∷ rest) 0 k l);
+          plain = λ k l. letter-ends-none n (getD word k 0) (s .few) (letter-named n word k word-named l);
+          ends = ap isEnding word-ends;
+        }
+
+    -- the word's end is the first byte that ends one
     module _ (at : ℕ) (e : at ≡ start) where
       pub word-has-end : HasEnd area at
-      word-has-end =
-          record { end = start + length word; after = omega arith; inside = omega (arith, word-inside, s .inside); ends = word-ends }
+      word-has-end = has-end area start word word-at at (omega arith)
 
       pub word-end-is : (r : ℕ) → EndFound area at r → r ≡ start + length word
-      word-end-is r f = go (decLe (start + length word) r) (decLe r (start + length word))
-        where
-          go : Dec (start + length word ≤ r) → Dec (r ≤ start + length word) → r ≡ start + length word
-          go (yes a) (yes b) = omega arith
-          go (no a) _ =
-              let after = f .after in
-              let k : r ≡ start + (r - start) = omega arith in
-              absurd (word-letter (r - start) (omega arith) (ap (λ j. getD area j 0) (sym k) ∙ f .ends))
-          go (yes a) (no b) = absurd (f .letters (start + length word) (omega arith) (omega arith) word-ends)
+      word-end-is r f = end-is area start word word-at at r (omega arith) (omega arith) f
 
       pub word-placed : (r : ℕ) → EndFound area at r → Placed vs i (record { at = at; letters = r - at })
       word-placed r f = record { inside = h; at-is = e; letters-is = omega (arith, word-end-is r f, e) }

@@ -17,7 +17,7 @@ use Rattle.sets.specs.declared.growing.Grown.{Grown}
 use Rattle.sets.specs.declared.growing.Held.{Held}
 use Rattle.sets.specs.declared.growing.Step.{Step}
 use Rattle.sets.specs.declared.growing.Step.the-variants.{Going, Ended}
-use Rattle.sets.specs.Words.{HasEnd, EndFound}
+use Rattle.spans.specs.Ends.{HasEnd, EndFound}
 use Rattle.sets.specs.Listed.{Placed}
 use Rattle.sets.specs.Growing.{stoppedAs, Growing, Grew, StopsLong, StepMeans, pairWord, afterPair}
 use Rattle.sets.proofs.Spelling.{start-more, word-has-end, word-placed, next-start}

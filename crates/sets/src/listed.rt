@@ -7,7 +7,7 @@ ghost use Rattle.model.specs.Signed.{firstWords};
 ghost use Rattle.sets.specs.Listed.{Listing, ListedMeans};
 use crate::words::Span;
 use crate::words::same_word;
-use crate::words::word_end;
+use spans::ends::word_end;
 
 // Whether the word of so many letters that stands behind the listed ones is one of them.
 pub fn is_listed(area: &[u8], used: usize, count: usize) -> bool

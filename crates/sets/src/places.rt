@@ -7,7 +7,7 @@ use crate::growing::Held;
 use crate::growing::Step;
 use crate::growing::take_pair;
 use crate::words::Span;
-use crate::words::word_end;
+use spans::ends::word_end;
 
 // Which of the two words of a pair the later one is.
 pub enum Side {

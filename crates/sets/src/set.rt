@@ -9,8 +9,8 @@ use crate::growing::Step;
 use crate::listed::write_first;
 use crate::places::take_place;
 use crate::words::Span;
-use crate::words::word_end;
 use model::answers::Stop;
+use spans::ends::word_end;
 
 // Grows the set in the workspace, whose content afterwards is of no use.
 pub fn grow_set(cells: &[u8], size: u8, workspace: &mut [u8], budget: u16) -> Grown

@@ -3,27 +3,12 @@ ghost use mathlib.Core.Path.{_≡_};
 ghost use Prim.Native.Nat.{_+_, _≤_};
 ghost use lib.ListN.{length, take, drop};
 ghost use Rattle.model.specs.Equivalence.{equal};
-ghost use Rattle.sets.specs.Words.{HasEnd, EndFound, spanned};
+ghost use Rattle.sets.specs.Words.{spanned};
 
 // A word of the area: where it begins, and how many letters it has.
 pub struct Span {
     pub at: usize,
     pub letters: usize,
-}
-
-// Where the first zero byte from a place on stands. There is one; with the area's end tested, the compiler makes no call of the C library of the loop.
-pub fn word_end(area: &[u8], at: usize) -> usize
-    requires { ⌜ HasEnd (now area) at ⌝ }
-    ensures { λ r. ⌜ EndFound (now (area .entry)) at r ⌝ }
-{
-    let mut end = at;
-    while end < area.len() {
-        if area[end] == 0 {
-            return end;
-        }
-        end += 1;
-    }
-    end
 }
 
 // Whether the same letters stand at two places.

@@ -2,7 +2,7 @@
 use mathlib.Core.Path.{_≡_, refl, sym, ap, ap₂, subst, _∙_}
 use mathlib.Core.Logic.{_⊎_, inl, inr}
 use mathlib.Core.List.{List, [], _∷_, _++_, append-assoc, List·Memᴰ, List·Memᴰ·head, List·Memᴰ·tail, List·Memᴰ·cases-cons, List·Memᴰ·append-cases, Memᴰ·append-left, Memᴰ·append-right, Memᴰ·map, Memᴰ·of-map, Memᴰ·cast}
-use mathlib.Core.Bool.{true, false, cond}
+use mathlib.Core.Bool.{true, cond}
 use mathlib.Core.Option.{some}
 use Prim.Native.Nat.{ℕ, suc, _+_, _%_, _≤_, _<_}
 use native.Mathlib.Omega.{arith}
@@ -23,7 +23,8 @@ use Rattle.theory.proofs.Clearing.{checked-homogeneous}
 use Rattle.theory.proofs.Ways.{joined-letters, applied-joined, finding-within, listing-lists}
 use Rattle.ways.specs.declared.swap.Swap.{Swap}
 use Rattle.ways.specs.declared.trying.Held.{Held}
-use Rattle.ways.specs.Marks.{untried, isEnding}
+use Rattle.spans.proofs.Runs.{letter-ends-none}
+use Rattle.ways.specs.Marks.{untried}
 use Rattle.ways.specs.Swap.{newLength, newWord}
 use Rattle.ways.specs.Insert.{movedOn, Beside, Opened}
 use Rattle.ways.specs.Area.{Marked, spelled, words, Legible, Spells, Listed, Fits}
@@ -44,10 +45,6 @@ marked-member ms x n = Memᴰ·of-map (λ m. m .word) ms n
 pub spelled-bytes : (ms : List Marked) → bytesOf (words ms) ≡ length (spelled ms)
 spelled-bytes [] = refl
 spelled-bytes (m ∷ ms) = omega (arith, bytes-more (m .word) (words ms), spelled-more m ms, spelled-bytes ms)
-
--- a letter's byte ends nothing
-pub letter-ends-none : (n a : ℕ) → n ≤ 16 → InRange n a → isEnding a ≡ false
-letter-ends-none n a few r = ne-eqb (a % untried) 0 (omega (arith, r .low, r .high))
 
 -- A WORD MORE
 

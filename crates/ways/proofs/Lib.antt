@@ -1,4 +1,3 @@
-pub mod Ends
 pub mod NewWords
 pub mod Spelling
 pub mod Inserting

@@ -26,7 +26,8 @@ use Rattle.ways.specs.declared.trying.Tried.{Tried}
 use Rattle.ways.specs.declared.trying.Tried.the-variants.{Going, Full}
 use Rattle.ways.specs.Swap.{newWord}
 use Rattle.ways.specs.State.{Work, current, Busy, listOf, Progress, TriedMeans, Toward, Swaps}
-use Rattle.ways.proofs.Spelling.{WordAt, word-at}
+use Rattle.spans.proofs.Runs.{WordAt}
+use Rattle.ways.proofs.Spelling.{word-at}
 use Rattle.ways.proofs.Inserting.{part-same}
 use Rattle.ways.proofs.Adding.{word-joined}
 

@@ -49,7 +49,7 @@ use Rattle.ways.specs.Area.{words, Legible}
 use Rattle.ways.specs.State.{current}
 use Rattle.ways.specs.Listing.{Task, State, ListedAll}
 use Rattle.ways.specs.Service.{Answers, Passed, WaysMeaning, WaysSay, WaysPromise}
-use Rattle.ways.proofs.Adding.{letter-ends-none}
+use Rattle.spans.proofs.Runs.{letter-ends-none}
 
 -- THE PROGRAM'S WORD
 

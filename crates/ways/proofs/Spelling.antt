@@ -10,10 +10,10 @@ use lib.ListN.{length, take, drop, getD, length-append, List·getD-append}
 use lib.Seq.{getD-take, getD-append-add, ext-getD, length-take-le}
 use Rattle.model.specs.Word.{Positive}
 use Rattle.model.specs.Ways.{earlier, Ordered}
-use Rattle.model.proofs.Impossible.{impossible}
 use Rattle.model.proofs.Listing.{earlier-transitive, ordered-rest, ordered-after}
 use Rattle.areas.proofs.Parts.{taken-length}
-use Rattle.ways.specs.Marks.{isEnding, StartFound, HasEnd, EndFound}
+use Rattle.spans.specs.Ends.{isEnding, StartFound, HasEnd, EndFound}
+use Rattle.spans.proofs.Runs.{WordAt, start-is, has-end, end-is}
 use Rattle.ways.specs.Area.{Marked, entryBytes, spelled, words, Legible, Spells, Fits, Listed}
 use Rattle.ways.proofs.NewWords.{part-at}
 
@@ -50,59 +50,11 @@ spelled-last (m ∷ ms) l h = go (decLt 0 (length (spelled ms))) (spelled-last m
 
 -- A WORD AT ITS PLACE
 
-pub record WordAt (area : List ℕ) (start : ℕ) (w : Positive) : Type 0 where
-  pub inside : start + length w < length area
-  pub letters : (i : ℕ) → i < length w → getD area (start + i) 0 ≡ getD w i 0
-  pub plain : (i : ℕ) → i < length w → isEnding (getD w i 0) ≡ false
-  pub ends : isEnding (getD area (start + length w) 0) ≡ true
-  pub begins : 0 < start → isEnding (getD area (start - 1) 0) ≡ true
-
-module _ (area : List ℕ) (start : ℕ) (w : Positive) (h : WordAt area start w) where
-  pub word-part : take (length w) (drop start area) ≡ w
-  word-part =
-      let long : length (take (length w) (drop start area)) ≡ length w = taken-length area start (length w) (omega (arith, h .inside)) in
-      ext-getD 0 (take (length w) (drop start area)) w long
-      (λ i k. let near : i < length w = omega (arith, long, k) in part-at area start (length w) i near ∙ h .letters i near)
-
-  -- a byte in the word ends nothing
-  inner : (j : ℕ) → start ≤ j → j < start + length w → isEnding (getD area j 0) ≡ false
-  inner j low high =
-      let at : j ≡ start + (j - start) = omega arith in
-      ap (λ i. isEnding (getD area i 0)) at ∙ (ap isEnding (h .letters (j - start) (omega arith)) ∙ h .plain (j - start) (omega arith))
-
-  pub start-is : (low at r : ℕ) → low ≤ start → start ≤ at → at ≤ start + length w → StartFound area low at r → r ≡ start
-  start-is low at r l p q f = go (decLe r start) (decLe start r)
-    where
-      go : Dec (r ≤ start) → Dec (start ≤ r) → r ≡ start
-      go (yes a) (yes b) = omega arith
-      go (no a) _ =
-          let before = f .before in
-          let ending : isEnding (getD area (r - 1) 0) ≡ true = f .begins (omega arith) in
-          let letter : isEnding (getD area (r - 1) 0) ≡ false = inner (r - 1) (omega arith) (omega arith) in
-          impossible (cc)
-      go (yes a) (no b) =
-          let after = f .after in
-          let ending : isEnding (getD area (start - 1) 0) ≡ true = h .begins (omega arith) in
-          let letter : isEnding (getD area (start - 1) 0) ≡ false = f .letters (start - 1) (omega arith) (omega arith) in
-          impossible (cc)
-
-  pub has-end : (at : ℕ) → at ≤ start + length w → HasEnd area at
-  has-end at q = record { end = start + length w; after = q; inside = h .inside; ends = h .ends }
-
-  pub end-is : (at r : ℕ) → start ≤ at → at ≤ start + length w → EndFound area at r → r ≡ start + length w
-  end-is at r p q f = go (decLe (start + length w) r) (decLe r (start + length w))
-    where
-      go : Dec (start + length w ≤ r) → Dec (r ≤ start + length w) → r ≡ start + length w
-      go (yes a) (yes b) = omega arith
-      go (no a) _ =
-          let after = f .after in
-          let ending : isEnding (getD area r 0) ≡ true = f .ends in
-          let letter : isEnding (getD area r 0) ≡ false = inner r (omega arith) (omega arith) in
-          impossible (cc)
-      go (yes a) (no b) =
-          let ending : isEnding (getD area (start + length w) 0) ≡ true = h .ends in
-          let letter : isEnding (getD area (start + length w) 0) ≡ false = f .letters (start + length w) q (omega arith) in
-          impossible (cc)
+word-part : (area : List ℕ) (start : ℕ) (w : Positive) → WordAt area start w → take (length w) (drop start area) ≡ w
+word-part area start w h =
+    let long : length (take (length w) (drop start area)) ≡ length w = taken-length area start (length w) (omega (arith, h .inside)) in
+    ext-getD 0 (take (length w) (drop start area)) w long
+    (λ i k. let near : i < length w = omega (arith, long, k) in part-at area start (length w) i near ∙ h .letters i near)
 
 -- the byte at an index of what is spelled
 spelled-byte : (area : List ℕ) (used : ℕ) (ms : List Marked) → Spells area used ms → (i : ℕ) → i < used → getD area i 0 ≡ getD (spelled ms) i 0
@@ -112,39 +64,43 @@ pub spells-length : (area : List ℕ) (used : ℕ) (ms : List Marked) → Spells
 spells-length area used ms s = sym (length-take-le used area (s .fits)) ∙ ap length (s .bytes)
 
 -- a listed word stands after those before it
-pub word-at : (area : List ℕ) (used : ℕ) (pre : List Marked) (m : Marked) (post : List Marked) → Spells area used (pre ++ (m ∷ post))
-    → WordAt area (length (spelled pre)) (m .word)
-word-at area used pre m post s =
-    record {
-      inside = omega (arith, s .fits, long);
-      letters = λ i k. byte i (omega arith) ∙ (List·getD-append (entryBytes m) (spelled post) 0 i (omega (arith, entry-length m)) ∙ List·getD-append (m .word) (m .mark ∷ []) 0 i k);
-      plain = legible .letters;
-      ends = ap isEnding marked ∙ legible .ends;
-      begins = λ h. ap isEnding (before (length (spelled pre) - 1) (omega arith)) ∙ spelled-last pre (λ x n. s .legible x (Memᴰ·append-left (m ∷ post) n)) h;
-    }
-  where
-    legible : Legible m
-    legible = s .legible m (Memᴰ·append-right pre (List·Memᴰ·head refl))
+module _ (area : List ℕ) (used : ℕ) (pre : List Marked) (m : Marked) (post : List Marked) (s : Spells area used (pre ++ (m ∷ post))) where
+  legible : Legible m
+  legible = s .legible m (Memᴰ·append-right pre (List·Memᴰ·head refl))
 
-    long : used ≡ length (spelled pre) + (length (m .word) + 1 + length (spelled post))
-    long = spells-length area used (pre ++ (m ∷ post)) s ∙ (spelled-both pre (m ∷ post) ∙ ap (λ k. length (spelled pre) + k) (spelled-more m post))
+  long : used ≡ length (spelled pre) + (length (m .word) + 1 + length (spelled post))
+  long = spells-length area used (pre ++ (m ∷ post)) s ∙ (spelled-both pre (m ∷ post) ∙ ap (λ k. length (spelled pre) + k) (spelled-more m post))
 
-    before : (i : ℕ) → i < length (spelled pre) → getD area i 0 ≡ getD (spelled pre) i 0
-    before i h =
-        spelled-byte area used (pre ++ (m ∷ post)) s i (omega (arith, long))
-        ∙ (ap (λ l. getD l i 0) (spelled-append pre (m ∷ post)) ∙ List·getD-append (spelled pre) (spelled (m ∷ post)) 0 i h)
+  byte : (i : ℕ) → i < length (m .word) + 1 → getD area (length (spelled pre) + i) 0 ≡ getD (entryBytes m ++ spelled post) i 0
+  byte i h =
+      spelled-byte area used (pre ++ (m ∷ post)) s (length (spelled pre) + i) (omega (arith, long))
+      ∙ (ap (λ l. getD l (length (spelled pre) + i) 0) (spelled-append pre (m ∷ post)) ∙ getD-append-add (spelled pre) (spelled (m ∷ post)) i 0)
 
-    byte : (i : ℕ) → i < length (m .word) + 1 → getD area (length (spelled pre) + i) 0 ≡ getD (entryBytes m ++ spelled post) i 0
-    byte i h =
-        spelled-byte area used (pre ++ (m ∷ post)) s (length (spelled pre) + i) (omega (arith, long))
-        ∙ (ap (λ l. getD l (length (spelled pre) + i) 0) (spelled-append pre (m ∷ post)) ∙ getD-append-add (spelled pre) (spelled (m ∷ post)) i 0)
+  mark-at : getD area (length (spelled pre) + length (m .word)) 0 ≡ m .mark
+  mark-at =
+      let at : length (m .word) ≡ length (m .word) + 0 = omega arith in
+      byte (length (m .word)) (omega arith)
+      ∙ (List·getD-append (entryBytes m) (spelled post) 0 (length (m .word)) (omega (arith, entry-length m))
+      ∙ (ap (λ i. getD (entryBytes m) i 0) at ∙ getD-append-add (m .word) (m .mark ∷ []) 0 0))
 
-    marked : getD area (length (spelled pre) + length (m .word)) 0 ≡ m .mark
-    marked =
-        let at : length (m .word) ≡ length (m .word) + 0 = omega arith in
-        byte (length (m .word)) (omega arith)
-        ∙ (List·getD-append (entryBytes m) (spelled post) 0 (length (m .word)) (omega (arith, entry-length m))
-        ∙ (ap (λ i. getD (entryBytes m) i 0) at ∙ getD-append-add (m .word) (m .mark ∷ []) 0 0))
+  pub word-at : WordAt area (length (spelled pre)) (m .word)
+  word-at =
+      record {
+        inside = omega (arith, s .fits, long);
+        letters = λ i k.
+            byte i (omega arith)
+            ∙ (List·getD-append (entryBytes m) (spelled post) 0 i (omega (arith, entry-length m)) ∙ List·getD-append (m .word) (m .mark ∷ []) 0 i k);
+        plain = legible .letters;
+        ends = ap isEnding mark-at ∙ legible .ends;
+      }
+
+  pub word-begins : 0 < length (spelled pre) → isEnding (getD area (length (spelled pre) - 1) 0) ≡ true
+  word-begins h =
+      ap isEnding
+      (spelled-byte area used (pre ++ (m ∷ post)) s (length (spelled pre) - 1) (omega (arith, long))
+      ∙ (ap (λ l. getD l (length (spelled pre) - 1) 0) (spelled-append pre (m ∷ post))
+      ∙ List·getD-append (spelled pre) (spelled (m ∷ post)) 0 (length (spelled pre) - 1) (omega arith)))
+      ∙ spelled-last pre (λ x n. s .legible x (Memᴰ·append-left (m ∷ post) n)) h
 
 -- the word that has a byte
 pub record Holding (ms : List Marked) (k : ℕ) : Type 0 where
@@ -232,6 +188,7 @@ module _ (area : List ℕ) (used : ℕ) (ms : List Marked) (s : Spells area used
     pub to : at ≤ start + length (one .word)
     pub until : start + length (one .word) + 1 ≤ high
     pub there : WordAt area start (one .word)
+    pub begins : 0 < start → isEnding (getD area (start - 1) 0) ≡ true
 
   whole : (low high : ℕ) (b : Between ms v low high) (pre post : List Marked) (one : Marked) → b .middle ≡ pre ++ (one ∷ post)
       → ms ≡ (b .before ++ pre) ++ (one ∷ (post ++ b .after))
@@ -258,6 +215,9 @@ module _ (area : List ℕ) (used : ℕ) (ms : List Marked) (s : Spells area used
         to = omega arith;
         until = omega (arith, b .high-is, ap (λ l. length (spelled l)) (t .parts), spelled-both (t .pre) (t .one ∷ t .post), spelled-more (t .one) (t .post));
         there = subst (λ p. WordAt area p (t .one .word)) place (word-at area used (b .before ++ t .pre) (t .one) (t .post ++ b .after) spells);
+        begins =
+            subst (λ p. 0 < p → isEnding (getD area (p - 1) 0) ≡ true) place
+            (word-begins area used (b .before ++ t .pre) (t .one) (t .post ++ b .after) spells);
       }
 
   module _ (low high at : ℕ) (b : Between ms v low high) (t : Halving low high at b) where
@@ -335,7 +295,7 @@ module _ (area : List ℕ) (used : ℕ) (ms : List Marked) (s : Spells area used
 
   module _ (start end : ℕ) (f : StartFound area low at start) (e : EndFound area at end) where
     starts : start ≡ half .start
-    starts = start-is area (half .start) (half .one .word) (half .there) low at start (omega (arith, half .start-is)) (half .from) (half .to) f
+    starts = start-is area (half .start) (half .one .word) (half .there) (half .begins) low at start (omega (arith, half .start-is)) (half .from) (half .to) f
 
     ending : end ≡ half .start + length (half .one .word)
     ending = end-is area (half .start) (half .one .word) (half .there) at end (half .from) (half .to) e

@@ -19,11 +19,13 @@ use Rattle.model.proofs.Impossible.{impossible}
 use Rattle.theory.specs.Ways.{Lists}
 use Rattle.theory.proofs.Ways.{Closed, closed-lists, listing-meaning}
 use Rattle.ways.specs.declared.trying.Held.{Held}
-use Rattle.ways.specs.Marks.{untried, isEnding, StartFound, UntriedFound}
+use Rattle.spans.specs.Ends.{isEnding, StartFound}
+use Rattle.spans.proofs.Runs.{WordAt, start-is}
+use Rattle.ways.specs.Marks.{untried, UntriedFound}
 use Rattle.ways.specs.Area.{Marked, entryBytes, spelled, words, Legible, Spells}
 use Rattle.ways.specs.State.{triedCount, Sound, Work, current, Busy, Progress, Any}
 use Rattle.ways.specs.Listing.{Task, State, ListedAll}
-use Rattle.ways.proofs.Spelling.{spelled-append, spelled-both, spelled-more, spells-length, WordAt, word-at, start-is, Holding, locate}
+use Rattle.ways.proofs.Spelling.{spelled-append, spelled-both, spelled-more, spells-length, word-at, word-begins, Holding, locate}
 use Rattle.ways.proofs.Adding.{marked-member, busy-inside, more-member, more-keeps}
 
 -- COUNTED
@@ -118,7 +120,9 @@ module _ {cells : List ℕ} {size : ℕ} (k : Task cells size) (area : List ℕ)
   busy-at end t start f =
       let parted : Spells area used (t .pre ++ (current (t .word) ∷ t .post)) = subst (Spells area used) (t .parts) (s .spells) in
       let at = word-at area used (t .pre) (current (t .word)) (t .post) parted in
-      let begins : start ≡ length (spelled (t .pre)) = start-is area (length (spelled (t .pre))) (t .word) at 0 end start (omega arith) (omega (arith, t .end-is)) (omega (arith, t .end-is)) f in
+      let before = word-begins area used (t .pre) (current (t .word)) (t .post) parted in
+      let begins : start ≡ length (spelled (t .pre)) =
+      start-is area (length (spelled (t .pre))) (t .word) at before 0 end start (omega arith) (omega (arith, t .end-is)) (omega (arith, t .end-is)) f in
       record {
         earlier-words = t .pre;
         later-words = t .post;

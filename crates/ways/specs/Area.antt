@@ -7,7 +7,7 @@ use lib.ListN.{length, take, getD}
 use Rattle.model.specs.Word.{Positive}
 use Rattle.model.specs.Enumeration.{concatMap}
 use Rattle.model.specs.Ways.{earlier, Ordered}
-use Rattle.ways.specs.Marks.{isEnding}
+use Rattle.spans.specs.Ends.{isEnding}
 use Rattle.ways.specs.declared.search.Place.{Place}
 use Rattle.ways.specs.declared.search.Place.the-variants.{There, At}
 

@@ -3,10 +3,10 @@ ghost use mathlib.Core.Path.{_≡_};
 ghost use lib.ListN.{length};
 ghost use Rattle.ways.specs.Listing.{Begun, ListMeans};
 use crate::marks::first_untried;
-use crate::marks::word_start;
 use crate::trying::Held;
 use crate::trying::Tried;
 use crate::trying::try_word;
+use spans::ends::word_start;
 
 // The listing stands in the area, with so many words in so many bytes; or it is longer than the area.
 pub enum Listing {

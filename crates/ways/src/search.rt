@@ -2,11 +2,11 @@
 ghost use mathlib.Core.List.{List};
 ghost use Rattle.ways.specs.Swap.{Readable, newWord};
 ghost use Rattle.ways.specs.Area.{Marked, Spells, Searched, PlaceMeans};
-use crate::marks::word_end;
-use crate::marks::word_start;
 use crate::swap::Order;
 use crate::swap::Swap;
 use crate::swap::compare;
+use spans::ends::word_end;
+use spans::ends::word_start;
 
 // The word is there already, or belongs at a byte.
 pub enum Place {

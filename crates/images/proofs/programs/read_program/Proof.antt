@@ -16,7 +16,7 @@ use Rattle.model.specs.Range.{InRange}
 use Rattle.images.specs.Programs.{SignedDone, SignedTaken, LetterTaken}
 use Rattle.images.specs.declared.bit_reader.BitReader.{BitReader}
 use Rattle.images.specs.declared.programs.SignedField.{SignedField}
-use Rattle.images.proofs.Validating.{count-ends, value-refused, whole-answered, whole-count, whole-tail, program-whole}
+use Rattle.images.proofs.Validating.{program, count-ends, value-refused, whole-held, whole-tail}
 use Rattle.images.proofs.Measuring.{Passed, passed-none, passed-named, passed-light, passed-more, no-back}
 use borrow.Author.Needs.{needs}
 use Rattle.images.proofs.programs.read_program.Statement.{statement}
@@ -65,8 +65,8 @@ refused-by : (c : tie.After-next-signed Inv-loop μ-loop) (n : ℕ)
 refused-by c n e =
     let l = loop c in
     let s = start (wide l .before) in
-    program-whole (s .args .size) (s .args .image .now)
-    ∙ value-refused (signedField (s .args .size)) 12 (s .args .image .now) (count l) (count-at (wide l .before)) (place (l .loop .reader)) (l .loop .i) (l .loop .inv .validated) n
+    value-refused (program (s .args .size)) (s .args .image .now) (count l) (count-at (wide l .before)) (place (l .loop .reader)) (l .loop .i)
+    (l .loop .inv .validated) n
     (c .before .loop-test .taken) e
 
 next-field-requires : tie.Need-next-field-requires Inv-loop μ-loop
@@ -81,7 +81,8 @@ enum-told c = search needs
 returns : tie.Need-returns Inv-loop μ-loop
 returns c =
     let s = c .before .before .before .before .before in
-    program-whole (s .args .size) (s .args .image .now) ∙ count-ends (signedField (s .args .size)) 12 (s .args .image .now) (subst (FieldDone (s .args .image .now) 0 12) (c .enum-told .given .1) (c .before .before .next-field .ensures))
+    count-ends (program (s .args .size)) (s .args .image .now)
+    (subst (FieldDone (s .args .image .now) 0 12) (c .enum-told .given .1) (c .before .before .next-field .ensures))
 
 letter-width-requires : tie.Need-letter-width-requires Inv-loop μ-loop
 letter-width-requires c κs = of-size (start c .pre .1)
@@ -204,18 +205,11 @@ returns-4 c =
     let l = c .before .before .before in
     let s = start (wide l .before) in
     let v = l .loop .inv .validated in
+    let h =
+    whole-held (program (s .args .size)) (s .args .image .now) (count l) (count-at (wide l .before)) (place (l .loop .reader)) (l .loop .i) v
+    (c .before .before .loop-test .left) (sym (c .before .is-end .ensures) ∙ c .if1 .taken) in
     record {
-      program =
-          record {
-            word = v .done;
-            read =
-                program-whole (s .args .size) (s .args .image .now)
-                ∙ whole-answered (signedField (s .args .size)) 12 (s .args .image .now) (count l) (count-at (wide l .before)) (place (l .loop .reader)) (l .loop .i) v
-                (c .before .before .loop-test .left) (sym (c .before .is-end .ensures) ∙ c .if1 .taken);
-            count-is =
-                whole-count (signedField (s .args .size)) 12 (s .args .image .now) (count l) (count-at (wide l .before)) (place (l .loop .reader)) (l .loop .i) v
-                (c .before .before .loop-test .left);
-          };
+      program = record { word = v .done; read = h .read; count-is = h .count-is };
       forward-is = ap (λ n. eqb n 0) (l .loop .inv .signs) ∙ no-back (v .done);
       weight-is = l .loop .inv .weighed;
     }
@@ -224,8 +218,8 @@ returns-5 : tie.Need-returns-5 Inv-loop μ-loop
 returns-5 c =
     let l = c .before .before .before in
     let s = start (wide l .before) in
-    program-whole (s .args .size) (s .args .image .now)
-    ∙ whole-tail (signedField (s .args .size)) 12 (s .args .image .now) (count l) (count-at (wide l .before)) (place (l .loop .reader)) (l .loop .i) (l .loop .inv .validated)
+    whole-tail (program (s .args .size)) (s .args .image .now) (count l) (count-at (wide l .before)) (place (l .loop .reader)) (l .loop .i)
+    (l .loop .inv .validated)
     (c .before .before .loop-test .left) (sym (c .before .is-end .ensures) ∙ c .if1 .left)
 
 pub read-program-spec : {M : Type 1} → statement M

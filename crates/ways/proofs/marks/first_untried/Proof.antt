@@ -1,12 +1,22 @@
 -- `ways::marks::first_untried` meets its contract.
-use mathlib.Core.Path.{_≡_}
-use Prim.Native.Nat.{ℕ, _-_, _≤_, _<_}
+use mathlib.Core.Path.{_≡_, sym, ap, _∙_}
+use mathlib.Core.List.{List}
+use Prim.Native.Nat.{ℕ, _+_, _-_, _≤_, _<_}
 use native.Mathlib.Omega.{arith}
+use native.Mathlib.Decide.{ℕ-discrete}
 use lib.ListN.{getD}
 use Rattle.ways.specs.Marks.{untried}
-use Rattle.ways.proofs.Ends.{tried-more}
 use Rattle.ways.proofs.marks.first_untried.Statement.{statement}
 use Rattle.ways.proofs.marks.first_untried.Tie as tie
+
+-- one byte more that marks no word as untried
+tried-more : (area : List ℕ) (at : ℕ) → (getD area at 0 ≡ untried → ⊥) → ((i : ℕ) → i < at → getD area i 0 ≡ untried → ⊥)
+    → (i : ℕ) → i < at + 1 → getD area i 0 ≡ untried → ⊥
+tried-more area at e h i k m = go (ℕ-discrete i at)
+  where
+    go : Dec (i ≡ at) → ⊥
+    go (yes p) = e (ap (λ j. getD area j 0) (sym p) ∙ m)
+    go (no p) = h i (omega arith) m
 
 abbrev Inv-loop : tie.InvT-loop
 Inv-loop area used at₀ at = (at ≤ used) × ((i : ℕ) → i < at → getD area i 0 ≡ untried → ⊥)

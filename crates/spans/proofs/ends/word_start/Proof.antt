@@ -1,17 +1,23 @@
--- `ways::marks::word_start` meets its contract.
+-- `spans::ends::word_start` meets its contract.
 use mathlib.Core.Path.{sym, _∙_}
 use Prim.Native.Nat.{_≤_}
 use native.Mathlib.Omega.{arith}
-use Rattle.ways.specs.Marks.{Inside}
-use Rattle.ways.proofs.Ends.{inside-none, inside-before}
-use Rattle.ways.proofs.marks.word_start.Statement.{statement}
-use Rattle.ways.proofs.marks.word_start.Tie as tie
+use Rattle.spans.specs.Ends.{Inside}
+use Rattle.spans.proofs.Runs.{inside-none, inside-before}
+use Rattle.spans.proofs.ends.word_start.Statement.{statement}
+use Rattle.spans.proofs.ends.word_start.Tie as tie
 
 abbrev Inv-loop : tie.InvT-loop
 Inv-loop area low at start₀ start = (low ≤ start) × (start ≤ at) × Inside area start at
 
 abbrev μ-loop : tie.MeasureT-loop
 μ-loop area low at start₀ start = start
+
+abbrev loop : tie.After-is-ending Inv-loop μ-loop → tie.At-loop Inv-loop μ-loop
+loop c = c .before .before .before
+
+abbrev start : tie.At-loop Inv-loop μ-loop → tie.Start Inv-loop μ-loop
+start c = c .before .before
 
 loop-holds : tie.Need-loop-holds Inv-loop μ-loop
 loop-holds c =
@@ -29,7 +35,7 @@ is-ending-requires c κs = tt
 
 returns : tie.Need-returns Inv-loop μ-loop
 returns c =
-    let l = c .before .before .before .before .loop in
+    let l = loop (c .before) .loop in
     record { after = l .inv .0; before = l .inv .1; letters = l .inv .2; begins = λ h. sym (c .before .is-ending .ensures) ∙ c .if1 .taken }
 
 sub-start : tie.Need-sub-start Inv-loop μ-loop
@@ -40,9 +46,13 @@ loop-less c = omega arith
 
 loop-again : tie.Need-loop-again Inv-loop μ-loop
 loop-again c =
-    let s = c .before .before .before .before .before .before in
-    let l = c .before .before .before .before .loop in
-    (omega (arith, c .before .before .before .loop-test .taken), omega (arith, l .inv .1), inside-before (s .args .area .now) (l .start) (s .args .at) (sym (c .before .is-ending .ensures) ∙ c .if1 .left) (l .inv .2))
+    let l = loop (c .before) in
+    let s = start l in
+    let letter = sym (c .before .is-ending .ensures) ∙ c .if1 .left in (
+      omega (arith, c .before .before .before .loop-test .taken),
+      omega (arith, l .loop .inv .1),
+      inside-before (s .args .area .now) (l .loop .start) (s .args .at) letter (l .loop .inv .2),
+    )
 
 returns-2 : tie.Need-returns-2 Inv-loop μ-loop
 returns-2 c =
