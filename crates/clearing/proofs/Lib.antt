@@ -1,1 +1,2 @@
-pub mod ClearService
+pub mod BothChecks
+pub mod Cleared

@@ -1,1 +1,4 @@
+pub mod BothChecks
+pub mod Clearing
 pub mod Clear
+pub mod MirrorClear

@@ -10,7 +10,7 @@ ghost use Rattle.loading.specs.Weighing.{Weigh};
 ghost use Rattle.comparing.specs.Compare.{judgement, Decides, Judges, Meaning};
 use areas::bytes::wipe;
 use cells::layout::CELLS;
-use clearing::clear::clear_cells;
+use clearing::clearing::clear_cells;
 use images::programs::Signs;
 use loading::loading::ProgramsRead;
 use loading::loading::read_programs;

@@ -31,6 +31,10 @@ regrouped : {A B C : Type 0} (o : Outcome A) (f : A → Outcome B) (rest : B →
 regrouped (answered x) f rest g e = e x
 regrouped (refused n ps) f rest g e = refl
 
+-- A TABLE ALONE, as clear and mirror_clear begin
+pub table-refused : {A : Type 0} (table : List ℕ) (rest : Presentation → Outcome A) (r : Refusal) → readTable table ≡ refusal r → AsFound (readTable table >>= rest) r
+table-refused table rest r e = reading-refused (readTable table >>= rest) (readTable table) rest refl r e 3 (table-early table) (omega arith)
+
 -- ONE PROGRAM
 
 module _ {W : Type 0} (read : ℕ → List ℕ → Outcome W) (table program : List ℕ) where

@@ -12,7 +12,7 @@ ghost use Rattle.remainders.specs.Remainder.{AnswerOf, Concludes, Remain
 use areas::bytes::copy_bytes;
 use areas::bytes::wipe;
 use cells::layout::CELLS;
-use clearing::clear::clear_cells;
+use clearing::clearing::clear_cells;
 use images::programs::Signs;
 use loading::loading::ProgramsRead;
 use loading::loading::read_programs;

@@ -9,25 +9,29 @@ use lib.ListN.{length, replicate}
 use Rattle.model.specs.Word.{Word}
 use Rattle.model.specs.Presentation.{Presentation}
 use Rattle.model.specs.Reversing.{Ending, finished, open-pair, stopped, budget, room}
-use Rattle.model.specs.Outcome.{answered, unless, mapped}
+use Rattle.model.specs.Outcome.{Outcome, answered, unless, mapped}
 use Rattle.model.specs.Services.{sizes, Fraction, fractionOf}
 use Rattle.model.specs.Areas.{fractionBytes, outputAfter, workspaceAfter}
 use Rattle.model.specs.Stated.{refusal, stopRefusal, reversed}
 use Rattle.model.specs.declared.answers.Ending.the-variants.{Finished, Undefined, Stopped}
 use Rattle.model.specs.declared.answers.Stop.{Stop}
 use Rattle.model.specs.declared.answers.Pair.{Pair}
+use Rattle.model.specs.declared.answers.Refusal.{Refusal}
 use Rattle.model.specs.declared.answers.Refusal.the-variants.{OpenPair, AnswerShort}
 use Rattle.model.specs.declared.answers.Reversed.{Reversed}
 use Rattle.model.specs.declared.answers.Reversed.the-variants.{Answer, Refused}
 use Rattle.engine.specs.Run.{Reverses}
 use Rattle.engine.proofs.Ended.{end, done, met, halted, stop-numbered}
 use Rattle.reversal.specs.Fraction.{FractionWritten}
-use Rattle.reversal.specs.Reverse.{Answers}
+use Rattle.reversal.specs.Asked.{Answers}
 
 module _ (T : Presentation) (word : Word) (steps : ℕ) (workspace before : List ℕ) where
+  abbrev outcome : Outcome Fraction
+  outcome = fractionOf (length before) (end T word steps workspace)
+
   -- an answer that states the outcome of the ending
   answers-by : (e : Ending) → end T word steps workspace ≡ e → (r : Reversed) (after : List ℕ) → reversed r ≡ mapped sizes (fractionOf (length before) e)
-      → after ≡ outputAfter fractionBytes (fractionOf (length before) e) before → Answers T word steps (length workspace) before after r
+      → after ≡ outputAfter fractionBytes (fractionOf (length before) e) before → Answers outcome before after r
   answers-by e h r after p q =
       record {
         result = p ∙ sym (ap (λ d. mapped sizes (fractionOf (length before) d)) h);
@@ -35,7 +39,7 @@ module _ (T : Presentation) (word : Word) (steps : ℕ) (workspace before : List
       }
 
   module _ (n d k r : ℕ) (p : Reverses T word steps workspace (Finished n d k r)) where
-    pub area-short : length before < n + d → Answers T word steps (length workspace) before before (Refused AnswerShort)
+    pub area-short : length before < n + d → Answers outcome before before (Refused AnswerShort)
     area-short h =
         let q = done T word steps workspace n d k r p in
         let e = lt-ltb (length before) (length (q .N) + length (q .D)) (omega (arith, q .n-length, q .d-length)) in
@@ -44,7 +48,7 @@ module _ (T : Presentation) (word : Word) (steps : ℕ) (workspace before : List
         (sym (ap (λ t. outputAfter fractionBytes (unless t 13 (record { numerator = q .N; denominator = q .D; steps = k })) before) e))
 
     pub answer-written : n + d ≤ length before → (after : List ℕ) → FractionWritten workspace n d before after
-        → Answers T word steps (length workspace) before after (Answer n d k)
+        → Answers outcome before after (Answer n d k)
     answer-written h after w =
         let q = done T word steps workspace n d k r p in
         let e = le-ltb (length before) (length (q .N) + length (q .D)) (omega (arith, q .n-length, q .d-length)) in
@@ -54,13 +58,13 @@ module _ (T : Presentation) (word : Word) (steps : ℕ) (workspace before : List
         (w (q .N) (q .D) (q .n-length) (q .d-length) (q .stands)
         ∙ sym (ap (λ t. outputAfter fractionBytes (unless t 13 (record { numerator = q .N; denominator = q .D; steps = k })) before) e))
 
-  pub met-open : (p : Pair) (k : ℕ) → Reverses T word steps workspace (Undefined p k) → Answers T word steps (length workspace) before before (Refused (OpenPair p))
+  pub met-open : (p : Pair) (k : ℕ) → Reverses T word steps workspace (Undefined p k) → Answers outcome before before (Refused (OpenPair p))
   met-open p k q = answers-by (open-pair (p .a) (p .b) k) (met T word steps workspace p k q) (Refused (OpenPair p)) before refl refl
 
-  pub was-stopped : (s : Stop) → Reverses T word steps workspace (Stopped s) → Answers T word steps (length workspace) before before (Refused (stopRefusal s))
-  was-stopped s q =
+  pub was-stopped : (s : Stop) (why : Refusal) → why ≡ stopRefusal s → Reverses T word steps workspace (Stopped s) → Answers outcome before before (Refused why)
+  was-stopped s why e q =
       let h = halted T word steps workspace s q in
-      answers-by (stopped (h .stop)) (h .is) (Refused (stopRefusal s)) before (sym (ap (λ x. refusal (stopRefusal x)) (h .told)) ∙ stop-numbered (h .stop)) refl
+      answers-by (stopped (h .stop)) (h .is) (Refused why) before (ap refusal e ∙ sym (ap (λ x. refusal (stopRefusal x)) (h .told)) ∙ stop-numbered (h .stop)) refl
 
 -- after any of them the workspace is all zero
 pub zero-after : (area : ℕ) (e : Ending) (workspace : List ℕ) → workspaceAfter (fractionOf area e) workspace ≡ replicate (length workspace) 0

@@ -1,4 +1,10 @@
-pub mod Fractions
-pub mod Told
 pub mod Answers
+pub mod Told
+pub mod Fractions
+pub mod Foretelling
+pub mod EnquireService
+pub mod CommitService
+pub mod Answered
 pub mod ReverseService
+pub mod ReadBackward
+pub mod LeftService

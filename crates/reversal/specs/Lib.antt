@@ -1,2 +1,9 @@
 pub mod Fraction
+pub mod Asked
+pub mod Endings
+pub mod Backward
+pub mod Answering
 pub mod Reverse
+pub mod Enquire
+pub mod Commit
+pub mod LeftReverse

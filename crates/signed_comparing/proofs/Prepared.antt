@@ -16,13 +16,12 @@ use Rattle.model.specs.declared.answers.Pair.{Pair}
 use Rattle.model.specs.declared.answers.Stop.the-variants.{Budget, Room}
 use Rattle.model.specs.declared.answers.Refusal.{Refusal}
 use Rattle.model.specs.declared.answers.Refusal.the-variants.{NoMirror}
+use Rattle.model.specs.declared.answers.Cleared.{Cleared}
 use Rattle.model.specs.declared.answers.Cleared.the-variants.{Passed, Refused}
 use Rattle.model.proofs.Outcomes.{still-refused, goes-on}
 use Rattle.cells.specs.Stands.{Of}
-use Rattle.checks.specs.Table.{TriplesMean}
-use Rattle.checks.specs.declared.table.Triples.{Triples}
-use Rattle.mirror_clearing.specs.MirrorClear.{mirrorRefusal}
-use Rattle.mirror_clearing.proofs.MirrorService.{mirror-stated, mirror-wipe}
+use Rattle.clearing.specs.BothChecks.{CubesMean}
+use Rattle.clearing.specs.declared.both_checks.TriplesOf.the-variants.{Mirror}
 use Rattle.sets.specs.Growing.{grownAs}
 use Rattle.sets.specs.Set.{SetMeans}
 use Rattle.sets.specs.declared.growing.Grown.{Grown}
@@ -44,20 +43,23 @@ grown-late TooLarge area = refl
 grown-late (Stopped Budget) area = refl
 grown-late (Stopped Room) area = refl
 
-module _ (cells mirrored : List ℕ) (size budget width : ℕ) (f : Triples) (t : TriplesMean mirrored size width budget f) where
+module _ (cells mirrored : List ℕ) (size budget width : ℕ) {r : Cleared} (cubes : CubesMean Mirror mirrored size budget width r) where
   -- what the check of the mirror's triples comes to
-  cube-is : (T : Presentation) → Of cells size T → Of mirrored size (mirror T) → ofMirror (cubeCheck (mirror T) budget width (triples (T .size))) ≡ clearedAs (mirrorRefusal f)
-  cube-is T o u = sym (mirror-stated f ∙ ap ofMirror (t (mirror T) u ∙ ap (λ n. cubeCheck (mirror T) budget width (triples n)) (sym (o .sized))))
+  cube-is : (T : Presentation) → Of cells size T → Of mirrored size (mirror T)
+      → ofMirror (cubeCheck (mirror T) budget width (triples (T .size))) ≡ clearedAs r
+  cube-is T o u = sym (cubes .states (mirror T) u ∙ ap (λ n. ofMirror (cubeCheck (mirror T) budget width (triples n))) (sym (o .sized)))
 
-  pub mirror-refused : (r : Refusal) → mirrorRefusal f ≡ Refused r → MirrorThenSet cells mirrored size budget width (Refused r)
-  mirror-refused r e = record {
-    states = λ T o u. sym (still-refused (ofMirror (cubeCheck (mirror T) budget width (triples (T .size)))) r (cube-is T o u ∙ ap clearedAs e) (λ ok. mapped (λ vs. tt) (grownSet T budget width)));
-    late = λ area. ap (λ c. workspaceAfter (clearedAs c) area) (sym e) ∙ mirror-wipe f area;
+  pub mirror-refused : (why : Refusal) → r ≡ Refused why → MirrorThenSet cells mirrored size budget width (Refused why)
+  mirror-refused why e = record {
+    states = λ T o u. sym (still-refused (ofMirror (cubeCheck (mirror T) budget width (triples (T .size)))) why (cube-is T o u ∙ ap clearedAs e) _);
+    late = λ area. ap (λ c. workspaceAfter (clearedAs c) area) (sym e) ∙ cubes .late area;
   }
 
-  pub set-grown : mirrorRefusal f ≡ Passed → (g : Grown) → SetMeans cells size width budget g → MirrorThenSet cells mirrored size budget width (grownRefusal g)
+  pub set-grown : r ≡ Passed → (g : Grown) → SetMeans cells size width budget g → MirrorThenSet cells mirrored size budget width (grownRefusal g)
   set-grown e g s = record {
-    states = λ T o u. grown-stated g ∙ s T o ∙ sym (goes-on (ofMirror (cubeCheck (mirror T) budget width (triples (T .size)))) tt (cube-is T o u ∙ ap clearedAs e) (λ ok. mapped (λ vs. tt) (grownSet T budget width)));
+    states =
+        λ T o u. grown-stated g ∙ s T o
+        ∙ sym (goes-on (ofMirror (cubeCheck (mirror T) budget width (triples (T .size)))) tt (cube-is T o u ∙ ap clearedAs e) _);
     late = grown-late g;
   }
 

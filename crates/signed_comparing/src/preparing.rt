@@ -8,9 +8,9 @@ ghost use Rattle.signed_comparing.specs.Preparing.{grownRefusal, MirrorT
 use areas::bytes::wipe;
 use cells::layout::CELLS;
 use cells::layout::UNDEFINED;
-use checks::table::check_triples;
-use clearing::clear::clear_cells;
-use mirror_clearing::mirror_clear::mirror_answer;
+use clearing::both_checks::TriplesOf;
+use clearing::both_checks::check_cubes;
+use clearing::clearing::clear_cells;
 use mirrors::mirror::Mirrored;
 use mirrors::mirror::mirror_table;
 use model::answers::Cleared;
@@ -47,13 +47,9 @@ pub fn mirror_then_set(
     ensures prepares { λ r. ⌜ MirrorThenSet (now (cells .entry)) (now (mirror .entry)) size budget (length (now (workspace .entry))) r ⌝ }
     ensures workspace { λ r. ⌜ now (workspace .exit) ≡ replicate (length (now (workspace .entry))) 0 ⌝ }
 {
-    let found = check_triples(mirror, size, workspace, budget);
-    let cube = mirror_answer(found);
+    let cube = check_cubes(mirror, size, TriplesOf::Mirror, budget, workspace);
     match cube {
-        Cleared::Refused(refusal) => {
-            wipe(workspace);
-            Cleared::Refused(refusal)
-        }
+        Cleared::Refused(refusal) => Cleared::Refused(refusal),
         Cleared::Passed => {
             let grown = grow_set(cells, size, workspace, budget);
             wipe(workspace);

@@ -13,7 +13,7 @@ use crate::logs::TrayRead;
 use crate::logs::log_length;
 use crate::logs::read_tray;
 use cells::layout::CELLS;
-use clearing::clear::clear_cells;
+use clearing::clearing::clear_cells;
 use comparing::compare::compare_cleared;
 use images::programs::ProgramRead;
 use images::programs::Signs;

@@ -1,72 +1,18 @@
 -- `clearing::clear::clear` meets its contract.
-use mathlib.Core.Path.{sym, ap, subst, _∙_}
-use native.Mathlib.Omega.{arith}
+use mathlib.Core.Path.{sym, subst}
 use lib.ListN.{length}
-use Rattle.model.specs.Images.{readTable}
-use Rattle.model.specs.Areas.{workspaceAfter}
-use Rattle.images.specs.Tables.{TableDone}
-use Rattle.loading.proofs.Early.{table-early}
-use Rattle.loading.proofs.Outcomes.{refused-workspace}
-use Rattle.clearing.proofs.ClearService.{clear-no-table, clear-runs, clear-says}
-use Rattle.cells.proofs.Rules.{blank-zeros}
+use Rattle.clearing.specs.Clear.{ClearMeaning}
+use Rattle.clearing.proofs.Cleared.{clear-means}
 use borrow.Author.Needs.{needs}
 use Rattle.clearing.proofs.clear.clear.Statement.{statement}
 use Rattle.clearing.proofs.clear.clear.Tie as tie
 
-slice-aggregate-read-table : tie.Need-slice-aggregate-read-table
-slice-aggregate-read-table c = search needs
-
-read-table-requires : tie.Need-read-table-requires
-read-table-requires c κs = blank-zeros
-
-enum-known-read : tie.Need-enum-known-read
-enum-known-read c = search needs
-
-enum-known-read-2 : tie.Need-enum-known-read-2
-enum-known-read-2 c = search needs
-
-slice-aggregate-clear-cells : tie.Need-slice-aggregate-clear-cells
-slice-aggregate-clear-cells c = search needs
-
-clear-cells-requires : tie.Need-clear-cells-requires
-clear-cells-requires c κs =
-    let s = c .before .before .before .before .before .before .before .before .before .before in
-    let v = c .before .before .before .before .before .before .read-table in
-    let t = subst (TableDone (s .args .table .now) (v .last .1 .0)) (c .before .before .before .read2 .given .1) (v .ensures .1) in
-    (t .table, t .of)
-
 returns : tie.Need-returns
 returns c =
-    let s = c .before .before .before .before .before .before .before .before in
-    let v = c .before .before .before .before .read-table in
-    let r = c .before .read .given .0 .0 in
-    let e = subst (TableDone (s .args .table .now) (v .last .1 .0)) (c .before .read .given .1) (v .ensures .1) in
-    let o = clear-no-table (s .args .table .now) (s .args .allowance) (length (s .args .workspace .now)) r e in
-    (sym o, (refused-workspace _ r o (readTable (s .args .table .now)) 3 e (table-early (s .args .table .now)) (omega arith) (s .args .workspace .now), clear-says (s .args .table .now) (s .args .allowance) (length (s .args .workspace .now)) _ (sym o)))
-
-same-length : tie.Need-same-length
-same-length c = search needs
-
-returns-2 : tie.Need-returns-2
-returns-2 c =
-    let s = c .before .before .before .before .before .before .before .before .before .before .before .before .before in
-    let v = c .before .before .before .before .before .before .before .before .before .read-table in
-    let t = subst (TableDone (s .args .table .now) (v .last .1 .0)) (c .before .before .before .before .before .before .read2 .given .1) (v .ensures .1) in
-    let z = c .before .before .clear-cells in
-    let o = clear-runs (s .args .table .now) (s .args .allowance) (length (s .args .workspace .now)) (t .table) (t .read) in
-    let e = z .ensures .0 (t .table) (t .of) ∙ sym o in
-    (e, (z .ensures .1 ∙ ap (λ x. workspaceAfter x (s .args .workspace .now)) e, clear-says (s .args .table .now) (s .args .allowance) (length (s .args .workspace .now)) _ e))
+    let z = c .before .before .clear-image .ensures in
+    let a = c .before .before .before .before .before .before .args in
+    let means = clear-means (a .table .now) (a .allowance) (length (a .workspace .now)) in
+    (z .stated, (z .workspace, subst (ClearMeaning (a .table .now)) (sym (z .stated)) means))
 
 pub clear-spec : {M : Type 1} → statement M
-clear-spec =
-    tie.close
-    (tie.spec
-    slice-aggregate-read-table
-    read-table-requires
-    enum-known-read
-    enum-known-read-2
-    slice-aggregate-clear-cells
-    clear-cells-requires
-    returns
-    same-length
-    returns-2)
+clear-spec = tie.close (tie.spec (λ c κs. search needs) (λ c. search needs) returns)

@@ -1,0 +1,19 @@
+-- `clearing::mirror_clear::mirror_clear` meets its contract.
+use mathlib.Core.Path.{sym, subst}
+use lib.ListN.{length}
+use Rattle.clearing.specs.MirrorClear.{MirrorClearMeaning}
+use Rattle.clearing.proofs.Cleared.{mirror-means}
+use borrow.Author.Needs.{needs}
+use Rattle.clearing.proofs.mirror_clear.mirror_clear.Statement.{statement}
+use Rattle.clearing.proofs.mirror_clear.mirror_clear.Tie as tie
+
+returns : tie.Need-returns
+returns c =
+    let z = c .before .before .clear-image .ensures in
+    let a = c .before .before .before .before .before .before .args in
+    let width = length (a .workspace .now) in
+    let means = mirror-means (a .table .now) (a .allowance) width in
+    (z .stated, (z .workspace, subst (MirrorClearMeaning (a .table .now) (a .allowance) width) (sym (z .stated)) means))
+
+pub mirror-clear-spec : {M : Type 1} → statement M
+mirror-clear-spec = tie.close (tie.spec (λ c κs. search needs) (λ c. search needs) returns)

@@ -1,2 +1,0 @@
-// The service commit.
-pub mod commit;

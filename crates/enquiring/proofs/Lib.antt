@@ -1,2 +1,0 @@
-pub mod EnquireService
-pub mod Foretelling

@@ -1,2 +1,0 @@
-// The service enquire.
-pub mod enquire;

@@ -1,2 +1,0 @@
-pub mod ReadBackward
-pub mod LeftService

@@ -1,2 +1,0 @@
-pub mod Backward
-pub mod LeftReverse

@@ -1,2 +1,0 @@
-// The service mirror_clear.
-pub mod mirror_clear;

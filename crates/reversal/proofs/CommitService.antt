@@ -1,0 +1,168 @@
+-- What commit makes of each ending, its outcome after each check, and that what it answers is what reverse answers.
+use mathlib.Core.Path.{_≡_, refl, sym, ap, ap₂, _∙_}
+use mathlib.Core.List.{List}
+use mathlib.Core.Bool.{Bool, true, false, _&&_, cond}
+use Prim.Native.Nat.{ℕ, _+_, _≤_}
+use borrow.Author.Tests.{eq-eqb, ne-eqb}
+use lib.Dec.{eqb}
+use lib.ListN.{length, replicate}
+use Rattle.model.specs.Word.{Word}
+use Rattle.model.specs.Presentation.{Presentation}
+use Rattle.model.specs.Reversing.{Ending, finished, open-pair, stopped, reversing}
+use Rattle.model.specs.Outcome.{unplaced, Outcome, answered, refused, _>>=_, mapped}
+use Rattle.model.specs.Images.{readTable, readProgram}
+use Rattle.model.specs.Services.{Fraction, fractionOf, reverse, Sizes, sizes, sizesOf, enquire, agree, committedOf, commit}
+use Rattle.model.specs.Areas.{fractionBytes, outputAfter, workspaceAfter}
+use Rattle.model.specs.Stated.{refusal}
+use Rattle.model.specs.declared.answers.Ending.{Ending as EndingAnswer}
+use Rattle.model.specs.declared.answers.Ending.the-variants.{Finished, Undefined, Stopped}
+use Rattle.model.specs.declared.answers.Refusal.{Refusal}
+use Rattle.model.specs.declared.answers.Refusal.the-variants.{OtherNumbers}
+use Rattle.model.specs.declared.answers.Reversed.{Reversed}
+use Rattle.model.specs.declared.answers.Reversed.the-variants.{Refused}
+use Rattle.model.proofs.Impossible.{impossible, answer-of}
+use Rattle.engine.specs.Run.{Reverses}
+use Rattle.engine.proofs.Ended.{end, done, met, halted}
+use Rattle.loading.proofs.Reading.{program-runs}
+use Rattle.reversal.specs.Asked.{Answers}
+use Rattle.reversal.specs.Commit.{CommitMeaning}
+use Rattle.reversal.proofs.Answers.{zero-after}
+use Rattle.reversal.proofs.Foretelling.{foretells}
+
+-- THE THREE TESTS
+
+module _ (a b c x y z : ℕ) where
+  abbrev tests : Bool
+  tests = eqb a x && (eqb b y && eqb c z)
+
+  pub first-differs : (a ≡ x → ⊥) → false ≡ tests
+  first-differs h = sym (ap (λ t. t && (eqb b y && eqb c z)) (ne-eqb a x h))
+
+  module _ (h : a ≡ x) where
+    pub second-differs : (b ≡ y → ⊥) → false ≡ tests
+    second-differs g = sym (ap₂ (λ s t. s && (t && eqb c z)) (eq-eqb a x h) (ne-eqb b y g))
+
+    pub third-tells : b ≡ y → eqb c z ≡ tests
+    third-tells g = sym (ap₂ (λ s t. s && (t && eqb c z)) (eq-eqb a x h) (eq-eqb b y g))
+
+-- AN ENDING
+
+abbrev pub NotFinished : EndingAnswer → Type 0
+NotFinished (Finished n d k r) = ⊥
+NotFinished (Undefined p k) = Unit {0}
+NotFinished (Stopped s) = Unit {0}
+
+module _ (z : Sizes) (T : Presentation) (word : Word) (steps : ℕ) (workspace before : List ℕ) where
+  abbrev whole : Outcome Fraction
+  whole = committedOf z (length before) (end T word steps workspace)
+
+  abbrev reversed-outcome : Outcome Fraction
+  reversed-outcome = fractionOf (length before) (end T word steps workspace)
+
+  -- where commit comes to what reverse does
+  commits-as : whole ≡ reversed-outcome → {after : List ℕ} {r : Reversed}
+      → Answers reversed-outcome before after r → Answers whole before after r
+  commits-as e a =
+      record { result = a .result ∙ sym (ap (mapped sizes) e); area = a .area ∙ sym (ap (λ o. outputAfter fractionBytes o before) e) }
+
+  pub unfinished-commits : (e : EndingAnswer) → NotFinished e → Reverses T word steps workspace e → {after : List ℕ} {r : Reversed}
+      → Answers reversed-outcome before after r → Answers whole before after r
+  unfinished-commits (Finished n d k r) u p a = absurd u
+  unfinished-commits (Undefined q k) u p a =
+      let e = met T word steps workspace q k p in
+      commits-as (ap (committedOf z (length before)) e ∙ sym (ap (fractionOf (length before)) e)) a
+  unfinished-commits (Stopped s) u p a =
+      let h = halted T word steps workspace s p in
+      commits-as (ap (committedOf z (length before)) (h .is) ∙ sym (ap (fractionOf (length before)) (h .is))) a
+
+  module _ (n d k r : ℕ) (p : Reverses T word steps workspace (Finished n d k r)) where
+    abbrev own : Sizes
+    own = record { numerator = n; denominator = d; steps = k }
+
+    by-numbers : {t : Bool} → agree z own ≡ t → whole ≡ cond t (fractionOf (length before) (end T word steps workspace)) (refused 18 unplaced)
+    by-numbers {t} e =
+        let q = done T word steps workspace n d k r p in
+        let sized : sizesOf (end T word steps workspace) ≡ answered own =
+        ap sizesOf (q .is) ∙ ap₂ (λ i j. answered (record { numerator = i; denominator = j; steps = k })) (q .n-length) (q .d-length) in
+        ap (λ o. o >>= λ y. cond (agree z y) (fractionOf (length before) (end T word steps workspace)) (refused 18 unplaced)) sized
+        ∙ ap (λ t. cond t (fractionOf (length before) (end T word steps workspace)) (refused 18 unplaced)) e
+
+    pub own-commits : agree z own ≡ true → {after : List ℕ} {s : Reversed} → Answers reversed-outcome before after s
+        → Answers whole before after s
+    own-commits e = commits-as (by-numbers e)
+
+    pub others-refused : agree z own ≡ false → Answers whole before before (Refused OtherNumbers)
+    others-refused e =
+        let o = by-numbers e in
+        record { result = sym (ap (mapped sizes) o); area = sym (ap (λ q. outputAfter fractionBytes q before) o) }
+
+-- after any of them the workspace is all zero
+pub committed-zero : (z : Sizes) (area : ℕ) (e : Ending) (workspace : List ℕ) → workspaceAfter (committedOf z area e) workspace ≡ replicate (length workspace) 0
+committed-zero z area (finished n d k r) workspace = go (agree z (record { numerator = length n; denominator = length d; steps = k }))
+  where
+    go : (t : Bool) → workspaceAfter (cond t (fractionOf area (finished n d k r)) (refused 18 unplaced)) workspace ≡ replicate (length workspace) 0
+    go true = zero-after area (finished n d k r) workspace
+    go false = refl
+committed-zero z area (open-pair a b k) workspace = zero-after area (open-pair a b k) workspace
+committed-zero z area (stopped s) workspace = zero-after area (stopped s) workspace
+
+-- THE SERVICE
+
+module _ (table program : List ℕ) (steps width : ℕ) (z : Sizes) (area : ℕ) where
+  -- AND ENQUIRE AND REVERSE
+
+  agreed : (t : Bool) (o : Outcome Fraction) (f : Fraction) → cond t o (refused 18 unplaced) ≡ answered f → o ≡ answered f
+  agreed true o f e = e
+  agreed false o f e = impossible (cc)
+
+  committed-reverses : (e : Ending) (f : Fraction) → committedOf z area e ≡ answered f → fractionOf area e ≡ answered f
+  committed-reverses e f h =
+      let x = answer-of (sizesOf e) (λ y. cond (agree z y) (fractionOf area e) (refused 18 unplaced)) f h in
+      agreed (agree z (x .0)) (fractionOf area e) f (x .2)
+
+  -- what commit answers, reverse answers
+  pub commit-reverses : (f : Fraction) → commit table program steps width z area ≡ answered f → reverse table program steps width area ≡ answered f
+  unfolding commit reverse
+  commit-reverses f h =
+      let t = answer-of (readTable table) (λ T. readProgram (T .size) program >>= λ w. committedOf z area (reversing T steps width w)) f h in
+      let p = answer-of (readProgram (t .0 .size) program) (λ w. committedOf z area (reversing (t .0) steps width w)) f (t .2) in
+      program-runs readProgram table program (λ T w. fractionOf area (reversing T steps width w)) (t .0) (p .0) (t .1) (p .1)
+      ∙ committed-reverses (reversing (t .0) steps width (p .0)) f (p .2)
+
+module _ (table program : List ℕ) (steps : ℕ) (workspace : List ℕ) (z : Sizes) (before : List ℕ) where
+  abbrev outcome : Outcome Fraction
+  outcome = commit table program steps (length workspace) z (length before)
+
+  abbrev reversal : Outcome Fraction
+  reversal = reverse table program steps (length workspace) (length before)
+
+  -- the service's promise
+  abbrev pub Promised : List ℕ → List ℕ → Outcome Sizes → Type 0
+  Promised workspace′ after told =
+      (told ≡ mapped sizes outcome)
+      × ((after ≡ outputAfter fractionBytes outcome before)
+      × ((workspace′ ≡ workspaceAfter outcome workspace) × CommitMeaning table program steps (length workspace) z before after told))
+
+  pub promised : (workspace′ after : List ℕ) (told : Outcome Sizes) → told ≡ mapped sizes outcome → after ≡ outputAfter fractionBytes outcome before
+      → workspace′ ≡ workspaceAfter outcome workspace → Promised workspace′ after told
+  promised workspace′ after told t a k = (t, (a, (k, record { answers = answers; as-reverse = as-reverse })))
+    where
+      same : (f : Fraction) → outcome ≡ answered f → outcome ≡ reversal
+      same f e = e ∙ sym (commit-reverses table program steps (length workspace) z (length before) f e)
+
+      answers : enquire table program steps (length workspace) ≡ answered z → z .numerator + z .denominator ≤ length before
+          → (told ≡ answered z) × (after ≡ outputAfter fractionBytes reversal before)
+      answers h l =
+          let c = foretells table program steps (length workspace) (length before) .answers z h l in (
+            t ∙ (ap (mapped sizes) (c .3) ∙ ap answered (c .1)),
+            a ∙ ap (λ o. outputAfter fractionBytes o before) (c .3 ∙ sym (c .2)),
+          )
+
+      answered-same : (o : Outcome Fraction) (y : Sizes) → outcome ≡ o → mapped sizes o ≡ answered y → outcome ≡ reversal
+      answered-same (answered f) y e h = same f e
+      answered-same (refused n place) y e h = impossible (cc)
+
+      as-reverse : (y : Sizes) → told ≡ answered y → (mapped sizes reversal ≡ answered y) × (after ≡ outputAfter fractionBytes reversal before)
+      as-reverse y h =
+          let s = answered-same outcome y refl (sym t ∙ h) in
+          (sym (ap (mapped sizes) s) ∙ (sym t ∙ h), a ∙ ap (λ o. outputAfter fractionBytes o before) s)

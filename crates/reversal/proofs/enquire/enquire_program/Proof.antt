@@ -1,0 +1,38 @@
+-- `reversal::enquire::enquire_program` meets its contract.
+use mathlib.Core.Path.{ap, _∙_}
+use lib.ListN.{length, replicate}
+use Rattle.model.specs.Reversing.{reversing}
+use Rattle.model.specs.Services.{sizesOf}
+use Rattle.model.specs.Stated.{reversed}
+use Rattle.reversal.specs.Enquire.{sizesTold}
+use Rattle.reversal.proofs.EnquireService.{sizes-stated}
+use borrow.Author.Needs.{needs}
+use Rattle.reversal.proofs.enquire.enquire_program.Statement.{statement}
+use Rattle.reversal.proofs.enquire.enquire_program.Tie as tie
+
+reverse-image-requires : tie.Need-reverse-image-requires
+reverse-image-requires c κs = search needs
+
+wipe-requires : tie.Need-wipe-requires
+wipe-requires c κs = search needs
+
+sizes-of-requires : tie.Need-sizes-of-requires
+sizes-of-requires c κs = search needs
+
+same-length : tie.Need-same-length
+same-length c = search needs
+
+returns : tie.Need-returns
+returns c =
+    let s = c .before .before .before .before .before .before .before .before .before .before .before .before in
+    let v = c .before .before .before .before .before .before .before .reverse-image in
+    record {
+      wiped = c .before .before .before .wipe .ensures ∙ ap (λ i. replicate i 0) (v .ensures .0);
+      answers = λ T o w e. ap reversed (c .sizes-of .ensures)
+          ∙ (ap (λ x. reversed (sizesTold x)) (v .ensures .1 T o w e .answer)
+          ∙ (sizes-stated (reversing T (s .args .budget) (length (v .last .1 .1 .1 .1 .1 .0)) w) ∙ ap (λ i. sizesOf (reversing T (s .args .budget) i w)) (v .ensures .0)));
+    }
+
+pub enquire-program-spec : {M : Type 1} → statement M
+enquire-program-spec =
+    tie.close (tie.spec reverse-image-requires wipe-requires sizes-of-requires same-length returns)

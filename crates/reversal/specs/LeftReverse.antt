@@ -1,0 +1,38 @@
+-- What the outcome of left_reverse says of right reversing under the mirror.
+use mathlib.Core.List.{List, reverse}
+use mathlib.Core.Path.{_≡_}
+use Prim.Native.Nat.{ℕ}
+use lib.ListN.{length}
+use Rattle.model.specs.Word.{Word}
+use Rattle.model.specs.Presentation.{Presentation}
+use Rattle.model.specs.Reversing.{reversing}
+use Rattle.model.specs.Outcome.{Outcome, answered, mapped}
+use Rattle.model.specs.Images.{readTable, readProgram}
+use Rattle.model.specs.Mirror.{mirror, mirrorCheck}
+use Rattle.model.specs.Services.{Sizes, sizes, Fraction, fractionOf}
+use Rattle.model.specs.Areas.{fractionBytes, outputAfter}
+use Rattle.theory.specs.Mirrors.{readBackward, LeftIsRight}
+use Rattle.theory.specs.Orders.{OrderMeaning}
+use Rattle.reversal.specs.Reverse.{fractionLeft}
+
+-- right reversing of the word read backward, under the mirror, with both words of its answer read backward again
+abbrev pub underMirror : Presentation → Word → ℕ → ℕ → ℕ → Outcome Fraction
+underMirror T w steps width area = fractionOf area (readBackward (reversing (mirror T) steps width (reverse w)))
+
+-- a fraction with both words read backward
+abbrev pub turnedFraction : Fraction → Fraction
+turnedFraction f = record { numerator = reverse (f .numerator); denominator = reverse (f .denominator); steps = f .steps }
+
+-- what was told and written is that, where the table in the image has a mirror
+pub record MirrorSays (T : Presentation) (w : Word) (steps width : ℕ) (before after : List ℕ) (told : Outcome Sizes) : Type 0 where
+  pub told-is : told ≡ mapped sizes (underMirror T w steps width (length before))
+  pub written-is : after ≡ outputAfter fractionBytes (underMirror T w steps width (length before)) before
+  -- as left reversing is of every word, at every allowance and room
+  pub left-is-right : LeftIsRight T
+  -- of the word and both words of the answer, each read backward, it says under the mirror what reverse says of every order
+  pub orders-say : OrderMeaning (mirror T) (reverse w) (mapped turnedFraction (mapped (fractionLeft after) told))
+
+abbrev pub LeftMeaning : List ℕ → List ℕ → ℕ → ℕ → List ℕ → List ℕ → Outcome Sizes → Type 0
+LeftMeaning table program steps width before after told =
+    (T : Presentation) → readTable table ≡ answered T → (w : Word) → readProgram (T .size) program ≡ answered w → mirrorCheck T ≡ answered tt
+    → MirrorSays T w steps width before after told
