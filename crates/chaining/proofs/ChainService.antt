@@ -37,7 +37,7 @@ use Rattle.cells.proofs.Rules.{of-few, weight-within}
 use Rattle.engine.proofs.Lettering.{length-positive, length-negative}
 use Rattle.chains.specs.Listing.{Chained}
 use Rattle.chains.specs.Listing.{Compared as Listed-from}
-use Rattle.loading.specs.Loading.{Images, readImages}
+use Rattle.model.specs.Services.{Images, readImages}
 use Rattle.comparing.specs.Compare.{Ended, Judged, Meaning}
 use Rattle.loading.specs.Reversing.{LoadedPrograms}
 use Rattle.chaining.specs.Chain.{Area, ListedAs, JoinsChecked, ListedChecks}

@@ -28,7 +28,7 @@ use Rattle.theory.proofs.Passages.{passage-exactly, passage-fits}
 use Rattle.images.specs.Programs.{ForwardOf}
 use Rattle.swaps.specs.Held.{heldAt, Placed, Carried}
 use Rattle.swaps.proofs.Applying.{held-length}
-use Rattle.loading.specs.Loading.{Images, readImages}
+use Rattle.model.specs.Services.{Images, readImages}
 use Rattle.images.proofs.RoundTrip.{table-in-range, chain-image-of}
 use Rattle.checking.specs.Check.{CheckMeaning}
 use Rattle.loading.proofs.Early.{chain-early}

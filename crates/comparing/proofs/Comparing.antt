@@ -22,7 +22,7 @@ use Rattle.model.proofs.Impossible.{impossible}
 use Rattle.theory.specs.Verdicts.{DemandThree}
 use Rattle.theory.proofs.Verdicts.{demand-three}
 use Rattle.engine.specs.Run.{Reverses}
-use Rattle.loading.specs.Loading.{Images, readImages}
+use Rattle.model.specs.Services.{Images, readImages}
 use Rattle.comparing.specs.Compare.{judgement, Ended, EndedIf, Judged, Meaning}
 use Rattle.model.specs.declared.answers.Compared.{Compared}
 use Rattle.model.specs.declared.answers.Compared.the-variants.{Same, Different, Refused}

@@ -7,9 +7,9 @@ use Prim.Native.Nat.{ℕ}
 use native.Mathlib.Omega.{arith}
 use Rattle.model.specs.Word.{Positive}
 use Rattle.model.specs.Presentation.{Presentation}
-use Rattle.model.specs.Outcome.{Outcome, answered, refused, _>>=_}
+use Rattle.model.specs.Outcome.{Outcome, answered, _>>=_}
 use Rattle.model.specs.Images.{readTable, readProgram}
-use Rattle.model.specs.Services.{readForward}
+use Rattle.model.specs.Services.{readTableWith, readForward, Images, readImages}
 use Rattle.model.specs.Areas.{Compares}
 use Rattle.model.specs.Stated.{refusal}
 use Rattle.model.specs.declared.answers.Refusal.{Refusal}
@@ -20,16 +20,10 @@ use Rattle.images.specs.declared.programs.Signs.the-variants.{Any, Forward as F
 use Rattle.cells.specs.Stands.{Sized}
 use Rattle.images.specs.Tables.{TableOf}
 use Rattle.cells.proofs.Rules.{of-some, of-few}
-use Rattle.loading.specs.Loading.{readTableWith, ProgramLoaded, ForwardLoaded, LoadedAs, Images, readImages, ProgramsLoaded, SignedLoaded, BothAs}
+use Rattle.loading.specs.Loading.{ProgramLoaded, ForwardLoaded, LoadedAs, ProgramsLoaded, SignedLoaded, BothAs}
 use Rattle.loading.proofs.Early.{Early, early-then, wider, table-early, forward-early}
 use Rattle.loading.proofs.Outcomes.{AsFound, reading-refused}
 use Rattle.loading.proofs.Weights.{measured-weighs}
-
--- a reading of two parts, and then the rest
-regrouped : {A B C : Type 0} (o : Outcome A) (f : A → Outcome B) (rest : B → Outcome C) (g : A → Outcome C) → ((x : A) → (f x >>= rest) ≡ g x)
-    → ((o >>= f) >>= rest) ≡ (o >>= g)
-regrouped (answered x) f rest g e = e x
-regrouped (refused n ps) f rest g e = refl
 
 -- A TABLE ALONE, as clear and mirror_clear begin
 pub table-refused : {A : Type 0} (table : List ℕ) (rest : Presentation → Outcome A) (r : Refusal) → readTable table ≡ refusal r → AsFound (readTable table >>= rest) r
@@ -39,7 +33,6 @@ table-refused table rest r e = reading-refused (readTable table >>= rest) (readT
 
 module _ {W : Type 0} (read : ℕ → List ℕ → Outcome W) (table program : List ℕ) where
   pub no-table : (r : Refusal) → readTable table ≡ refusal r → readTableWith read table program ≡ refusal r
-  unfolding readTableWith
   no-table r e = still-refused (readTable table) r e _
 
   module _ {cells : List ℕ} {size : ℕ} (t : TableOf table cells size) where
@@ -47,35 +40,32 @@ module _ {W : Type 0} (read : ℕ → List ℕ → Outcome W) (table program : L
     sized = ap (λ i. read i program) (t .of .sized)
 
     pub no-program : (r : Refusal) → read size program ≡ refusal r → readTableWith read table program ≡ refusal r
-    unfolding readTableWith
     no-program r e = goes-on (readTable table) (t .table) (t .read) _ ∙ still-refused (read (t .table .size) program) r (sized ∙ e) _
 
   pub table-with-early : ((n : ℕ) (bytes : List ℕ) → Early 7 (read n bytes)) → Early 7 (readTableWith read table program)
-  unfolding readTableWith
   table-with-early early =
       early-then 7 (readTable table) _ (wider 3 7 (readTable table) (omega arith) (table-early table))
       (λ T. early-then 7 (read (T .size) program) _ (early (T .size) program) (λ w. tt))
 
+  reads-both : (T : Presentation) (w : W) → readTable table ≡ answered T → read (T .size) program ≡ answered w
+      → readTableWith read table program ≡ answered (record { table = T; word = w })
+  reads-both T w e f = goes-on (readTable table) T e _ ∙ goes-on (read (T .size) program) w f _
+
   -- a service that reads the two images, and then has only the rest to do
   module _ {A : Type 0} (rest : Presentation → W → Outcome A) where
     abbrev program-service : Outcome A
-    program-service = readTable table >>= λ T. read (T .size) program >>= rest T
-
-    reads-program : program-service ≡ (readTableWith read table program >>= λ l. rest (l .table) (l .word))
-    unfolding readTableWith
-    reads-program =
-        sym (regrouped (readTable table) _ (λ l. rest (l .table) (l .word)) _
-        (λ T. regrouped (read (T .size) program) _ (λ l. rest (l .table) (l .word)) _ (λ w. refl)))
+    program-service = readTableWith read table program >>= λ l. rest (l .table) (l .word)
 
     pub program-still-refused : (r : Refusal) → readTableWith read table program ≡ refusal r → program-service ≡ refusal r
-    program-still-refused r e = reads-program ∙ still-refused (readTableWith read table program) r e _
+    program-still-refused r e = still-refused (readTableWith read table program) r e _
 
-    pub program-refused : ((n : ℕ) (bytes : List ℕ) → Early 7 (read n bytes)) → (r : Refusal) → readTableWith read table program ≡ refusal r → AsFound program-service r
+    pub program-refused : ((n : ℕ) (bytes : List ℕ) → Early 7 (read n bytes)) → (r : Refusal) → readTableWith read table program ≡ refusal r
+        → AsFound program-service r
     program-refused early r e =
-        reading-refused program-service (readTableWith read table program) (λ l. rest (l .table) (l .word)) reads-program r e 7 (table-with-early early) (omega arith)
+        reading-refused program-service (readTableWith read table program) (λ l. rest (l .table) (l .word)) refl r e 7 (table-with-early early) (omega arith)
 
     pub program-runs : (T : Presentation) (w : W) → readTable table ≡ answered T → read (T .size) program ≡ answered w → program-service ≡ rest T w
-    program-runs T w e f = goes-on (readTable table) T e _ ∙ goes-on (read (T .size) program) w f _
+    program-runs T w e f = goes-on (readTableWith read table program) _ (reads-both T w e f) _
 
 module _ (table program : List ℕ) {cells : List ℕ} {size : ℕ} (t : TableOf table cells size) (count weight : ℕ) where
   program-loaded : {all : Bool} → Measured program cells size count all weight → ProgramLoaded table program cells size count weight
@@ -102,45 +92,32 @@ module _ (table program : List ℕ) {cells : List ℕ} {size : ℕ} (t : TableOf
 -- TWO PROGRAMS
 
 module _ {W : Type 0} (read : ℕ → List ℕ → Outcome W) (table first second : List ℕ) where
-  -- what is left to read after the first
-  abbrev then-second : Presentation → W → Outcome (Images W)
-  then-second T u = read (T .size) second >>= λ v. answered (record { table = T; first = u; second = v })
-
   pub no-first : (r : Refusal) → readTableWith read table first ≡ refusal r → readImages read table first second ≡ refusal r
-  unfolding readImages
-  no-first r e = program-still-refused read table first then-second r e
+  no-first r e = still-refused (readTableWith read table first) r e _
 
   pub no-second : (T : Presentation) (u : W) → readTable table ≡ answered T → read (T .size) first ≡ answered u → (r : Refusal) → read (T .size) second ≡ refusal r
       → readImages read table first second ≡ refusal r
-  unfolding readImages
-  no-second T u e f r g = program-runs read table first then-second T u e f ∙ still-refused (read (T .size) second) r g _
+  no-second T u e f r g =
+      goes-on (readTableWith read table first) _ (reads-both read table first T u e f) _ ∙ still-refused (read (T .size) second) r g _
 
   images-early : ((n : ℕ) (bytes : List ℕ) → Early 7 (read n bytes)) → Early 7 (readImages read table first second)
-  unfolding readImages
   images-early early =
-      early-then 7 (readTable table) _ (wider 3 7 (readTable table) (omega arith) (table-early table))
-      (λ T. early-then 7 (read (T .size) first) _ (early (T .size) first) (λ u. early-then 7 (read (T .size) second) _ (early (T .size) second) (λ v. tt)))
+      early-then 7 (readTableWith read table first) _ (table-with-early read table first early)
+      (λ l. early-then 7 (read (l .table .size) second) _ (early (l .table .size) second) (λ v. tt))
 
   -- a service that reads the three images, and then has only the rest to do
   module _ {A : Type 0} (rest : Images W → Outcome A) where
     abbrev service : Outcome A
-    service = readTable table >>= λ T. read (T .size) first >>= λ u. read (T .size) second >>= λ v. rest (record { table = T; first = u; second = v })
-
-    reads-images : service ≡ (readImages read table first second >>= rest)
-    unfolding readImages
-    reads-images =
-        sym (regrouped (readTable table) _ rest _
-        (λ T. regrouped (read (T .size) first) _ rest _
-        (λ u. regrouped (read (T .size) second) _ rest _ (λ v. refl))))
+    service = readImages read table first second >>= rest
 
     pub images-refused : ((n : ℕ) (bytes : List ℕ) → Early 7 (read n bytes)) → (r : Refusal) → readImages read table first second ≡ refusal r → AsFound service r
-    images-refused early r e = reading-refused service (readImages read table first second) rest reads-images r e 7 (images-early early) (omega arith)
+    images-refused early r e = reading-refused service (readImages read table first second) rest refl r e 7 (images-early early) (omega arith)
 
     pub images-run : (T : Presentation) (u v : W) → readTable table ≡ answered T → read (T .size) first ≡ answered u → read (T .size) second ≡ answered v
         → service ≡ rest (record { table = T; first = u; second = v })
     images-run T u v e f g =
-        program-runs read table first (λ T u. read (T .size) second >>= λ v. rest (record { table = T; first = u; second = v })) T u e f
-        ∙ goes-on (read (T .size) second) v g _
+        goes-on (readImages read table first second) _
+        (goes-on (readTableWith read table first) _ (reads-both read table first T u e f) _ ∙ goes-on (read (T .size) second) v g _) rest
 
 -- .. of forward moves
 module _ (table first second : List ℕ) where
@@ -187,7 +164,7 @@ module _ (table first second : List ℕ) where
 
   module _ {A : Type 0} (rest : Images Positive → Outcome A) where
     abbrev forward-service : Outcome A
-    forward-service = readTable table >>= λ T. readForward (T .size) first >>= λ u. readForward (T .size) second >>= λ v. rest (record { table = T; first = u; second = v })
+    forward-service = readImages readForward table first second >>= rest
 
     pub programs-refused : (r : Refusal) → readImages readForward table first second ≡ refusal r → AsFound forward-service r
     programs-refused = images-refused readForward table first second rest forward-early

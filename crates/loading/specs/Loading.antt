@@ -3,9 +3,9 @@ use mathlib.Core.List.{List}
 use mathlib.Core.Path.{_≡_}
 use Prim.Native.Nat.{ℕ, _≤_}
 use Rattle.model.specs.Presentation.{Presentation}
-use Rattle.model.specs.Outcome.{Outcome, answered, _>>=_}
+use Rattle.model.specs.Outcome.{answered}
 use Rattle.model.specs.Images.{readTable, readProgram}
-use Rattle.model.specs.Services.{readForward}
+use Rattle.model.specs.Services.{readTableWith, readForward, readImages}
 use Rattle.model.specs.Areas.{Compares}
 use Rattle.model.specs.Stated.{refusal}
 use Rattle.images.specs.Programs.{Accepted, ForwardOf, cellsWeigh, readAs}
@@ -32,14 +32,6 @@ pub record ForwardRuns (cells : List ℕ) (size : ℕ) (program : List ℕ) (cou
   pub weighs : Weighs cells size program weight
 
 -- A TABLE AND A PROGRAM, which is read as a word of either sign or as one of forward moves
-
--- what the images hold
-pub record TableWith (W : Type 0) : Type 0 where
-  pub table : Presentation
-  pub word : W
-
-unfoldable pub readTableWith : {W : Type 0} → (ℕ → List ℕ → Outcome W) → List ℕ → List ℕ → Outcome (TableWith W)
-readTableWith read table program = readTable table >>= λ T. read (T .size) program >>= λ w. answered (record { table = T; word = w })
 
 -- the table that the cells stand for, and the program, are those that the images hold
 pub record ProgramLoaded (table program cells : List ℕ) (size count weight : ℕ) : Type 0 where
@@ -76,20 +68,6 @@ pub record Forward (cells : List ℕ) (size : ℕ) (first : List ℕ) (first-cou
   pub table : Presentation
   pub of : Of cells size table
   pub pair : TwoForward size first first-count second second-count
-
--- what the three images hold
-pub record Images (W : Type 0) : Type 0 where
-  pub table : Presentation
-  pub first : W
-  pub second : W
-
--- specification 6.4 and 6.18: all tests of the first program come before those of the second
-unfoldable pub readImages : {W : Type 0} → (ℕ → List ℕ → Outcome W) → List ℕ → List ℕ → List ℕ → Outcome (Images W)
-readImages read table first second =
-    readTable table >>= λ T.
-    read (T .size) first >>= λ u.
-    read (T .size) second >>= λ v.
-    answered (record { table = T; first = u; second = v })
 
 -- the table that the cells stand for, and the programs, are those that the images hold
 pub record ProgramsLoaded (table first second cells : List ℕ) (size first-count second-count first-weight second-weight : ℕ) : Type 0 where

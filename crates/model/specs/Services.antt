@@ -17,6 +17,30 @@ use Rattle.model.specs.Bits.{bytesFor}
 use Rattle.model.specs.Images.{entryPosition, readTable, readProgram, readChain, tableImage, programImage}
 use Rattle.model.specs.Plain.{plainTable, plainProgram, readPlainTable, readPlainProgram}
 
+-- WHAT A SERVICE READS (7.2)
+
+-- a table, and a word that a program under it is read as
+pub record TableWith (W : Type 0) : Type 0 where
+  pub table : Presentation
+  pub word : W
+
+-- 6.2: the table's tests come before those of the program
+abbrev pub readTableWith : {W : Type 0} → (ℕ → List ℕ → Outcome W) → List ℕ → List ℕ → Outcome (TableWith W)
+readTableWith read table program = readTable table >>= λ T. read (T .size) program >>= λ w. answered (record { table = T; word = w })
+
+-- a table, and the words of two programs
+pub record Images (W : Type 0) : Type 0 where
+  pub table : Presentation
+  pub first : W
+  pub second : W
+
+-- 6.4, 6.18: all tests of the first program come before those of the second
+abbrev pub readImages : {W : Type 0} → (ℕ → List ℕ → Outcome W) → List ℕ → List ℕ → List ℕ → Outcome (Images W)
+readImages read table first second =
+    readTableWith read table first >>= λ l.
+    read (l .table .size) second >>= λ v.
+    answered (record { table = l .table; first = l .word; second = v })
+
 -- REVERSE (6.2)
 
 -- 6.2: N, D and the steps
@@ -32,12 +56,11 @@ fractionOf area (finished n d k r) = unless (ltb area (length n + length d)) 13 
 fractionOf area (open-pair a b k) = refused 10 (pair-of a b)
 fractionOf area (stopped s) = refused (stopNumber s) unplaced
 
--- 6.2: the table's tests come before those of the program
+-- 6.2: a program under a table, each as it is read
 unfoldable pub reverse : List ℕ → List ℕ → ℕ → ℕ → ℕ → Outcome Fraction
 reverse table program steps width area =
-    readTable table >>= λ T.
-    readProgram (T .size) program >>= λ w.
-    fractionOf area (reversing T steps width w)
+    readTableWith readProgram table program >>= λ l.
+    fractionOf area (reversing (l .table) steps width (l .word))
 
 -- SIZE FIRST, THEN THE ANSWER (6.15, 6.16)
 
@@ -59,9 +82,8 @@ sizesOf (stopped s) = refused (stopNumber s) unplaced
 -- 6.15: a program under a table, each as it is read
 unfoldable pub enquire : List ℕ → List ℕ → ℕ → ℕ → Outcome Sizes
 enquire table program steps width =
-    readTable table >>= λ T.
-    readProgram (T .size) program >>= λ w.
-    sizesOf (reversing T steps width w)
+    readTableWith readProgram table program >>= λ l.
+    sizesOf (reversing (l .table) steps width (l .word))
 
 -- 6.16: whether the numbers handed in are these, each of the three
 abbrev pub agree : Sizes → Sizes → Bool
@@ -74,9 +96,8 @@ committedOf z area e = sizesOf e >>= λ y. cond (agree z y) (fractionOf area e) 
 -- 6.16: a program under a table, each as it is read
 unfoldable pub commit : List ℕ → List ℕ → ℕ → ℕ → Sizes → ℕ → Outcome Fraction
 commit table program steps width z area =
-    readTable table >>= λ T.
-    readProgram (T .size) program >>= λ w.
-    committedOf z area (reversing T steps width w)
+    readTableWith readProgram table program >>= λ l.
+    committedOf z area (reversing (l .table) steps width (l .word))
 
 -- REVERSE FROM THE FINISHED END (6.12)
 
@@ -87,9 +108,8 @@ leftFraction T w steps width area = mirrorCheck T >>= λ ok. fractionOf area (le
 -- 6.12: the tests of both images come before 16
 unfoldable pub leftReverse : List ℕ → List ℕ → ℕ → ℕ → ℕ → Outcome Fraction
 leftReverse table program steps width area =
-    readTable table >>= λ T.
-    readProgram (T .size) program >>= λ w.
-    leftFraction T w steps width area
+    readTableWith readProgram table program >>= λ l.
+    leftFraction (l .table) (l .word) steps width area
 
 -- CLEAR (6.3)
 
@@ -163,13 +183,11 @@ comparison T u v steps width =
     cleared T steps width >>= λ ok.
     forwardVerdict T u v steps width
 
--- 6.4: all tests of the first program come before those of the second
+-- 6.4: two programs of forward letters under a table, each as it is read
 unfoldable pub compare : List ℕ → List ℕ → List ℕ → ℕ → ℕ → Outcome Verdict
 compare table first second steps width =
-    readTable table >>= λ T.
-    readForward (T .size) first >>= λ u.
-    readForward (T .size) second >>= λ v.
-    comparison T u v steps width
+    readImages readForward table first second >>= λ i.
+    comparison (i .table) (i .first) (i .second) steps width
 
 -- CHAIN (6.6)
 
@@ -199,10 +217,8 @@ verdictIn (unlisted-after k) = different-after k
 -- 6.6: as compare; the chain itself stands in the answer area (Areas.antt)
 unfoldable pub chain : List ℕ → List ℕ → List ℕ → ℕ → ℕ → ℕ → Outcome ChainAnswer
 chain table first second steps width area =
-    readTable table >>= λ T.
-    readForward (T .size) first >>= λ u.
-    readForward (T .size) second >>= λ v.
-    mapped (chainAnswer (T .size)) (comparison T u v steps width >>= listable (T .size) area)
+    readImages readForward table first second >>= λ i.
+    mapped (chainAnswer (i .table .size)) (comparison (i .table) (i .first) (i .second) steps width >>= listable (i .table .size) area)
 
 -- WHAT IS LEFT TO RUN (6.10)
 
@@ -227,10 +243,8 @@ quotient T u v steps width area =
 -- 6.10: all tests of the done part come before those of the pattern
 unfoldable pub remainder : List ℕ → List ℕ → List ℕ → ℕ → ℕ → ℕ → Outcome (Remainder Positive)
 remainder table done pattern steps width area =
-    readTable table >>= λ T.
-    readForward (T .size) done >>= λ u.
-    readForward (T .size) pattern >>= λ v.
-    quotient T u v steps width area
+    readImages readForward table done pattern >>= λ i.
+    quotient (i .table) (i .first) (i .second) steps width area
 
 -- CHECK A CHAIN (6.7)
 
@@ -257,11 +271,9 @@ passage T width u es v = cond (ltb width (length u)) (refused 12 unplaced) (foll
 -- 6.7: the programs are read before the chain image, and the table need not clear
 unfoldable pub check : List ℕ → List ℕ → List ℕ → List ℕ → ℕ → Outcome Passage
 check table first second entries width =
-    readTable table >>= λ T.
-    readForward (T .size) first >>= λ u.
-    readForward (T .size) second >>= λ v.
-    readChain (T .size) entries >>= λ es.
-    passage T width u es v
+    readImages readForward table first second >>= λ i.
+    readChain (i .table .size) entries >>= λ es.
+    passage (i .table) width (i .first) es (i .second)
 
 -- PACK AND UNPACK (6.8)
 

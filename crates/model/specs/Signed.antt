@@ -15,8 +15,8 @@ use Rattle.model.specs.Enumeration.{range, Two, triples}
 use Rattle.model.specs.Checks.{stopNumber, cubeCheck, cleared}
 use Rattle.model.specs.Mirror.{mirror, mirrorCheck}
 use Rattle.model.specs.Outcome.{unplaced, pair-of, the-set, Outcome, answered, refused, _>>=_, unless, mapped}
-use Rattle.model.specs.Images.{readTable, readProgram}
-use Rattle.model.specs.Services.{ofMirror, Verdict, same-after, different-after, forwardVerdict}
+use Rattle.model.specs.Images.{readProgram}
+use Rattle.model.specs.Services.{readImages, ofMirror, Verdict, same-after, different-after, forwardVerdict}
 use Rattle.model.specs.Ways.{listingBytes}
 
 -- JOINED WORDS (6.18)
@@ -112,10 +112,8 @@ signedComparison T w v steps width =
     grownSet T steps width >>= λ vs.
     signedOf T steps width (reversing T steps width (inverse w ++ v))
 
--- 6.18: all tests of the first program come before those of the second
+-- 6.18: two programs of either sign under a table, each as it is read
 unfoldable pub compareSigned : List ℕ → List ℕ → List ℕ → ℕ → ℕ → Outcome SignedVerdict
 compareSigned table first second steps width =
-    readTable table >>= λ T.
-    readProgram (T .size) first >>= λ w.
-    readProgram (T .size) second >>= λ v.
-    signedComparison T w v steps width
+    readImages readProgram table first second >>= λ i.
+    signedComparison (i .table) (i .first) (i .second) steps width

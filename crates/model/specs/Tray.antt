@@ -7,9 +7,9 @@ use lib.ListN.{length, take, drop}
 use Rattle.model.specs.Enumeration.{concatMap}
 use Rattle.model.specs.Outcome.{unplaced, Outcome, answered, refused, _>>=_, unless}
 use Rattle.model.specs.Bits.{Read}
-use Rattle.model.specs.Images.{several, readTable}
+use Rattle.model.specs.Images.{several}
 use Rattle.model.specs.Checks.{cleared}
-use Rattle.model.specs.Services.{Verdict, same-after, different-after, readForward, compare}
+use Rattle.model.specs.Services.{Verdict, same-after, different-after, readTableWith, readForward, compare}
 
 -- THE TRAY (5.11)
 
@@ -50,7 +50,6 @@ trayBytes = concatMap logBytes
 unfoldable pub tray : List ℕ → List ℕ → List ℕ → ℕ → ℕ → ℕ → Outcome (List (Outcome Verdict))
 tray table logs pattern steps width area =
     readTray logs >>= λ images.
-    readTable table >>= λ T.
-    readForward (T .size) pattern >>= λ v.
-    cleared T steps width >>= λ ok.
+    readTableWith readForward table pattern >>= λ l.
+    cleared (l .table) steps width >>= λ ok.
     unless (ltb area (3 * length images)) 13 (map (λ image. compare table image pattern steps width) images)

@@ -12,8 +12,7 @@ use Rattle.model.specs.Equivalence.{Entry, applied}
 use Rattle.model.specs.Enumeration.{range, concatMap, pairs}
 use Rattle.model.specs.Checks.{weightCheck}
 use Rattle.model.specs.Outcome.{Outcome, answered, refused, _>>=_, unless}
-use Rattle.model.specs.Images.{readTable}
-use Rattle.model.specs.Services.{readForward}
+use Rattle.model.specs.Services.{readTableWith, readForward}
 use Rattle.model.specs.Areas.{begins}
 
 -- THE ORDER OF WORDS
@@ -88,10 +87,9 @@ fittedListing area vs = unless (ltb area (length (listingBytes vs))) 13 vs
 -- 6.14: the program's tests come before the weight check, and 13 comes last
 unfoldable pub ways : List ℕ → List ℕ → ℕ → Outcome (List Positive)
 ways table program area =
-    readTable table >>= λ T.
-    readForward (T .size) program >>= λ u.
-    weightCheck T (pairs (T .size)) >>= λ ok.
-    fittedListing area (listing T u)
+    readTableWith readForward table program >>= λ l.
+    weightCheck (l .table) (pairs (l .table .size)) >>= λ ok.
+    fittedListing area (listing (l .table) (l .word))
 
 -- 6.14: the answer area: it begins with the listing; zeros after 13, and as it was after the other refusals
 abbrev pub waysArea : Outcome (List Positive) → List ℕ → List ℕ

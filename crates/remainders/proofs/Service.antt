@@ -18,7 +18,7 @@ use Rattle.model.specs.declared.answers.Remaining.the-variants.{Nothing, Refuse
 use Rattle.model.proofs.Outcomes.{still-refused}
 use Rattle.theory.specs.Remainders.{QuotientMeaning}
 use Rattle.theory.proofs.Remainders.{lighter, as-heavy, quotient-meaning}
-use Rattle.loading.specs.Loading.{Images, readImages}
+use Rattle.model.specs.Services.{Images, readImages}
 use Rattle.loading.proofs.Outcomes.{AsFound}
 use Rattle.loading.proofs.Reading.{programs-refused, programs-run}
 use Rattle.remainders.specs.Remainder.{States, movesLeft, RemainderMeaning}

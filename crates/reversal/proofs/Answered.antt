@@ -19,7 +19,7 @@ use Rattle.model.specs.declared.answers.Refusal.{Refusal}
 use Rattle.model.specs.declared.answers.Reversed.{Reversed}
 use Rattle.model.specs.declared.answers.Reversed.the-variants.{Refused}
 use Rattle.theory.specs.Mirrors.{readBackward}
-use Rattle.loading.specs.Loading.{readTableWith}
+use Rattle.model.specs.Services.{readTableWith}
 use Rattle.loading.proofs.Early.{program-early}
 use Rattle.loading.proofs.Outcomes.{AsFound, refused-stated, refused-output}
 use Rattle.loading.proofs.Reading.{program-refused, program-runs}

@@ -10,8 +10,8 @@ use Rattle.model.specs.Word.{Word}
 use Rattle.model.specs.Presentation.{Presentation}
 use Rattle.model.specs.Reversing.{Ending, finished, open-pair, stopped, reversing}
 use Rattle.model.specs.Outcome.{unplaced, Outcome, answered, refused, _>>=_, mapped}
-use Rattle.model.specs.Images.{readTable, readProgram}
-use Rattle.model.specs.Services.{Fraction, fractionOf, reverse, Sizes, sizes, sizesOf, enquire, agree, committedOf, commit}
+use Rattle.model.specs.Images.{readProgram}
+use Rattle.model.specs.Services.{readTableWith, Fraction, fractionOf, reverse, Sizes, sizes, sizesOf, enquire, agree, committedOf, commit}
 use Rattle.model.specs.Areas.{fractionBytes, outputAfter, workspaceAfter}
 use Rattle.model.specs.Stated.{refusal}
 use Rattle.model.specs.declared.answers.Ending.{Ending as EndingAnswer}
@@ -21,9 +21,9 @@ use Rattle.model.specs.declared.answers.Refusal.the-variants.{OtherNumbers}
 use Rattle.model.specs.declared.answers.Reversed.{Reversed}
 use Rattle.model.specs.declared.answers.Reversed.the-variants.{Refused}
 use Rattle.model.proofs.Impossible.{impossible, answer-of}
+use Rattle.model.proofs.Outcomes.{goes-on}
 use Rattle.engine.specs.Run.{Reverses}
 use Rattle.engine.proofs.Ended.{end, done, met, halted}
-use Rattle.loading.proofs.Reading.{program-runs}
 use Rattle.reversal.specs.Asked.{Answers}
 use Rattle.reversal.specs.Commit.{CommitMeaning}
 use Rattle.reversal.proofs.Answers.{zero-after}
@@ -124,10 +124,8 @@ module _ (table program : List ℕ) (steps width : ℕ) (z : Sizes) (area : ℕ)
   pub commit-reverses : (f : Fraction) → commit table program steps width z area ≡ answered f → reverse table program steps width area ≡ answered f
   unfolding commit reverse
   commit-reverses f h =
-      let t = answer-of (readTable table) (λ T. readProgram (T .size) program >>= λ w. committedOf z area (reversing T steps width w)) f h in
-      let p = answer-of (readProgram (t .0 .size) program) (λ w. committedOf z area (reversing (t .0) steps width w)) f (t .2) in
-      program-runs readProgram table program (λ T w. fractionOf area (reversing T steps width w)) (t .0) (p .0) (t .1) (p .1)
-      ∙ committed-reverses (reversing (t .0) steps width (p .0)) f (p .2)
+      let l = answer-of (readTableWith readProgram table program) (λ l. committedOf z area (reversing (l .table) steps width (l .word))) f h in
+      goes-on (readTableWith readProgram table program) (l .0) (l .1) _ ∙ committed-reverses (reversing (l .0 .table) steps width (l .0 .word)) f (l .2)
 
 module _ (table program : List ℕ) (steps : ℕ) (workspace : List ℕ) (z : Sizes) (before : List ℕ) where
   abbrev outcome : Outcome Fraction

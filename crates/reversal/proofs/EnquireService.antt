@@ -12,7 +12,7 @@ use Rattle.model.specs.Services.{sizesOf, enquire}
 use Rattle.model.specs.Areas.{workspaceAfter}
 use Rattle.model.specs.Stated.{refusal, reversed, endingAnswer}
 use Rattle.model.specs.declared.answers.Refusal.{Refusal}
-use Rattle.loading.specs.Loading.{readTableWith}
+use Rattle.model.specs.Services.{readTableWith}
 use Rattle.loading.proofs.Early.{program-early}
 use Rattle.loading.proofs.Outcomes.{AsFound}
 use Rattle.loading.proofs.Reading.{program-refused, program-runs}

@@ -9,8 +9,8 @@ use lib.ListN.{length}
 use Rattle.model.specs.Word.{Positive}
 use Rattle.model.specs.Reversing.{Ending, finished, open-pair, stopped, reversing}
 use Rattle.model.specs.Outcome.{unplaced, Outcome, answered, refused, _>>=_, unless}
-use Rattle.model.specs.Images.{readTable, readProgram}
-use Rattle.model.specs.Services.{Fraction, fractionOf, reverse, Sizes, sizesOf, enquire, agree, committedOf, commit}
+use Rattle.model.specs.Images.{readProgram}
+use Rattle.model.specs.Services.{readTableWith, Fraction, fractionOf, reverse, Sizes, sizesOf, enquire, agree, committedOf, commit}
 use Rattle.model.proofs.Impossible.{impossible}
 use Rattle.reversal.specs.Enquire.{Foretells, EnquireMeaning}
 
@@ -69,5 +69,4 @@ module _ (area : ℕ) where
 pub foretells : (table program : List ℕ) (steps width : ℕ) → EnquireMeaning table program steps width (enquire table program steps width)
 unfolding reverse enquire commit
 foretells table program steps width area =
-    after area (readTable table) _ _ _
-    (λ T. after area (readProgram (T .size) program) _ _ _ (λ w. of-ending area (reversing T steps width w)))
+    after area (readTableWith readProgram table program) _ _ _ (λ l. of-ending area (reversing (l .table) steps width (l .word)))

@@ -32,7 +32,7 @@ use Rattle.images.proofs.RoundTrip.{table-in-range, program-in-range}
 use Rattle.engine.specs.Run.{LeavesLetters, Reverses}
 use Rattle.engine.proofs.Ended.{done, finishable, met, halted, stop-numbered}
 use Rattle.cells.specs.Stands.{Stands}
-use Rattle.loading.specs.Loading.{Images, readImages}
+use Rattle.model.specs.Services.{Images, readImages}
 use Rattle.loading.proofs.Early.{program-early}
 use Rattle.loading.proofs.Outcomes.{AsFound}
 use Rattle.loading.proofs.Reading.{images-refused, images-run}

@@ -9,15 +9,14 @@ use Rattle.model.specs.Word.{forward, back, Word, byte}
 use Rattle.model.specs.Presentation.{Presentation}
 use Rattle.model.specs.Outcome.{Outcome, answered, _>>=_, mapped}
 use Rattle.model.specs.Images.{readTable, readProgram}
-use Rattle.model.specs.Services.{sizes, Fraction, reverse}
+use Rattle.model.specs.Services.{readTableWith, sizes, Fraction, reverse}
 use Rattle.model.specs.Areas.{begins}
 use Rattle.model.specs.Stated.{refusal}
 use Rattle.model.specs.declared.answers.Refusal.{Refusal}
 use Rattle.model.specs.Range.{All, LetterInRange}
 use Rattle.model.proofs.Outcomes.{still-refused, goes-on}
 use Rattle.engine.proofs.Letters.{letter-forward, letter-back}
-use Rattle.loading.specs.Loading.{readTableWith}
-use Rattle.loading.proofs.Reading.{program-still-refused}
+use Rattle.loading.proofs.Reading.{program-still-refused, program-runs}
 use Rattle.reversal.proofs.Told.{mapped-refused}
 use Rattle.text.specs.Text.{letterText, wordText, bytesText, answerText, outcomeText, reading, report}
 
@@ -33,22 +32,18 @@ module _ (table program : List ℕ) where
   unfolding report
   not-read r e = sym (ap outcomeText (program-still-refused readProgram table program (λ T w. outcome >>= text T w) r e))
 
-  module _ (T : Presentation) (e : readTable table ≡ answered T) where
-    read-table : reading table program ≡ (readProgram (T .size) program >>= λ w. outcome >>= text T w)
-    read-table = goes-on (readTable table) T e (λ T. readProgram (T .size) program >>= λ w. outcome >>= text T w)
+  module _ (T : Presentation) (e : readTable table ≡ answered T) (w : Word) (f : readProgram (T .size) program ≡ answered w) where
+    read-both : reading table program ≡ (outcome >>= text T w)
+    read-both = program-runs readProgram table program (λ T w. outcome >>= text T w) T w e f
 
-    module _ (w : Word) (f : readProgram (T .size) program ≡ answered w) where
-      read-both : reading table program ≡ (outcome >>= text T w)
-      read-both = read-table ∙ goes-on (readProgram (T .size) program) w f (λ w. outcome >>= text T w)
+    pub no-answer : (r : Refusal) → refusal r ≡ mapped sizes outcome → outcomeText (refusal r) ≡ report table program
+    unfolding report
+    no-answer r g = sym (ap outcomeText (read-both ∙ still-refused outcome r (mapped-refused outcome r g) (text T w)))
 
-      pub no-answer : (r : Refusal) → refusal r ≡ mapped sizes outcome → outcomeText (refusal r) ≡ report table program
-      unfolding report
-      no-answer r g = sym (ap outcomeText (read-both ∙ still-refused outcome r (mapped-refused outcome r g) (text T w)))
-
-      pub answer : (x : Fraction) → outcome ≡ answered x
-          → answerText (T .size) (wordText w) (x .numerator) (x .denominator) (x .steps) ≡ report table program
-      unfolding report
-      answer x g = sym (ap outcomeText (read-both ∙ goes-on outcome x g (text T w)))
+    pub answer : (x : Fraction) → outcome ≡ answered x
+        → answerText (T .size) (wordText w) (x .numerator) (x .denominator) (x .steps) ≡ report table program
+    unfolding report
+    answer x g = sym (ap outcomeText (read-both ∙ goes-on outcome x g (text T w)))
 
 -- the bytes of a program's letters are written as its letters
 pub bytes-word : (n : ℕ) → n ≤ 16 → (w : Word) → All (LetterInRange n) w → bytesText (map byte w) ≡ wordText w

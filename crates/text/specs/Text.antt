@@ -6,8 +6,8 @@ use lib.Dec.{ltb}
 use Rattle.model.specs.Word.{Letter, forward, back, Word, Positive, letter}
 use Rattle.model.specs.Enumeration.{concatMap}
 use Rattle.model.specs.Outcome.{placeNumbers, Outcome, answered, refused, _>>=_}
-use Rattle.model.specs.Images.{readTable, readProgram}
-use Rattle.model.specs.Services.{reverse}
+use Rattle.model.specs.Images.{readProgram}
+use Rattle.model.specs.Services.{readTableWith, reverse}
 
 -- CHARACTERS, as ASCII has them
 
@@ -92,10 +92,9 @@ outcomeText (refused n place) = line refusedLabel (numbersText (n ∷ placeNumbe
 -- 9.2: the program reversed with the reader's allowance and areas
 abbrev pub reading : List ℕ → List ℕ → Outcome (List ℕ)
 reading table program =
-    readTable table >>= λ T.
-    readProgram (T .size) program >>= λ w.
+    readTableWith readProgram table program >>= λ l.
     reverse table program 65535 32768 32768 >>= λ f.
-    answered (answerText (T .size) (wordText w) (f .numerator) (f .denominator) (f .steps))
+    answered (answerText (l .table .size) (wordText (l .word)) (f .numerator) (f .denominator) (f .steps))
 
 -- 9.2: what the reader writes of a table image and a program image
 unfoldable pub report : List ℕ → List ℕ → List ℕ

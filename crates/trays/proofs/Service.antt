@@ -13,7 +13,7 @@ use Rattle.model.specs.Equivalence.{Joined}
 use Rattle.model.specs.Outcome.{unplaced, Outcome, answered, refused, _>>=_, unless, mapped}
 use Rattle.model.specs.Images.{readTable}
 use Rattle.model.specs.Checks.{cleared}
-use Rattle.model.specs.Services.{Verdict, same-after, different-after, readForward, forwardVerdict, comparison, compare}
+use Rattle.model.specs.Services.{TableWith, readTableWith, Images, Verdict, same-after, different-after, readForward, forwardVerdict, comparison, compare}
 use Rattle.model.specs.Areas.{written, begins, outputAfter, workspaceAfter}
 use Rattle.model.specs.Tray.{readTray, logBytes, trayBytes, tray}
 use Rattle.model.specs.Stated.{refusal, trayCompared}
@@ -21,11 +21,10 @@ use Rattle.model.specs.declared.answers.Refusal.{Refusal}
 use Rattle.model.specs.declared.answers.Refusal.the-variants.{AnswerShort, TooManyLogs, NotTray}
 use Rattle.model.specs.declared.answers.TrayCompared.{TrayCompared}
 use Rattle.model.specs.declared.answers.TrayCompared.the-variants.{Answered, Refused}
-use Rattle.model.proofs.Impossible.{answer-of, same-answer, not-refused}
+use Rattle.model.proofs.Impossible.{impossible, answer-of, same-answer, not-refused}
 use Rattle.model.proofs.Outcomes.{still-refused, goes-on}
 use Rattle.theory.specs.Verdicts.{Settled, settled, by-allowance, by-memory, DemandThree}
 use Rattle.theory.proofs.Verdicts.{demand-three}
-use Rattle.loading.specs.Loading.{readTableWith}
 use Rattle.loading.proofs.Early.{Early}
 use Rattle.loading.proofs.Outcomes.{refused-stated, refused-output, refused-workspace}
 use Rattle.loading.proofs.Reading.{program-still-refused, program-runs}
@@ -79,10 +78,6 @@ map-same : {A B : Type 0} (f g : A → B) → ((x : A) → f x ≡ g x) → (xs 
 map-same f g e [] = refl
 map-same f g e (x ∷ xs) = ap (λ y. y ∷ map f xs) (e x) ∙ ap (λ l. g x ∷ l) (map-same f g e xs)
 
-then-same : {A B : Type 0} (o : Outcome A) (f g : A → Outcome B) → ((x : A) → f x ≡ g x) → (o >>= f) ≡ (o >>= g)
-then-same (answered x) f g e = e x
-then-same (refused n place) f g e = refl
-
 module _ (table logs pattern : List ℕ) (steps width area : ℕ) where
   pub no-tray : (r : Refusal) → readTray logs ≡ refusal r → tray table logs pattern steps width area ≡ refusal r
   unfolding tray
@@ -102,9 +97,19 @@ module _ (table logs pattern : List ℕ) (steps width area : ℕ) where
       as-compared : cleared T steps width ≡ answered tt → (image : List ℕ) → compare table image pattern steps width ≡ logVerdict (T .size) T v steps width image
       unfolding compare comparison
       as-compared clear image =
-          goes-on (readTable table) T table-read _
-          ∙ then-same (readForward (T .size) image) _ _
-          (λ u. goes-on (readForward (T .size) pattern) v pattern-read _ ∙ goes-on (cleared T steps width) tt clear _)
+          ap (λ o. (o >>= then-pattern) >>= judges) (goes-on (readTable table) T table-read _) ∙ by-log (readForward (T .size) image)
+        where
+          then-pattern : TableWith Positive → Outcome (Images Positive)
+          then-pattern l = readForward (l .table .size) pattern >>= λ w. answered (record { table = l .table; first = l .word; second = w })
+
+          judges : Images Positive → Outcome Verdict
+          judges i = comparison (i .table) (i .first) (i .second) steps width
+
+          by-log : (o : Outcome Positive) → ((o >>= λ u. answered (record { table = T; word = u })) >>= then-pattern >>= judges) ≡ (o >>= λ u. forwardVerdict T u v steps width)
+          by-log (answered u) =
+              goes-on (then-pattern (record { table = T; word = u })) _ (goes-on (readForward (T .size) pattern) v pattern-read _) judges
+              ∙ goes-on (cleared T steps width) tt clear _
+          by-log (refused n place) = refl
 
       pub tray-runs : tray table logs pattern steps width area ≡ trayVerdicts (T .size) T v images steps width area
       unfolding tray
@@ -203,11 +208,19 @@ record AnswerShows (pattern : List ℕ) (steps width : ℕ) (images : List (List
 
 module _ (table logs pattern : List ℕ) (steps width area : ℕ) (vs : List (Outcome Verdict)) (e : tray table logs pattern steps width area ≡ answered vs)
     (images : List (List ℕ)) (tray-read : readTray logs ≡ answered images) (T : Presentation) (table-read : readTable table ≡ answered T) where
-  pattern-answered : (v : Positive) × (readForward (T .size) pattern ≡ answered v) × ((cleared T steps width >>= λ ok. unless (ltb area (3 * length images)) 13 (map (λ image. compare table image pattern steps width) images)) ≡ answered vs)
+  abbrev clears-all : TableWith Positive → Outcome (List (Outcome Verdict))
+  clears-all l = cleared (l .table) steps width >>= λ ok. unless (ltb area (3 * length images)) 13 (map (λ image. compare table image pattern steps width) images)
+
+  by-pattern : (o : Outcome Positive) → ((o >>= λ w. answered (record { table = T; word = w })) >>= clears-all) ≡ answered vs
+      → (v : Positive) × (o ≡ answered v) × (clears-all (record { table = T; word = v }) ≡ answered vs)
+  by-pattern (answered v) h = (v, refl, h)
+  by-pattern (refused n place) h = impossible (cc)
+
+  pattern-answered : (v : Positive) × (readForward (T .size) pattern ≡ answered v) × (clears-all (record { table = T; word = v }) ≡ answered vs)
   unfolding tray
   pattern-answered =
-      answer-of (readForward (T .size) pattern) (λ v. cleared T steps width >>= λ ok. unless (ltb area (3 * length images)) 13 (map (λ image. compare table image pattern steps width) images)) vs
-      (sym (goes-on (readTray logs) images tray-read _ ∙ goes-on (readTable table) T table-read _) ∙ e)
+      by-pattern (readForward (T .size) pattern)
+      (sym (goes-on (readTray logs) images tray-read _ ∙ ap (λ o. o >>= clears-all) (goes-on (readTable table) T table-read _)) ∙ e)
 
   answer-shows : AnswerShows pattern steps width images T vs
   answer-shows =

@@ -34,7 +34,7 @@ use Rattle.model.proofs.Listing.{within-shorter, bytes-more}
 use Rattle.model.proofs.Outcomes.{still-refused, goes-on}
 use Rattle.images.proofs.RoundTrip.{table-in-range, program-in-range}
 use Rattle.images.specs.Programs.{ForwardOf}
-use Rattle.loading.specs.Loading.{readTableWith}
+use Rattle.model.specs.Services.{readTableWith}
 use Rattle.loading.proofs.Early.{Early}
 use Rattle.loading.proofs.Reading.{program-still-refused, program-runs}
 use Rattle.checks.specs.declared.table.Weights.{Weights}

@@ -5,7 +5,8 @@ use lib.ListN.{length}
 use Rattle.model.specs.Services.{readForward}
 use Rattle.cells.proofs.Rules.{blank-zeros}
 use Rattle.images.specs.declared.programs.Signs.the-variants.{Forward as ForwardAlone}
-use Rattle.loading.specs.Loading.{readTableWith, TableProgramDone}
+use Rattle.model.specs.Services.{readTableWith}
+use Rattle.loading.specs.Loading.{TableProgramDone}
 use Rattle.loading.proofs.Early.{forward-early}
 use Rattle.loading.proofs.Reading.{table-with-early}
 use Rattle.trays.specs.Tray.{States}

@@ -11,7 +11,8 @@ use Rattle.cells.proofs.Rules.{blank-zeros}
 use Rattle.checks.specs.declared.table.Weights.the-variants.{Equal, Unequal}
 use Rattle.checks.specs.Table.{WeightsMean}
 use Rattle.images.specs.declared.programs.Signs.the-variants.{Forward as ForwardAlone}
-use Rattle.loading.specs.Loading.{readTableWith, TableProgramDone}
+use Rattle.model.specs.Services.{readTableWith}
+use Rattle.loading.specs.Loading.{TableProgramDone}
 use Rattle.loading.proofs.Early.{forward-early}
 use Rattle.loading.proofs.Reading.{table-with-early}
 use Rattle.ways.specs.Service.{Answers, Passed}
