@@ -347,13 +347,12 @@ kind == "src" && /^pub (extern "C" )?fn / {
     service = ""
     next
 }
-kind == "src" && /^    ensures \{.* [A-Za-z]+Promise / && function_name != "" {
+kind == "src" && /^    ensures / { meant = / Meant / }
+kind == "src" && /[ (][A-Za-z]+Promise / && function_name != "" {
     line = $0
-    match(line, / \(?[A-Za-z]+Promise /)
-    name = substr(line, RSTART + 1, RLENGTH - 2)
-    sub(/^\(/, "", name)
-    stated = cites[name]
-    service = line ~ / Meant / ? "told" : "stated"
+    match(line, /[ (][A-Za-z]+Promise /)
+    stated = cites[substr(line, RSTART + 1, RLENGTH - 2)]
+    service = meant ? "told" : "stated"
     held = promised[stated]
     held_names = promised_names[stated]
     next

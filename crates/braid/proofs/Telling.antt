@@ -1,5 +1,5 @@
--- The numbers of a call tell the answer of its service: so they tell the outcome that this answer states, and what is promised of the answer is meant by them.
-use mathlib.Core.Path.{_≡_, ap, subst, _∙_}
+-- The numbers of a call tell the answer of its service, so that what is promised of this answer is meant by them.
+use mathlib.Core.Path.{_≡_, subst}
 use mathlib.Core.List.{List}
 use Prim.Native.Nat.{ℕ}
 use Rattle.model.specs.Outcome.{Outcome}
@@ -10,8 +10,5 @@ use Rattle.braid.specs.Meant.{Meant}
 
 module _ {A : Type 0} (tell : A → Numbers) (answer : Outcome A) {n : Numbers} {result : ℕ} {values : List ℕ} (e : n ≡ told tell answer)
     (t : Tells n result values) where
-  pub tells-outcome : {outcome : Outcome A} → answer ≡ outcome → Tells (told tell outcome) result values
-  tells-outcome h = subst (λ m. Tells m result values) (e ∙ ap (told tell) h) t
-
   pub meant : {P : Outcome A → Type 0} → P answer → Meant tell P result values
   meant h = record { outcome = answer; tells = subst (λ m. Tells m result values) e t; holds = h }

@@ -3,7 +3,8 @@ use Prim.Native.Nat.{ℕ}
 use Rattle.model.specs.Outcome.{Outcome, answered, refused}
 use Rattle.model.specs.Stated.{Counts}
 use Rattle.numbering.specs.Refusals.{numbersTold}
-use Rattle.model.specs.Services.{Sizes, Verdict, same-after, different-after, ChainAnswer, listed-after, unlisted-after, Remainder, moves-after, none-after, Passage, joins, breaks, ends-elsewhere}
+use Rattle.model.specs.Services.{Sizes, Verdict, same-after, different-after, ChainAnswer, listed-after, unlisted-after, Remainder, moves-after, none-after}
+use Rattle.model.specs.Services.{Passage, joins, breaks, ends-elsewhere}
 use Rattle.model.specs.Signed.{SignedVerdict, same-after-both, different-after-both}
 use Rattle.numbering.specs.declared.refusals.RefusalNumbers.{RefusalNumbers}
 use Rattle.braid.specs.declared.numbers.Numbers.{Numbers}

@@ -1,38 +1,33 @@
 // One function for C for each service. An area is a pointer and a length; no two may overlap.
 ghost use lib.ListN.{length};
-ghost use mathlib.Core.Path.{_≡_};
-ghost use Rattle.model.specs.Outcome.{mapped, answered};
 ghost use Rattle.model.specs.Images.{readTable};
 ghost use Rattle.model.specs.Plain.{readPlainTable};
-ghost use Rattle.model.specs.Services.{sizes, reverse, enquire, commit, leftReverse, clear, mirrorClear, compare, chain, remainder, check, packTable};
+ghost use Rattle.model.specs.Services.{reverse, enquire, commit, clear, compare, chain, remainder, check, packTable};
 ghost use Rattle.model.specs.Services.{unpackTable, packProgram, unpackProgram, programUnder, plainProgramUnder};
 ghost use Rattle.model.specs.Bed.{bed};
 ghost use Rattle.model.specs.Ways.{ways};
 ghost use Rattle.model.specs.Notation.{import};
-ghost use Rattle.model.specs.Signed.{compareSigned};
 ghost use Rattle.model.specs.Tray.{tray};
-ghost use Rattle.model.specs.Areas.{outputAfter, workspaceAfter, fractionBytes, remainderBytes, ChainArea};
-ghost use Rattle.model.specs.Stated.{counted};
-ghost use Rattle.clearing.specs.Clear.{ClearMeaning};
-ghost use Rattle.reversal.specs.Reverse.{ReverseMeaning};
-ghost use Rattle.reversal.specs.Enquire.{EnquireMeaning};
-ghost use Rattle.reversal.specs.Commit.{CommitMeaning};
-ghost use Rattle.reversal.specs.LeftReverse.{LeftMeaning};
-ghost use Rattle.clearing.specs.MirrorClear.{MirrorClearMeaning};
-ghost use Rattle.comparing.specs.Compare.{Meaning};
-ghost use Rattle.chaining.specs.Chain.{ListedChecks};
-ghost use Rattle.remainders.specs.Remainder.{RemainderMeaning};
-ghost use Rattle.checking.specs.Check.{CheckMeaning};
 ghost use Rattle.packing.specs.RoundTrips.{PackPromise};
-ghost use Rattle.signed_comparing.specs.Service.{SignedSays};
-ghost use Rattle.braid.specs.Told.{told, sizesTold, passedTold, verdictTold, signedTold, chainTold, remainderTold, passageTold, bytesTold, countsTold};
+ghost use Rattle.braid.specs.Told.{sizesTold, passedTold, verdictTold, signedTold, chainTold, remainderTold, passageTold, bytesTold, countsTold};
 ghost use Rattle.braid.specs.Told.{logsTold};
 ghost use Rattle.braid.specs.Values.{Tells};
-ghost use Rattle.braid.specs.Meant.{Meant, ChainSays};
+ghost use Rattle.braid.specs.Meant.{Meant};
 ghost use Rattle.bed.specs.Meaning.{BedPromise};
 ghost use Rattle.ways.specs.Service.{WaysPromise};
 ghost use Rattle.importing.specs.Import.{ImportPromise};
 ghost use Rattle.trays.specs.Meaning.{TrayPromise};
+ghost use Rattle.reversal.specs.Enquire.{EnquirePromise};
+ghost use Rattle.reversal.specs.Reverse.{ReversePromise};
+ghost use Rattle.reversal.specs.Commit.{CommitPromise};
+ghost use Rattle.reversal.specs.LeftReverse.{LeftPromise};
+ghost use Rattle.comparing.specs.Compare.{ComparePromise};
+ghost use Rattle.chaining.specs.Chain.{ChainPromise};
+ghost use Rattle.checking.specs.Check.{CheckPromise};
+ghost use Rattle.remainders.specs.Remainder.{RemainderPromise};
+ghost use Rattle.signed_comparing.specs.Service.{SignedPromise};
+ghost use Rattle.clearing.specs.Clear.{ClearPromise};
+ghost use Rattle.clearing.specs.MirrorClear.{MirrorPromise};
 use crate::numbers::Numbers;
 use crate::numbers::of_chained;
 use crate::numbers::of_checked;
@@ -82,18 +77,9 @@ pub extern "C" fn braid_reverse(
     answer: &mut [u8],
     values: &mut [u64; 4],
 ) -> u8
-    ensures told { λ r. ⌜ Tells
-        (told sizesTold (mapped sizes
-        (reverse (now (table .entry)) (now (program .entry)) allowance (length (now (workspace .entry))) (length (now (answer .entry)))))) r
-        (now (values .exit)) ⌝ }
-    ensures answer { λ r. ⌜ now (answer .exit) ≡ outputAfter fractionBytes
-        (reverse (now (table .entry)) (now (program .entry)) allowance (length (now (workspace .entry))) (length (now (answer .entry))))
-        (now (answer .entry)) ⌝ }
-    ensures workspace { λ r.
-        ⌜ now (workspace .exit) ≡ workspaceAfter
-        (reverse (now (table .entry)) (now (program .entry)) allowance (length (now (workspace .entry))) (length (now (answer .entry))))
-        (now (workspace .entry)) ⌝ }
-    ensures meaning { λ r. ⌜ Meant sizesTold (λ o. ReverseMeaning (now (table .entry)) (now (program .entry)) o (now (answer .exit))) r (now (values .exit)) ⌝ }
+    ensures { λ r. ⌜ Meant sizesTold
+        (ReversePromise (now (table .entry)) (now (program .entry)) allowance (now (workspace .entry)) (now (workspace .exit)) (now (answer .entry))
+        (now (answer .exit))) r (now (values .exit)) ⌝ }
 {
     let reversed = reverse(table, program, allowance, workspace, answer);
     tell(of_reversed(reversed), values)
@@ -107,12 +93,7 @@ pub extern "C" fn braid_enquire(
     workspace: &mut [u8],
     values: &mut [u64; 4],
 ) -> u8
-    ensures told { λ r. ⌜ Tells (told sizesTold (enquire (now (table .entry)) (now (program .entry)) allowance (length (now (workspace .entry))))) r
-        (now (values .exit)) ⌝ }
-    ensures workspace { λ r.
-        ⌜ now (workspace .exit) ≡ workspaceAfter (enquire (now (table .entry)) (now (program .entry)) allowance (length (now (workspace .entry))))
-        (now (workspace .entry)) ⌝ }
-    ensures meaning { λ r. ⌜ Meant sizesTold (EnquireMeaning (now (table .entry)) (now (program .entry)) allowance (length (now (workspace .entry)))) r
+    ensures { λ r. ⌜ Meant sizesTold (EnquirePromise (now (table .entry)) (now (program .entry)) allowance (now (workspace .entry)) (now (workspace .exit))) r
         (now (values .exit)) ⌝ }
 {
     let reversed = enquire(table, program, allowance, workspace);
@@ -131,20 +112,9 @@ pub extern "C" fn braid_commit(
     answer: &mut [u8],
     values: &mut [u64; 4],
 ) -> u8
-    ensures told { λ r. ⌜ Tells
-        (told sizesTold (mapped sizes
-        (commit (now (table .entry)) (now (program .entry)) allowance (length (now (workspace .entry)))
-        (record { numerator = numerator; denominator = denominator; steps = steps }) (length (now (answer .entry)))))) r (now (values .exit)) ⌝ }
-    ensures answer { λ r. ⌜ now (answer .exit) ≡ outputAfter fractionBytes
-        (commit (now (table .entry)) (now (program .entry)) allowance (length (now (workspace .entry)))
-        (record { numerator = numerator; denominator = denominator; steps = steps }) (length (now (answer .entry)))) (now (answer .entry)) ⌝ }
-    ensures workspace { λ r.
-        ⌜ now (workspace .exit) ≡ workspaceAfter
-        (commit (now (table .entry)) (now (program .entry)) allowance (length (now (workspace .entry)))
-        (record { numerator = numerator; denominator = denominator; steps = steps }) (length (now (answer .entry)))) (now (workspace .entry)) ⌝ }
-    ensures meaning { λ r. ⌜ Meant sizesTold
-        (CommitMeaning (now (table .entry)) (now (program .entry)) allowance (length (now (workspace .entry)))
-        (record { numerator = numerator; denominator = denominator; steps = steps }) (now (answer .entry)) (now (answer .exit))) r (now (values .exit)) ⌝ }
+    ensures { λ r. ⌜ Meant sizesTold
+        (CommitPromise (now (table .entry)) (now (program .entry)) allowance (record { numerator = numerator; denominator = denominator; steps = steps })
+        (now (workspace .entry)) (now (workspace .exit)) (now (answer .entry)) (now (answer .exit))) r (now (values .exit)) ⌝ }
 {
     let numbers = Handed {
         numerator,
@@ -164,20 +134,9 @@ pub extern "C" fn braid_left_reverse(
     answer: &mut [u8],
     values: &mut [u64; 4],
 ) -> u8
-    ensures told { λ r. ⌜ Tells
-        (told sizesTold (mapped sizes
-        (leftReverse (now (table .entry)) (now (program .entry)) allowance (length (now (workspace .entry))) (length (now (answer .entry)))))) r
-        (now (values .exit)) ⌝ }
-    ensures answer { λ r. ⌜ now (answer .exit) ≡ outputAfter fractionBytes
-        (leftReverse (now (table .entry)) (now (program .entry)) allowance (length (now (workspace .entry))) (length (now (answer .entry))))
-        (now (answer .entry)) ⌝ }
-    ensures workspace { λ r.
-        ⌜ now (workspace .exit) ≡ workspaceAfter
-        (leftReverse (now (table .entry)) (now (program .entry)) allowance (length (now (workspace .entry))) (length (now (answer .entry))))
-        (now (workspace .entry)) ⌝ }
-    ensures meaning { λ r. ⌜ Meant sizesTold
-        (LeftMeaning (now (table .entry)) (now (program .entry)) allowance (length (now (workspace .entry))) (now (answer .entry)) (now (answer .exit))) r
-        (now (values .exit)) ⌝ }
+    ensures { λ r. ⌜ Meant sizesTold
+        (LeftPromise (now (table .entry)) (now (program .entry)) allowance (now (workspace .entry)) (now (workspace .exit)) (now (answer .entry))
+        (now (answer .exit))) r (now (values .exit)) ⌝ }
 {
     let reversed = left_reverse(table, program, allowance, workspace, answer);
     tell(of_reversed(reversed), values)
@@ -190,10 +149,7 @@ pub extern "C" fn braid_clear(
     workspace: &mut [u8],
     values: &mut [u64; 4],
 ) -> u8
-    ensures told { λ r. ⌜ Tells (told passedTold (clear (now (table .entry)) allowance (length (now (workspace .entry))))) r (now (values .exit)) ⌝ }
-    ensures workspace { λ r. ⌜ now (workspace .exit) ≡ workspaceAfter (clear (now (table .entry)) allowance (length (now (workspace .entry))))
-        (now (workspace .entry)) ⌝ }
-    ensures meaning { λ r. ⌜ Meant passedTold (ClearMeaning (now (table .entry))) r (now (values .exit)) ⌝ }
+    ensures { λ r. ⌜ Meant passedTold (ClearPromise (now (table .entry)) allowance (now (workspace .entry)) (now (workspace .exit))) r (now (values .exit)) ⌝ }
 {
     let cleared = clear(table, allowance, workspace);
     tell(of_cleared(cleared), values)
@@ -206,10 +162,7 @@ pub extern "C" fn braid_mirror_clear(
     workspace: &mut [u8],
     values: &mut [u64; 4],
 ) -> u8
-    ensures told { λ r. ⌜ Tells (told passedTold (mirrorClear (now (table .entry)) allowance (length (now (workspace .entry))))) r (now (values .exit)) ⌝ }
-    ensures workspace { λ r. ⌜ now (workspace .exit) ≡ workspaceAfter (mirrorClear (now (table .entry)) allowance (length (now (workspace .entry))))
-        (now (workspace .entry)) ⌝ }
-    ensures meaning { λ r. ⌜ Meant passedTold (MirrorClearMeaning (now (table .entry)) allowance (length (now (workspace .entry)))) r (now (values .exit)) ⌝ }
+    ensures { λ r. ⌜ Meant passedTold (MirrorPromise (now (table .entry)) allowance (now (workspace .entry)) (now (workspace .exit))) r (now (values .exit)) ⌝ }
 {
     let cleared = mirror_clear(table, allowance, workspace);
     tell(of_cleared(cleared), values)
@@ -224,14 +177,8 @@ pub extern "C" fn braid_compare(
     workspace: &mut [u8],
     values: &mut [u64; 4],
 ) -> u8
-    ensures told { λ r. ⌜ Tells
-        (told verdictTold (compare (now (table .entry)) (now (first .entry)) (now (second .entry)) allowance (length (now (workspace .entry))))) r
-        (now (values .exit)) ⌝ }
-    ensures workspace { λ r.
-        ⌜ now (workspace .exit) ≡ workspaceAfter
-        (compare (now (table .entry)) (now (first .entry)) (now (second .entry)) allowance (length (now (workspace .entry)))) (now (workspace .entry)) ⌝ }
-    ensures meaning { λ r. ⌜ Meant verdictTold
-        (Meaning (now (table .entry)) (now (first .entry)) (now (second .entry)) allowance (length (now (workspace .entry))) (λ T v. answered v)) r
+    ensures { λ r. ⌜ Meant verdictTold
+        (ComparePromise (now (table .entry)) (now (first .entry)) (now (second .entry)) allowance (now (workspace .entry)) (now (workspace .exit))) r
         (now (values .exit)) ⌝ }
 {
     let compared = compare(table, first, second, allowance, workspace);
@@ -247,14 +194,9 @@ pub extern "C" fn braid_compare_signed(
     workspace: &mut [u8],
     values: &mut [u64; 4],
 ) -> u8
-    ensures told { λ r. ⌜ Tells
-        (told signedTold (compareSigned (now (table .entry)) (now (first .entry)) (now (second .entry)) allowance (length (now (workspace .entry))))) r
+    ensures { λ r. ⌜ Meant signedTold
+        (SignedPromise (now (table .entry)) (now (first .entry)) (now (second .entry)) allowance (now (workspace .entry)) (now (workspace .exit))) r
         (now (values .exit)) ⌝ }
-    ensures workspace { λ r.
-        ⌜ now (workspace .exit) ≡ workspaceAfter
-        (compareSigned (now (table .entry)) (now (first .entry)) (now (second .entry)) allowance (length (now (workspace .entry)))) (now (workspace .entry)) ⌝ }
-    ensures meaning { λ r. ⌜ Meant signedTold
-        (SignedSays (now (table .entry)) (now (first .entry)) (now (second .entry)) allowance (length (now (workspace .entry)))) r (now (values .exit)) ⌝ }
 {
     let compared = compare_signed(table, first, second, allowance, workspace);
     tell(of_compared_signed(compared), values)
@@ -270,20 +212,9 @@ pub extern "C" fn braid_chain(
     answer: &mut [u8],
     values: &mut [u64; 4],
 ) -> u8
-    ensures told { λ r. ⌜ Tells
-        (told chainTold (chain (now (table .entry)) (now (first .entry)) (now (second .entry)) allowance (length (now (workspace .entry)))
-        (length (now (answer .entry))))) r (now (values .exit)) ⌝ }
-    ensures workspace { λ r.
-        ⌜ now (workspace .exit) ≡ workspaceAfter
-        (chain (now (table .entry)) (now (first .entry)) (now (second .entry)) allowance (length (now (workspace .entry))) (length (now (answer .entry))))
-        (now (workspace .entry)) ⌝ }
-    ensures area { λ r. ⌜ ChainArea (now (table .entry)) (now (first .entry)) (now (second .entry)) (now (answer .entry)) (now (answer .exit))
-        (chain (now (table .entry)) (now (first .entry)) (now (second .entry)) allowance (length (now (workspace .entry))) (length (now (answer .entry)))) ⌝ }
-    ensures checks { λ r. ⌜ ListedChecks (now (table .entry)) (now (first .entry)) (now (second .entry)) (now (answer .entry)) (now (answer .exit))
-        (chain (now (table .entry)) (now (first .entry)) (now (second .entry)) allowance (length (now (workspace .entry))) (length (now (answer .entry)))) ⌝ }
-    ensures meaning { λ r. ⌜ Meant chainTold
-        (ChainSays (now (table .entry)) (now (first .entry)) (now (second .entry)) allowance (length (now (workspace .entry))) (now (answer .entry))
-        (now (answer .exit))) r (now (values .exit)) ⌝ }
+    ensures { λ r. ⌜ Meant chainTold
+        (ChainPromise (now (table .entry)) (now (first .entry)) (now (second .entry)) allowance (now (workspace .entry)) (now (workspace .exit))
+        (now (answer .entry)) (now (answer .exit))) r (now (values .exit)) ⌝ }
 {
     let chained = chain(table, first, second, allowance, workspace, answer);
     tell(of_chained(chained), values)
@@ -299,20 +230,9 @@ pub extern "C" fn braid_remainder(
     answer: &mut [u8],
     values: &mut [u64; 4],
 ) -> u8
-    ensures told { λ r. ⌜ Tells
-        (told remainderTold (mapped counted
-        (remainder (now (table .entry)) (now (done .entry)) (now (pattern .entry)) allowance (length (now (workspace .entry))) (length (now (answer .entry))))))
-        r (now (values .exit)) ⌝ }
-    ensures answer { λ r. ⌜ now (answer .exit) ≡ outputAfter remainderBytes
-        (remainder (now (table .entry)) (now (done .entry)) (now (pattern .entry)) allowance (length (now (workspace .entry))) (length (now (answer .entry))))
-        (now (answer .entry)) ⌝ }
-    ensures workspace { λ r.
-        ⌜ now (workspace .exit) ≡ workspaceAfter
-        (remainder (now (table .entry)) (now (done .entry)) (now (pattern .entry)) allowance (length (now (workspace .entry))) (length (now (answer .entry))))
-        (now (workspace .entry)) ⌝ }
-    ensures meaning { λ r. ⌜ Meant remainderTold
-        (λ o. RemainderMeaning (now (table .entry)) (now (done .entry)) (now (pattern .entry)) allowance (length (now (workspace .entry)))
-        (length (now (answer .entry))) o (now (answer .exit))) r (now (values .exit)) ⌝ }
+    ensures { λ r. ⌜ Meant remainderTold
+        (RemainderPromise (now (table .entry)) (now (done .entry)) (now (pattern .entry)) allowance (now (workspace .entry)) (now (workspace .exit))
+        (now (answer .entry)) (now (answer .exit))) r (now (values .exit)) ⌝ }
 {
     let remaining = remainder(table, done, pattern, allowance, workspace, answer);
     tell(of_remaining(remaining), values)
@@ -327,15 +247,8 @@ pub extern "C" fn braid_check(
     workspace: &mut [u8],
     values: &mut [u64; 4],
 ) -> u8
-    ensures told { λ r. ⌜ Tells
-        (told passageTold (check (now (table .entry)) (now (first .entry)) (now (second .entry)) (now (entries .entry)) (length (now (workspace .entry))))) r
-        (now (values .exit)) ⌝ }
-    ensures workspace { λ r.
-        ⌜ now (workspace .exit) ≡ workspaceAfter
-        (check (now (table .entry)) (now (first .entry)) (now (second .entry)) (now (entries .entry)) (length (now (workspace .entry))))
-        (now (workspace .entry)) ⌝ }
-    ensures meaning { λ r. ⌜ Meant passageTold
-        (CheckMeaning (now (table .entry)) (now (first .entry)) (now (second .entry)) (now (entries .entry)) (length (now (workspace .entry)))) r
+    ensures { λ r. ⌜ Meant passageTold
+        (CheckPromise (now (table .entry)) (now (first .entry)) (now (second .entry)) (now (entries .entry)) (now (workspace .entry)) (now (workspace .exit))) r
         (now (values .exit)) ⌝ }
 {
     let checked = check(table, first, second, entries, workspace);

@@ -1,7 +1,8 @@
 // How an answer is told in numbers: 0 or the refusal's number, then four values.
 ghost use mathlib.Core.Path.{_≡_};
 ghost use Rattle.model.specs.Stated.{refusal, reversed, clearedAs, compared, comparedSigned, chained, remaining, checked, packedAs, listedAs, trayCompared};
-ghost use Rattle.braid.specs.Told.{told, sizesTold, passedTold, verdictTold, signedTold, chainTold, remainderTold, passageTold, bytesTold, countsTold, logsTold};
+ghost use Rattle.braid.specs.Told.{told, sizesTold, passedTold, verdictTold, signedTold, chainTold, remainderTold, passageTold, bytesTold, countsTold};
+ghost use Rattle.braid.specs.Told.{logsTold};
 use model::answers::Chained;
 use model::answers::Checked;
 use model::answers::Cleared;

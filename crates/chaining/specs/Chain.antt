@@ -6,11 +6,16 @@ use lib.ListN.{length}
 use Rattle.model.specs.Word.{Positive}
 use Rattle.model.specs.Presentation.{Presentation, weigh}
 use Rattle.model.specs.Outcome.{Outcome, answered, refused, _>>=_}
-use Rattle.model.specs.Services.{Verdict, same-after, different-after, readForward, comparison, chainBytes, listable, ChainAnswer, listed-after, unlisted-after, joins, check}
+use Rattle.model.specs.Services.{Verdict, same-after, different-after, readForward, comparison, chainBytes, listable, ChainAnswer, listed-after, unlisted-after}
+use Rattle.model.specs.Services.{joins, check}
 use Rattle.model.specs.Areas.{begins, Compares, Listed, workspaceAfter}
 use Rattle.model.specs.Stated.{compared}
 use Rattle.model.specs.declared.answers.Compared.{Compared}
 use Rattle.cells.specs.Stands.{Of}
+use Rattle.model.specs.Outcome.{mapped}
+use Rattle.model.specs.Services.{chain, verdictIn}
+use Rattle.model.specs.Areas.{ChainArea}
+use Rattle.comparing.specs.Compare.{Meaning}
 
 -- the answer area: a chain after `same`, else as it was
 abbrev pub Area : Presentation → Positive → Positive → List ℕ → List ℕ → Outcome Verdict → Type 0
@@ -41,3 +46,12 @@ abbrev pub ListedChecks : List ℕ → List ℕ → List ℕ → List ℕ → Li
 ListedChecks table first second before after (answered (listed-after k many bytes)) = JoinsChecked table first second bytes before after
 ListedChecks table first second before after (answered (unlisted-after k)) = Unit {0}
 ListedChecks table first second before after (refused n ps) = Unit {0}
+
+-- THE SERVICE'S PROMISE (6.6): the outcome that is told, the workspace and the listed chain after the call, that the chain checks, and what the verdict means
+pub record ChainPromise (table first second : List ℕ) (allowance : ℕ) (workspace workspace′ answer answer′ : List ℕ) (outcome : Outcome ChainAnswer) : Type 0
+  where
+    pub stated : outcome ≡ chain table first second allowance (length workspace) (length answer)
+    pub workspace-is : workspace′ ≡ workspaceAfter (chain table first second allowance (length workspace) (length answer)) workspace
+    pub area : ChainArea table first second answer answer′ outcome
+    pub checks : ListedChecks table first second answer answer′ outcome
+    pub meaning : Meaning table first second allowance (length workspace) (λ T v. listable (T .size) (length answer) v) (mapped verdictIn outcome)

@@ -1,15 +1,12 @@
 // Chain (specification 6.6): as compare; where the verdict is `same`, a chain of swaps is listed in the answer area.
 ghost use mathlib.Core.Path.{_≡_};
-ghost use lib.ListN.{length};
 ghost use Prim.Native.Nat.{_≤_};
 ghost use Rattle.model.specs.Outcome.{mapped};
-ghost use Rattle.model.specs.Services.{chain, listable, chainAnswer, verdictIn};
-ghost use Rattle.model.specs.Areas.{workspaceAfter, ChainArea};
+ghost use Rattle.model.specs.Services.{chain, chainAnswer};
 ghost use Rattle.model.specs.Stated.{compared, chained};
 ghost use Rattle.loading.specs.Loading.{Forward};
 ghost use Rattle.loading.specs.Weighing.{Weigh};
-ghost use Rattle.comparing.specs.Compare.{Meaning};
-ghost use Rattle.chaining.specs.Chain.{Lists, ListedChecks};
+ghost use Rattle.chaining.specs.Chain.{Lists, ChainPromise};
 use areas::bytes::wipe;
 use cells::layout::CELLS;
 use chains::listing::list;
@@ -40,7 +37,8 @@ pub fn chain_programs(
 ) -> Compared
     requires programs { ⌜ Forward (now cells) size (now first) m (now second) n ⌝ }
     requires weights { ⌜ Weigh (now cells) size (now first) one (now second) two ⌝ }
-    ensures { λ r. ⌜ Lists (now (cells .entry)) size (now (first .entry)) (now (second .entry)) budget (now (workspace .entry)) (now (workspace .exit)) (now (answer .entry)) (now (answer .exit)) r ⌝ }
+    ensures { λ r. ⌜ Lists (now (cells .entry)) size (now (first .entry)) (now (second .entry)) budget (now (workspace .entry)) (now (workspace .exit))
+        (now (answer .entry)) (now (answer .exit)) r ⌝ }
 {
     let verdict = compare_programs(
         cells,
@@ -99,11 +97,8 @@ pub fn chain(
     workspace: &mut [u8],
     answer: &mut [u8],
 ) -> Chained
-    ensures stated { λ r. ⌜ chained r ≡ chain (now (table .entry)) (now (first .entry)) (now (second .entry)) allowance (length (now (workspace .entry))) (length (now (answer .entry))) ⌝ }
-    ensures workspace { λ r. ⌜ now (workspace .exit) ≡ workspaceAfter (chain (now (table .entry)) (now (first .entry)) (now (second .entry)) allowance (length (now (workspace .entry))) (length (now (answer .entry)))) (now (workspace .entry)) ⌝ }
-    ensures area { λ r. ⌜ ChainArea (now (table .entry)) (now (first .entry)) (now (second .entry)) (now (answer .entry)) (now (answer .exit)) (chained r) ⌝ }
-    ensures checks { λ r. ⌜ ListedChecks (now (table .entry)) (now (first .entry)) (now (second .entry)) (now (answer .entry)) (now (answer .exit)) (chained r) ⌝ }
-    ensures meaning { λ r. ⌜ Meaning (now (table .entry)) (now (first .entry)) (now (second .entry)) allowance (length (now (workspace .entry))) (λ T v. listable (T .size) (length (now (answer .entry))) v) (mapped verdictIn (chained r)) ⌝ }
+    ensures { λ r. ⌜ ChainPromise (now (table .entry)) (now (first .entry)) (now (second .entry)) allowance (now (workspace .entry)) (now (workspace .exit))
+        (now (answer .entry)) (now (answer .exit)) (chained r) ⌝ }
 {
     let mut cells = [0u8; CELLS];
     let read = read_programs(table, first, second, Signs::Forward, &mut cells);

@@ -18,8 +18,10 @@ use Rattle.theory.specs.Passages.{Passes}
 use Rattle.images.specs.Chains.{ChainOf}
 use Rattle.cells.specs.Stands.{Of}
 use Rattle.loading.specs.Loading.{Forward}
+use Rattle.model.specs.Services.{check}
 
-pub record ForwardChain (cells : List ℕ) (size : ℕ) (first : List ℕ) (first-count : ℕ) (second : List ℕ) (second-count : ℕ) (entries : List ℕ) (entry-count : ℕ) : Type 0 where
+pub record ForwardChain (cells : List ℕ) (size : ℕ) (first : List ℕ) (first-count : ℕ) (second : List ℕ) (second-count : ℕ) (entries : List ℕ)
+    (entry-count : ℕ) : Type 0 where
   pub forward : Forward cells size first first-count second second-count
   pub chain : ChainOf entries size entry-count
 
@@ -42,3 +44,9 @@ pub record CheckMeaning (table first second entries : List ℕ) (width : ℕ) (o
   -- the image is the only one of its entries, and these are in range
   pub one-image : (T : Presentation) (u v : Positive) → Compares table first second T u v → AreBytes entries → (es : List Entry)
       → readChain (T .size) entries ≡ answered es → (entries ≡ chainImage (T .size) es) × ChainInRange (T .size) es
+
+-- THE SERVICE'S PROMISE (6.7): the outcome that is told, the workspace after the call, and what the outcome means
+pub record CheckPromise (table first second entries workspace workspace′ : List ℕ) (outcome : Outcome Passage) : Type 0 where
+  pub stated : outcome ≡ check table first second entries (length workspace)
+  pub workspace-is : workspace′ ≡ workspaceAfter (check table first second entries (length workspace)) workspace
+  pub meaning : CheckMeaning table first second entries (length workspace) outcome

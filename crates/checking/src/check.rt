@@ -2,9 +2,8 @@
 ghost use mathlib.Core.Path.{_≡_};
 ghost use lib.ListN.{length};
 ghost use Rattle.model.specs.Services.{check};
-ghost use Rattle.model.specs.Areas.{workspaceAfter};
 ghost use Rattle.model.specs.Stated.{checked};
-ghost use Rattle.checking.specs.Check.{ForwardChain, PassageMeans, Checks, CheckMeaning};
+ghost use Rattle.checking.specs.Check.{ForwardChain, PassageMeans, Checks, CheckPromise};
 use areas::bytes::wipe;
 use cells::layout::CELLS;
 use engine::gap::Gap;
@@ -36,7 +35,8 @@ pub fn pass(
 ) -> Checked
     requires { ⌜ ForwardChain (now cells) size (now first) m (now second) n (now entries) count ⌝ }
     ensures length { λ r. ⌜ length (now (workspace .exit)) ≡ length (now (workspace .entry)) ⌝ }
-    ensures passage { λ r. ⌜ PassageMeans (now (cells .entry)) size (now (first .entry)) (now (second .entry)) (now (entries .entry)) (length (now (workspace .entry))) r ⌝ }
+    ensures passage { λ r. ⌜ PassageMeans (now (cells .entry)) size (now (first .entry)) (now (second .entry)) (now (entries .entry))
+        (length (now (workspace .entry))) r ⌝ }
 {
     let end = workspace.len();
     let letters = m as usize;
@@ -81,7 +81,8 @@ pub fn check_programs(
     workspace: &mut [u8],
 ) -> Checked
     requires { ⌜ ForwardChain (now cells) size (now first) m (now second) n (now entries) count ⌝ }
-    ensures { λ r. ⌜ Checks (now (cells .entry)) size (now (first .entry)) (now (second .entry)) (now (entries .entry)) (now (workspace .entry)) (now (workspace .exit)) r ⌝ }
+    ensures { λ r. ⌜ Checks (now (cells .entry)) size (now (first .entry)) (now (second .entry)) (now (entries .entry)) (now (workspace .entry))
+        (now (workspace .exit)) r ⌝ }
 {
     let answer = pass(cells, size, first, m, second, n, entries, count, workspace);
     wipe(workspace);
@@ -95,9 +96,8 @@ pub fn check(
     entries: &[u8],
     workspace: &mut [u8],
 ) -> Checked
-    ensures stated { λ r. ⌜ checked r ≡ check (now (table .entry)) (now (first .entry)) (now (second .entry)) (now (entries .entry)) (length (now (workspace .entry))) ⌝ }
-    ensures workspace { λ r. ⌜ now (workspace .exit) ≡ workspaceAfter (check (now (table .entry)) (now (first .entry)) (now (second .entry)) (now (entries .entry)) (length (now (workspace .entry)))) (now (workspace .entry)) ⌝ }
-    ensures meaning { λ r. ⌜ CheckMeaning (now (table .entry)) (now (first .entry)) (now (second .entry)) (now (entries .entry)) (length (now (workspace .entry))) (checked r) ⌝ }
+    ensures { λ r. ⌜ CheckPromise (now (table .entry)) (now (first .entry)) (now (second .entry)) (now (entries .entry)) (now (workspace .entry))
+        (now (workspace .exit)) (checked r) ⌝ }
 {
     let mut cells = [0u8; CELLS];
     let read = read_programs(table, first, second, Signs::Forward, &mut cells);

@@ -1,13 +1,11 @@
 // Compare (specification 6.4): two programs of forward letters under a table that must clear first.
 ghost use mathlib.Core.Path.{_≡_};
 ghost use lib.ListN.{length, replicate};
-ghost use Rattle.model.specs.Outcome.{answered};
 ghost use Rattle.model.specs.Services.{compare};
-ghost use Rattle.model.specs.Areas.{workspaceAfter};
 ghost use Rattle.model.specs.Stated.{compared};
 ghost use Rattle.loading.specs.Loading.{Forward};
 ghost use Rattle.loading.specs.Weighing.{Weigh};
-ghost use Rattle.comparing.specs.Compare.{judgement, Decides, Judges, Meaning};
+ghost use Rattle.comparing.specs.Compare.{judgement, Decides, Judges, ComparePromise};
 use areas::bytes::wipe;
 use cells::layout::CELLS;
 use clearing::clearing::clear_cells;
@@ -112,9 +110,8 @@ pub fn compare(
     allowance: u16,
     workspace: &mut [u8],
 ) -> Compared
-    ensures stated { λ r. ⌜ compared r ≡ compare (now (table .entry)) (now (first .entry)) (now (second .entry)) allowance (length (now (workspace .entry))) ⌝ }
-    ensures workspace { λ r. ⌜ now (workspace .exit) ≡ workspaceAfter (compare (now (table .entry)) (now (first .entry)) (now (second .entry)) allowance (length (now (workspace .entry)))) (now (workspace .entry)) ⌝ }
-    ensures meaning { λ r. ⌜ Meaning (now (table .entry)) (now (first .entry)) (now (second .entry)) allowance (length (now (workspace .entry))) (λ T v. answered v) (compared r) ⌝ }
+    ensures { λ r. ⌜ ComparePromise (now (table .entry)) (now (first .entry)) (now (second .entry)) allowance (now (workspace .entry)) (now (workspace .exit))
+        (compared r) ⌝ }
 {
     let mut cells = [0u8; CELLS];
     let read = read_programs(table, first, second, Signs::Forward, &mut cells);

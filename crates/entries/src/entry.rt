@@ -42,7 +42,8 @@ pub fn chain_bytes(size: u8, entries: u16) -> usize
 pub fn write_entry(area: &mut [u8], size: u8, index: usize, entry: ChainEntry)
     requires inside { ⌜ EntryInside size index (now area) ⌝ }
     requires letters { ⌜ (1 ≤ entry .a) × (1 ≤ entry .b) ⌝ }
-    ensures { λ r. ⌜ Appended (now (area .entry)) (entryPosition size index) (entryBits size (record { offset = entry .offset; a = entry .a; b = entry .b })) (now (area .exit)) ⌝ }
+    ensures { λ r. ⌜ Appended (now (area .entry)) (entryPosition size index) (entryBits size (record { offset = entry .offset; a = entry .a; b = entry .b }))
+        (now (area .exit)) ⌝ }
 {
     let at = position(size, index);
     let width = letter_width(size) as usize;

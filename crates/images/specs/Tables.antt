@@ -27,7 +27,8 @@ pub record After (limit at most next : ℕ) : Type 0 where
 
 -- WORDS, PAIRS AND ROWS, whatever they are read from: `source` is what is left to read from a position on
 
-pub record WordFrom (reader : List ℕ → Outcome (Read Positive)) (source : ℕ → List ℕ) (limit most at size : ℕ) (before : List ℕ) (cell : ℕ) (after : List ℕ) (next : ℕ) : Type 0 where
+pub record WordFrom (reader : List ℕ → Outcome (Read Positive)) (source : ℕ → List ℕ) (limit most at size : ℕ) (before : List ℕ) (cell : ℕ) (after : List ℕ)
+    (next : ℕ) : Type 0 where
   pub word : Positive
   pub read : reader (source at) ≡ answered (record { value = word; rest = source next })
   pub position : After limit at most next
@@ -39,7 +40,8 @@ WordDoneFrom reader source limit most at size before cell after (Next next) = Wo
 WordDoneFrom reader source limit most at size before cell after Ends = reader (source at) ≡ refused 1 unplaced
 WordDoneFrom reader source limit most at size before cell after Wrong = reader (source at) ≡ refused 2 unplaced
 
-pub record PairFrom (reader : List ℕ → Outcome (Read Complement)) (source : ℕ → List ℕ) (limit at size : ℕ) (before : List ℕ) (a b : ℕ) (after : List ℕ) (next : ℕ) : Type 0 where
+pub record PairFrom (reader : List ℕ → Outcome (Read Complement)) (source : ℕ → List ℕ) (limit at size : ℕ) (before : List ℕ) (a b : ℕ) (after : List ℕ)
+    (next : ℕ) : Type 0 where
   pub pair : Complement
   pub read : reader (source at) ≡ answered (record { value = pair; rest = source next })
   pub position : After limit at 129 next
@@ -55,7 +57,8 @@ PairDoneFrom reader source limit at size before a b after Wrong = reader (source
 abbrev pub HoldsRow : ℕ → List ℕ → ℕ → List Complement → Type 0
 HoldsRow size cells a row = (j : ℕ) → j < length row → HoldsPair size cells a (a + 1 + j) (getD row j undefined)
 
-pub record RowFrom (reader : List ℕ → Outcome (Read Complement)) (source : ℕ → List ℕ) (limit at size : ℕ) (before : List ℕ) (a : ℕ) (after : List ℕ) (next : ℕ) : Type 0 where
+pub record RowFrom (reader : List ℕ → Outcome (Read Complement)) (source : ℕ → List ℕ) (limit at size : ℕ) (before : List ℕ) (a : ℕ) (after : List ℕ)
+    (next : ℕ) : Type 0 where
   pub row : List Complement
   pub read : several reader (size - a) (source at) ≡ answered (record { value = row; rest = source next })
   pub position : After limit at 2064 next

@@ -136,7 +136,8 @@ pub fn letter_at(image: &[u8], size: u8, width: u32, i: usize) -> u8
 pub fn unpack_letters(image: &[u8], size: u8, count: u16, area: &mut [u8], at: usize)
     requires { ⌜ Accepted (now image) size count × (at + count ≤ length (now area)) ⌝ }
     ensures length { λ r. ⌜ length (now (area .exit)) ≡ length (now (area .entry)) ⌝ }
-    ensures bytes { λ r. ⌜ ((w : Word) → readProgram size (now (image .entry)) ≡ answered w → now (area .exit) ≡ written (now (area .entry)) at (plainProgram w)) ⌝ }
+    ensures bytes { λ r. ⌜ ((w : Word) → readProgram size (now (image .entry)) ≡ answered w → now (area .exit) ≡ written (now (area .entry)) at
+        (plainProgram w)) ⌝ }
 {
     let width = bits::letter_width(size) as u32;
     let mut reader = reader_at(image, COUNT_BITS);

@@ -26,7 +26,8 @@ pub record LoadedPrograms (cells : List ℕ) (T : Presentation) (u v : Positive)
 
 pub record Loads (size : ℕ) (first : List ℕ) (first-count : ℕ) (second : List ℕ) (second-count : ℕ) (before after : List ℕ) : Type 0 where
   pub same-length : length after ≡ length before
-  pub loads : (cells : List ℕ) (T : Presentation) → Of cells size T → (u v : Positive) → readForward size first ≡ answered u → readForward size second ≡ answered v
+  pub loads : (cells : List ℕ) (T : Presentation) → Of cells size T → (u v : Positive) → readForward size first ≡ answered u
+      → readForward size second ≡ answered v
       → LoadedPrograms cells T u v after first-count (length before - second-count)
 
 -- their reversing

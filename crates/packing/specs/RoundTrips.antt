@@ -12,7 +12,8 @@ abbrev pub Undone : (List ℕ → ℕ → Outcome (List ℕ)) → List ℕ → O
 Undone back bytes told area =
     AreBytes bytes → (written : ℕ) → told ≡ answered written → (room : ℕ) → length bytes ≤ room → back (take written area) room ≡ answered bytes
 
--- THE PROMISE OF PACKING AND UNPACKING (6.8, 6.9): `there` answers the bytes, `here` reads what was given and `read` what was written. The outcome that is told,
+-- THE PROMISE OF PACKING AND UNPACKING (6.8, 6.9): `there` answers the bytes, `here` reads what was given and `read` what was written. The outcome that is
+-- told,
 -- the answer area after the call, that what was written reads back, and that `back` undoes it
 pub record PackPromise {A : Type 0} (there back : List ℕ → ℕ → Outcome (List ℕ)) (here read : List ℕ → Outcome A) (given answer answer′ : List ℕ)
     (outcome : Outcome ℕ) : Type 0 where

@@ -15,6 +15,7 @@ use Rattle.model.specs.declared.answers.Remaining.{Remaining}
 use Rattle.theory.specs.Remainders.{QuotientMeaning}
 use Rattle.engine.specs.Run.{Reverses}
 use Rattle.cells.specs.Stands.{Of}
+use Rattle.model.specs.Services.{remainder}
 
 -- the result and the answer area that an outcome states
 pub record States (outcome : Outcome (Remainder Positive)) (before after : List ℕ) (r : Remaining) : Type 0 where
@@ -27,7 +28,8 @@ AnswerOf ending workspace before after r =
     → States (remainderOf (length before) (reversing T budget (length workspace) word)) before after r
 
 -- two loaded programs, under every table that the cells stand for
-pub record Concludes (cells : List ℕ) (size : ℕ) (done pattern : List ℕ) (budget : ℕ) (workspace workspace′ before after : List ℕ) (r : Remaining) : Type 0 where
+pub record Concludes (cells : List ℕ) (size : ℕ) (done pattern : List ℕ) (budget : ℕ) (workspace workspace′ before after : List ℕ)
+    (r : Remaining) : Type 0 where
   pub workspace-after : workspace′ ≡ workspaceAfter (remaining r) workspace
   pub states : (T : Presentation) → Of cells size T → (u v : Positive) → readForward size done ≡ answered u → readForward size pattern ≡ answered v
       → States (quotient T u v budget (length workspace) (length before)) before after r
@@ -41,3 +43,11 @@ movesLeft area (none-after k) = none-after k
 abbrev pub RemainderMeaning : List ℕ → List ℕ → List ℕ → ℕ → ℕ → ℕ → Outcome (Remainder ℕ) → List ℕ → Type 0
 RemainderMeaning table done pattern steps width area told left =
     (T : Presentation) (u v : Positive) → Compares table done pattern T u v → QuotientMeaning T u v steps width area (mapped (movesLeft left) told)
+
+-- THE SERVICE'S PROMISE (6.10): the outcome that is told, both areas after the call, and what the outcome means
+pub record RemainderPromise (table done pattern : List ℕ) (allowance : ℕ) (workspace workspace′ answer answer′ : List ℕ)
+    (outcome : Outcome (Remainder ℕ)) : Type 0 where
+  pub stated : outcome ≡ mapped counted (remainder table done pattern allowance (length workspace) (length answer))
+  pub answer-is : answer′ ≡ outputAfter remainderBytes (remainder table done pattern allowance (length workspace) (length answer)) answer
+  pub workspace-is : workspace′ ≡ workspaceAfter (remainder table done pattern allowance (length workspace) (length answer)) workspace
+  pub meaning : RemainderMeaning table done pattern allowance (length workspace) (length answer) outcome answer′

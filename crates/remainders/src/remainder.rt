@@ -1,14 +1,10 @@
 // Remainder (specification 6.10): the moves that are left to run of a pattern, or that none finish it.
-ghost use mathlib.Core.Path.{_≡_};
-ghost use lib.ListN.{length};
-ghost use Rattle.model.specs.Outcome.{mapped};
 ghost use Rattle.model.specs.Services.{remainder};
-ghost use Rattle.model.specs.Areas.{remainderBytes, outputAfter, workspaceAfter};
-ghost use Rattle.model.specs.Stated.{counted, remaining};
+ghost use Rattle.model.specs.Stated.{remaining};
 ghost use Rattle.engine.specs.Run.{Finishable};
 ghost use Rattle.loading.specs.Loading.{Forward};
 ghost use Rattle.loading.specs.Weighing.{Weigh};
-ghost use Rattle.remainders.specs.Remainder.{AnswerOf, Concludes, RemainderMeaning};
+ghost use Rattle.remainders.specs.Remainder.{AnswerOf, Concludes, RemainderPromise};
 use areas::bytes::copy_bytes;
 use areas::bytes::wipe;
 use cells::layout::CELLS;
@@ -69,7 +65,8 @@ pub fn remainder_programs(
 ) -> Remaining
     requires programs { ⌜ Forward (now cells) size (now done) m (now pattern) n ⌝ }
     requires weights { ⌜ Weigh (now cells) size (now done) one (now pattern) two ⌝ }
-    ensures { λ r. ⌜ Concludes (now (cells .entry)) size (now (done .entry)) (now (pattern .entry)) budget (now (workspace .entry)) (now (workspace .exit)) (now (answer .entry)) (now (answer .exit)) r ⌝ }
+    ensures { λ r. ⌜ Concludes (now (cells .entry)) size (now (done .entry)) (now (pattern .entry)) budget (now (workspace .entry)) (now (workspace .exit))
+        (now (answer .entry)) (now (answer .exit)) r ⌝ }
 {
     let clear = clear_cells(cells, size, budget, workspace);
     match clear {
@@ -94,10 +91,8 @@ pub fn remainder(
     workspace: &mut [u8],
     answer: &mut [u8],
 ) -> Remaining
-    ensures stated { λ r. ⌜ remaining r ≡ mapped counted (remainder (now (table .entry)) (now (done .entry)) (now (pattern .entry)) allowance (length (now (workspace .entry))) (length (now (answer .entry)))) ⌝ }
-    ensures answer { λ r. ⌜ now (answer .exit) ≡ outputAfter remainderBytes (remainder (now (table .entry)) (now (done .entry)) (now (pattern .entry)) allowance (length (now (workspace .entry))) (length (now (answer .entry)))) (now (answer .entry)) ⌝ }
-    ensures workspace { λ r. ⌜ now (workspace .exit) ≡ workspaceAfter (remainder (now (table .entry)) (now (done .entry)) (now (pattern .entry)) allowance (length (now (workspace .entry))) (length (now (answer .entry)))) (now (workspace .entry)) ⌝ }
-    ensures meaning { λ r. ⌜ RemainderMeaning (now (table .entry)) (now (done .entry)) (now (pattern .entry)) allowance (length (now (workspace .entry))) (length (now (answer .entry))) (remaining r) (now (answer .exit)) ⌝ }
+    ensures { λ r. ⌜ RemainderPromise (now (table .entry)) (now (done .entry)) (now (pattern .entry)) allowance (now (workspace .entry)) (now (workspace .exit))
+        (now (answer .entry)) (now (answer .exit)) (remaining r) ⌝ }
 {
     let mut cells = [0u8; CELLS];
     let read = read_programs(table, done, pattern, Signs::Forward, &mut cells);

@@ -25,7 +25,7 @@ use Rattle.model.proofs.Outcomes.{goes-on}
 use Rattle.engine.specs.Run.{Reverses}
 use Rattle.engine.proofs.Ended.{end, done, met, halted}
 use Rattle.reversal.specs.Asked.{Answers}
-use Rattle.reversal.specs.Commit.{CommitMeaning}
+use Rattle.reversal.specs.Commit.{CommitMeaning, CommitPromise}
 use Rattle.reversal.proofs.Answers.{zero-after}
 use Rattle.reversal.proofs.Foretelling.{foretells}
 
@@ -135,15 +135,9 @@ module _ (table program : List ℕ) (steps : ℕ) (workspace : List ℕ) (z : Si
   reversal = reverse table program steps (length workspace) (length before)
 
   -- the service's promise
-  abbrev pub Promised : List ℕ → List ℕ → Outcome Sizes → Type 0
-  Promised workspace′ after told =
-      (told ≡ mapped sizes outcome)
-      × ((after ≡ outputAfter fractionBytes outcome before)
-      × ((workspace′ ≡ workspaceAfter outcome workspace) × CommitMeaning table program steps (length workspace) z before after told))
-
   pub promised : (workspace′ after : List ℕ) (told : Outcome Sizes) → told ≡ mapped sizes outcome → after ≡ outputAfter fractionBytes outcome before
-      → workspace′ ≡ workspaceAfter outcome workspace → Promised workspace′ after told
-  promised workspace′ after told t a k = (t, (a, (k, record { answers = answers; as-reverse = as-reverse })))
+      → workspace′ ≡ workspaceAfter outcome workspace → CommitPromise table program steps z workspace workspace′ before after told
+  promised workspace′ after told t a k = record { stated = t; answer-is = a; workspace-is = k; meaning = record { answers = answers; as-reverse = as-reverse } }
     where
       same : (f : Fraction) → outcome ≡ answered f → outcome ≡ reversal
       same f e = e ∙ sym (commit-reverses table program steps (length workspace) z (length before) f e)

@@ -31,7 +31,7 @@ use Rattle.reversal.proofs.Answered.{answered-states, run-states, image
 use Rattle.reversal.specs.declared.asked.Asked.the-variants.{LeftReverse}
 use Rattle.reversal.specs.Asked.{Answers}
 use Rattle.reversal.specs.Answering.{States}
-use Rattle.reversal.specs.LeftReverse.{underMirror, turnedFraction, LeftMeaning}
+use Rattle.reversal.specs.LeftReverse.{underMirror, turnedFraction, LeftMeaning, LeftPromise}
 
 -- A PROGRAM UNDER A TABLE THAT WAS LOADED
 
@@ -84,15 +84,9 @@ module _ (table program : List ℕ) (steps : ℕ) (workspace before : List ℕ) 
   outcome = leftReverse table program steps (length workspace) (length before)
 
   -- the service's promise
-  abbrev pub Promised : List ℕ → List ℕ → Outcome Sizes → Type 0
-  Promised workspace′ after told =
-      (told ≡ mapped sizes outcome)
-      × ((after ≡ outputAfter fractionBytes outcome before)
-      × ((workspace′ ≡ workspaceAfter outcome workspace) × LeftMeaning table program steps (length workspace) before after told))
-
   pub promised : (workspace′ after : List ℕ) (told : Outcome Sizes) → told ≡ mapped sizes outcome → after ≡ outputAfter fractionBytes outcome before
-      → workspace′ ≡ workspaceAfter outcome workspace → Promised workspace′ after told
-  promised workspace′ after told t a k = (t, (a, (k, says)))
+      → workspace′ ≡ workspaceAfter outcome workspace → LeftPromise table program steps workspace workspace′ before after told
+  promised workspace′ after told t a k = record { stated = t; answer-is = a; workspace-is = k; meaning = says }
     where
       says : LeftMeaning table program steps (length workspace) before after told
       says T e w f m =

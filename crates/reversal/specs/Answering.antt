@@ -18,7 +18,8 @@ use Rattle.reversal.specs.declared.asked.Asked.{Asked}
 use Rattle.reversal.specs.declared.asked.Asked.the-variants.{Reverse, LeftReverse, Commit}
 
 -- a program that was run under the cells: its answer, and a workspace all zero
-pub record ProgramAnswered (asked : Asked) (cells : List ℕ) (size : ℕ) (program : List ℕ) (budget : ℕ) (workspace workspace′ before after : List ℕ) (r : Reversed) : Type 0 where
+pub record ProgramAnswered (asked : Asked) (cells : List ℕ) (size : ℕ) (program : List ℕ) (budget : ℕ) (workspace workspace′ before after : List ℕ)
+    (r : Reversed) : Type 0 where
   pub wiped : workspace′ ≡ replicate (length workspace) 0
   pub answers : (T : Presentation) → Of cells size T → (w : Word) → readProgram size program ≡ answered w
       → Answers (madeOf asked (length before) (reversing T budget (length workspace) (facing asked w))) before after r

@@ -6,6 +6,8 @@ use lib.ListN.{length}
 use Rattle.model.specs.Outcome.{Outcome, answered, mapped}
 use Rattle.model.specs.Services.{Sizes, sizes, reverse, enquire}
 use Rattle.model.specs.Areas.{fractionBytes, outputAfter}
+use Rattle.model.specs.Services.{commit}
+use Rattle.model.specs.Areas.{workspaceAfter}
 
 -- with the numbers of an answered enquiry, and an area as long as both lengths together, commit answers with them, and writes what reverse would write; and
 -- whatever it answers, reverse would answer and write
@@ -15,3 +17,11 @@ pub record CommitMeaning (table program : List ℕ) (steps width : ℕ) (z : Siz
   pub as-reverse : (y : Sizes) → told ≡ answered y
       → (mapped sizes (reverse table program steps width (length before)) ≡ answered y)
       × (after ≡ outputAfter fractionBytes (reverse table program steps width (length before)) before)
+
+-- THE SERVICE'S PROMISE (6.16): the outcome that is told, both areas after the call, and what the outcome means
+pub record CommitPromise (table program : List ℕ) (allowance : ℕ) (numbers : Sizes) (workspace workspace′ answer answer′ : List ℕ)
+    (outcome : Outcome Sizes) : Type 0 where
+  pub stated : outcome ≡ mapped sizes (commit table program allowance (length workspace) numbers (length answer))
+  pub answer-is : answer′ ≡ outputAfter fractionBytes (commit table program allowance (length workspace) numbers (length answer)) answer
+  pub workspace-is : workspace′ ≡ workspaceAfter (commit table program allowance (length workspace) numbers (length answer)) workspace
+  pub meaning : CommitMeaning table program allowance (length workspace) numbers answer answer′ outcome

@@ -16,6 +16,8 @@ use Rattle.model.specs.declared.answers.Refusal.the-variants.{OpenPair}
 use Rattle.model.specs.declared.answers.Reversed.{Reversed}
 use Rattle.model.specs.declared.answers.Reversed.the-variants.{Answer, Refused}
 use Rattle.cells.specs.Stands.{Of}
+use Rattle.model.specs.Services.{enquire}
+use Rattle.model.specs.Areas.{workspaceAfter}
 
 -- the answer that an ending is
 abbrev pub sizesTold : Ending → Reversed
@@ -35,7 +37,8 @@ pub record Foretells (told : Outcome Sizes) (area : ℕ) (reversing : Outcome Fr
   pub answers : (z : Sizes) → told ≡ answered z → z .numerator + z .denominator ≤ area
       → (f : Fraction) × (sizes f ≡ z) × (reversing ≡ answered f) × (committing z ≡ answered f)
   -- where they do not, both are refused with 13
-  pub short-area : (z : Sizes) → told ≡ answered z → area < z .numerator + z .denominator → (reversing ≡ refused 13 unplaced) × (committing z ≡ refused 13 unplaced)
+  pub short-area : (z : Sizes) → told ≡ answered z → area < z .numerator + z .denominator → (reversing ≡ refused 13 unplaced)
+      × (committing z ≡ refused 13 unplaced)
   -- what refuses the enquiry refuses both, whatever is handed in
   pub refuses : (n : ℕ) (place : Place) → told ≡ refused n place → (reversing ≡ refused n place) × ((z : Sizes) → committing z ≡ refused n place)
 
@@ -43,3 +46,9 @@ pub record Foretells (told : Outcome Sizes) (area : ℕ) (reversing : Outcome Fr
 abbrev pub EnquireMeaning : List ℕ → List ℕ → ℕ → ℕ → Outcome Sizes → Type 0
 EnquireMeaning table program steps width told =
     (area : ℕ) → Foretells told area (reverse table program steps width area) (λ z. commit table program steps width z area)
+
+-- THE SERVICE'S PROMISE (6.15): the outcome that is told, the workspace after the call, and what the outcome means
+pub record EnquirePromise (table program : List ℕ) (allowance : ℕ) (workspace workspace′ : List ℕ) (outcome : Outcome Sizes) : Type 0 where
+  pub stated : outcome ≡ enquire table program allowance (length workspace)
+  pub workspace-is : workspace′ ≡ workspaceAfter (enquire table program allowance (length workspace)) workspace
+  pub meaning : EnquireMeaning table program allowance (length workspace) outcome

@@ -14,6 +14,8 @@ use Rattle.model.specs.Areas.{fractionBytes, outputAfter}
 use Rattle.theory.specs.Mirrors.{readBackward, LeftIsRight}
 use Rattle.theory.specs.Orders.{OrderMeaning}
 use Rattle.reversal.specs.Reverse.{fractionLeft}
+use Rattle.model.specs.Services.{leftReverse}
+use Rattle.model.specs.Areas.{workspaceAfter}
 
 -- right reversing of the word read backward, under the mirror, with both words of its answer read backward again
 abbrev pub underMirror : Presentation → Word → ℕ → ℕ → ℕ → Outcome Fraction
@@ -36,3 +38,10 @@ abbrev pub LeftMeaning : List ℕ → List ℕ → ℕ → ℕ → List ℕ → 
 LeftMeaning table program steps width before after told =
     (T : Presentation) → readTable table ≡ answered T → (w : Word) → readProgram (T .size) program ≡ answered w → mirrorCheck T ≡ answered tt
     → MirrorSays T w steps width before after told
+
+-- THE SERVICE'S PROMISE (6.12): the outcome that is told, both areas after the call, and what the outcome means
+pub record LeftPromise (table program : List ℕ) (allowance : ℕ) (workspace workspace′ answer answer′ : List ℕ) (outcome : Outcome Sizes) : Type 0 where
+  pub stated : outcome ≡ mapped sizes (leftReverse table program allowance (length workspace) (length answer))
+  pub answer-is : answer′ ≡ outputAfter fractionBytes (leftReverse table program allowance (length workspace) (length answer)) answer
+  pub workspace-is : workspace′ ≡ workspaceAfter (leftReverse table program allowance (length workspace) (length answer)) workspace
+  pub meaning : LeftMeaning table program allowance (length workspace) answer answer′ outcome

@@ -9,6 +9,9 @@ use Rattle.model.specs.Outcome.{Outcome, answered, mapped}
 use Rattle.model.specs.Images.{readTable, readProgram}
 use Rattle.model.specs.Services.{Sizes, Fraction}
 use Rattle.theory.specs.Orders.{OrderMeaning}
+use lib.ListN.{length}
+use Rattle.model.specs.Services.{sizes, reverse}
+use Rattle.model.specs.Areas.{fractionBytes, outputAfter, workspaceAfter}
 
 -- N and D as they stand in the answer area, by the lengths that were told, with the steps that were told
 abbrev pub fractionLeft : List ℕ → Sizes → Fraction
@@ -20,3 +23,10 @@ abbrev pub ReverseMeaning : List ℕ → List ℕ → Outcome Sizes → List ℕ
 ReverseMeaning table program told area =
     (T : Presentation) → readTable table ≡ answered T → (w : Word) → readProgram (T .size) program ≡ answered w
     → OrderMeaning T w (mapped (fractionLeft area) told)
+
+-- THE SERVICE'S PROMISE (6.2): the outcome that is told, both areas after the call, and what the outcome means
+pub record ReversePromise (table program : List ℕ) (allowance : ℕ) (workspace workspace′ answer answer′ : List ℕ) (outcome : Outcome Sizes) : Type 0 where
+  pub stated : outcome ≡ mapped sizes (reverse table program allowance (length workspace) (length answer))
+  pub answer-is : answer′ ≡ outputAfter fractionBytes (reverse table program allowance (length workspace) (length answer)) answer
+  pub workspace-is : workspace′ ≡ workspaceAfter (reverse table program allowance (length workspace) (length answer)) workspace
+  pub meaning : ReverseMeaning table program outcome answer′

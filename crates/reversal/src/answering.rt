@@ -52,7 +52,8 @@ pub fn answer_program(
     answer: &mut [u8],
 ) -> Reversed
     requires { ⌜ ProgramRuns (now cells) size (now program) count ⌝ }
-    ensures { λ r. ⌜ ProgramAnswered asked (now (cells .entry)) size (now (program .entry)) budget (now (workspace .entry)) (now (workspace .exit)) (now (answer .entry)) (now (answer .exit)) r ⌝ }
+    ensures { λ r. ⌜ ProgramAnswered asked (now (cells .entry)) size (now (program .entry)) budget (now (workspace .entry)) (now (workspace .exit))
+        (now (answer .entry)) (now (answer .exit)) r ⌝ }
 {
     let ending = run_asked(cells, size, program, count, asked, budget, workspace);
     let result = answer_asked(asked, ending, workspace, answer);
@@ -71,7 +72,8 @@ pub fn answer_mirrored(
     answer: &mut [u8],
 ) -> Reversed
     requires { ⌜ ProgramRuns (now cells) size (now program) count ⌝ }
-    ensures { λ r. ⌜ LoadedAnswered Asked.LeftReverse (now (cells .entry)) size (now (program .entry)) budget (now (workspace .entry)) (now (workspace .exit)) (now (answer .entry)) (now (answer .exit)) r ⌝ }
+    ensures { λ r. ⌜ LoadedAnswered Asked.LeftReverse (now (cells .entry)) size (now (program .entry)) budget (now (workspace .entry)) (now (workspace .exit))
+        (now (answer .entry)) (now (answer .exit)) r ⌝ }
 {
     let mut mirror = [UNDEFINED; CELLS];
     let made = mirror_table(cells, size, &mut mirror);
@@ -102,7 +104,8 @@ pub fn answer_loaded(
     answer: &mut [u8],
 ) -> Reversed
     requires { ⌜ ProgramRuns (now cells) size (now program) count ⌝ }
-    ensures { λ r. ⌜ LoadedAnswered asked (now (cells .entry)) size (now (program .entry)) budget (now (workspace .entry)) (now (workspace .exit)) (now (answer .entry)) (now (answer .exit)) r ⌝ }
+    ensures { λ r. ⌜ LoadedAnswered asked (now (cells .entry)) size (now (program .entry)) budget (now (workspace .entry)) (now (workspace .exit))
+        (now (answer .entry)) (now (answer .exit)) r ⌝ }
 {
     if let Asked::LeftReverse = asked {
         return answer_mirrored(cells, size, program, count, budget, workspace, answer);
@@ -128,7 +131,8 @@ pub fn answer_images(
     workspace: &mut [u8],
     answer: &mut [u8],
 ) -> Reversed
-    ensures { λ r. ⌜ States (outcomeOf asked (now (table .entry)) (now (program .entry)) allowance (length (now (workspace .entry))) (length (now (answer .entry)))) (now (workspace .entry)) (now (workspace .exit)) (now (answer .entry)) (now (answer .exit)) r ⌝ }
+    ensures { λ r. ⌜ States (outcomeOf asked (now (table .entry)) (now (program .entry)) allowance (length (now (workspace .entry)))
+        (length (now (answer .entry)))) (now (workspace .entry)) (now (workspace .exit)) (now (answer .entry)) (now (answer .exit)) r ⌝ }
 {
     let mut cells = [0u8; CELLS];
     let read = read_table_program(table, program, Signs::Any, &mut cells);

@@ -1,11 +1,9 @@
 // Enquire (specification 6.15): the lengths of N and D and the steps, with no answer area.
 ghost use mathlib.Core.Path.{_≡_};
-ghost use lib.ListN.{length};
 ghost use Rattle.model.specs.Services.{enquire};
-ghost use Rattle.model.specs.Areas.{workspaceAfter};
 ghost use Rattle.model.specs.Stated.{reversed};
 ghost use Rattle.loading.specs.Loading.{ProgramRuns};
-ghost use Rattle.reversal.specs.Enquire.{sizesTold, ProgramEnquired, EnquireMeaning};
+ghost use Rattle.reversal.specs.Enquire.{sizesTold, ProgramEnquired, EnquirePromise};
 use areas::bytes::wipe;
 use cells::layout::CELLS;
 use images::programs::Signs;
@@ -55,9 +53,7 @@ pub fn enquire_program(
 }
 
 pub fn enquire(table: &[u8], program: &[u8], allowance: u16, workspace: &mut [u8]) -> Reversed
-    ensures stated { λ r. ⌜ reversed r ≡ enquire (now (table .entry)) (now (program .entry)) allowance (length (now (workspace .entry))) ⌝ }
-    ensures workspace { λ r. ⌜ now (workspace .exit) ≡ workspaceAfter (enquire (now (table .entry)) (now (program .entry)) allowance (length (now (workspace .entry)))) (now (workspace .entry)) ⌝ }
-    ensures meaning { λ r. ⌜ EnquireMeaning (now (table .entry)) (now (program .entry)) allowance (length (now (workspace .entry))) (reversed r) ⌝ }
+    ensures { λ r. ⌜ EnquirePromise (now (table .entry)) (now (program .entry)) allowance (now (workspace .entry)) (now (workspace .exit)) (reversed r) ⌝ }
 {
     let mut cells = [0u8; CELLS];
     let read = read_table_program(table, program, Signs::Any, &mut cells);

@@ -1,11 +1,7 @@
 // Reverse (specification 6.2): N, then D, in the answer area.
-ghost use mathlib.Core.Path.{_≡_};
-ghost use lib.ListN.{length};
-ghost use Rattle.model.specs.Outcome.{mapped};
-ghost use Rattle.model.specs.Services.{sizes, reverse};
-ghost use Rattle.model.specs.Areas.{fractionBytes, outputAfter, workspaceAfter};
+ghost use Rattle.model.specs.Services.{reverse};
 ghost use Rattle.model.specs.Stated.{reversed};
-ghost use Rattle.reversal.specs.Reverse.{ReverseMeaning};
+ghost use Rattle.reversal.specs.Reverse.{ReversePromise};
 use crate::answering::answer_images;
 use crate::asked::Asked;
 use model::answers::Reversed;
@@ -17,10 +13,8 @@ pub fn reverse(
     workspace: &mut [u8],
     answer: &mut [u8],
 ) -> Reversed
-    ensures stated { λ r. ⌜ reversed r ≡ mapped sizes (reverse (now (table .entry)) (now (program .entry)) allowance (length (now (workspace .entry))) (length (now (answer .entry)))) ⌝ }
-    ensures answer { λ r. ⌜ now (answer .exit) ≡ outputAfter fractionBytes (reverse (now (table .entry)) (now (program .entry)) allowance (length (now (workspace .entry))) (length (now (answer .entry)))) (now (answer .entry)) ⌝ }
-    ensures workspace { λ r. ⌜ now (workspace .exit) ≡ workspaceAfter (reverse (now (table .entry)) (now (program .entry)) allowance (length (now (workspace .entry))) (length (now (answer .entry)))) (now (workspace .entry)) ⌝ }
-    ensures meaning { λ r. ⌜ ReverseMeaning (now (table .entry)) (now (program .entry)) (reversed r) (now (answer .exit)) ⌝ }
+    ensures { λ r. ⌜ ReversePromise (now (table .entry)) (now (program .entry)) allowance (now (workspace .entry)) (now (workspace .exit)) (now (answer .entry))
+        (now (answer .exit)) (reversed r) ⌝ }
 {
     answer_images(table, program, Asked::Reverse, allowance, workspace, answer)
 }

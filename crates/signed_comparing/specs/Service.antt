@@ -19,6 +19,7 @@ use Rattle.model.specs.declared.answers.ComparedSigned.the-variants.{Same as Si
 use Rattle.theory.specs.Signed.{ComparisonSigned}
 use Rattle.cells.specs.Stands.{Stands, Of}
 use Rattle.engine.specs.Run.{Reverses}
+use Rattle.model.specs.Signed.{compareSigned}
 
 -- the verdict on N and D, with the steps of the first reversing
 abbrev pub afterFirstAs : ℕ → Compared → ComparedSigned
@@ -49,3 +50,9 @@ abbrev pub SignedSays : List ℕ → List ℕ → List ℕ → ℕ → ℕ → O
 SignedSays table first second steps width outcome =
     (T : Presentation) → readTable table ≡ answered T → (w v : Word) → readProgram (T .size) first ≡ answered w → readProgram (T .size) second ≡ answered v
     → ComparisonSigned T w v steps width outcome
+
+-- THE SERVICE'S PROMISE (6.18): the outcome that is told, the workspace after the call, and what the outcome means
+pub record SignedPromise (table first second : List ℕ) (allowance : ℕ) (workspace workspace′ : List ℕ) (outcome : Outcome SignedVerdict) : Type 0 where
+  pub stated : outcome ≡ compareSigned table first second allowance (length workspace)
+  pub workspace-is : workspace′ ≡ workspaceAfter (compareSigned table first second allowance (length workspace)) workspace
+  pub meaning : SignedSays table first second allowance (length workspace) outcome

@@ -1,11 +1,9 @@
 // Compare_signed (specification 6.18): two programs of any signs under a table that must clear, and so must its mirror, and whose set must close.
 ghost use mathlib.Core.Path.{_≡_};
 ghost use lib.ListN.{length};
-ghost use Rattle.model.specs.Areas.{workspaceAfter};
 ghost use Rattle.model.specs.Stated.{comparedSigned};
-ghost use Rattle.model.specs.Signed.{compareSigned};
 ghost use Rattle.loading.specs.Loading.{SignedRuns};
-ghost use Rattle.signed_comparing.specs.Service.{afterFirstAs, Ran, Settles, SignedCompared, SignedSays};
+ghost use Rattle.signed_comparing.specs.Service.{afterFirstAs, Ran, Settles, SignedCompared, SignedPromise};
 use crate::fraction::compare_fraction;
 use crate::preparing::prepare;
 use crate::running::reverse_signed;
@@ -74,7 +72,8 @@ pub fn compare_loaded(
     workspace: &mut [u8],
 ) -> ComparedSigned
     requires { ⌜ SignedRuns (now cells) size (now first) m (now second) n ⌝ }
-    ensures { λ r. ⌜ SignedCompared (now (cells .entry)) size (now (first .entry)) (now (second .entry)) budget (now (workspace .entry)) (now (workspace .exit)) r ⌝ }
+    ensures { λ r. ⌜ SignedCompared (now (cells .entry)) size (now (first .entry)) (now (second .entry)) budget (now (workspace .entry))
+        (now (workspace .exit)) r ⌝ }
 {
     let clear = prepare(cells, size, budget, workspace);
     match clear {
@@ -95,9 +94,8 @@ pub fn compare_signed(
     allowance: u16,
     workspace: &mut [u8],
 ) -> ComparedSigned
-    ensures stated { λ r. ⌜ comparedSigned r ≡ compareSigned (now (table .entry)) (now (first .entry)) (now (second .entry)) allowance (length (now (workspace .entry))) ⌝ }
-    ensures workspace { λ r. ⌜ now (workspace .exit) ≡ workspaceAfter (compareSigned (now (table .entry)) (now (first .entry)) (now (second .entry)) allowance (length (now (workspace .entry)))) (now (workspace .entry)) ⌝ }
-    ensures meaning { λ r. ⌜ SignedSays (now (table .entry)) (now (first .entry)) (now (second .entry)) allowance (length (now (workspace .entry))) (comparedSigned r) ⌝ }
+    ensures { λ r. ⌜ SignedPromise (now (table .entry)) (now (first .entry)) (now (second .entry)) allowance (now (workspace .entry)) (now (workspace .exit))
+        (comparedSigned r) ⌝ }
 {
     let mut cells = [0u8; CELLS];
     let read = read_programs(table, first, second, Signs::Any, &mut cells);

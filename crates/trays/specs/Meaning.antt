@@ -40,7 +40,8 @@ pub record LogSays (T : Presentation) (u v : Positive) (steps width : ℕ) (byte
 -- what is told of a log, whatever its image holds
 pub record LogMeans (table log pattern : List ℕ) (steps width : ℕ) (bytes : List ℕ) : Type 0 where
   -- of one that is no forward program the number of its refusal, without steps
-  pub refused-log : (T : Presentation) → readTable table ≡ answered T → (n : ℕ) (place : Place) → readForward (T .size) log ≡ refused n place → bytes ≡ n ∷ 0 ∷ 0 ∷ []
+  pub refused-log : (T : Presentation) → readTable table ≡ answered T → (n : ℕ) (place : Place) → readForward (T .size) log ≡ refused n place
+      → bytes ≡ n ∷ 0 ∷ 0 ∷ []
   -- of any other what a comparison with the pattern says
   pub compared-log : (T : Presentation) (u v : Positive) → Compares table log pattern T u v → LogSays T u v steps width bytes
 

@@ -35,15 +35,19 @@ pub record LogCompared (cells : List ℕ) (size : ℕ) (log pattern : List ℕ) 
   pub workspace : after ≡ before
   pub verdict : Under cells size pattern (λ T v. compared r ≡ logVerdict size T v budget (length before) log)
 
-pub record LogAnswered (cells : List ℕ) (size : ℕ) (tray : List ℕ) (at : ℕ) (pattern : List ℕ) (budget : ℕ) (workspace-before workspace-after before after : List ℕ) (place end : ℕ) : Type 0 where
+pub record LogAnswered (cells : List ℕ) (size : ℕ) (tray : List ℕ) (at : ℕ) (pattern : List ℕ) (budget : ℕ)
+    (workspace-before workspace-after before after : List ℕ) (place end : ℕ) : Type 0 where
   pub workspace : workspace-after ≡ workspace-before
   pub ends : end ≡ endAt tray at
   pub same-length : length after ≡ length before
-  pub answer : Under cells size pattern (λ T v. after ≡ written before place (logBytes (logVerdict size T v budget (length workspace-before) (imageAt tray at))))
+  pub answer : Under cells size pattern
+      (λ T v. after ≡ written before place (logBytes (logVerdict size T v budget (length workspace-before) (imageAt tray at))))
 
-pub record LogsAnswered (cells : List ℕ) (size : ℕ) (tray : List ℕ) (logs : ℕ) (pattern : List ℕ) (budget : ℕ) (workspace-before workspace-after before after : List ℕ) : Type 0 where
+pub record LogsAnswered (cells : List ℕ) (size : ℕ) (tray : List ℕ) (logs : ℕ) (pattern : List ℕ) (budget : ℕ)
+    (workspace-before workspace-after before after : List ℕ) : Type 0 where
   pub workspace : workspace-after ≡ workspace-before
-  pub answer : (l : LogsOf tray logs) → Under cells size pattern (λ T v. after ≡ written before 0 (trayBytes (map (logVerdict size T v budget (length workspace-before)) (l .images))))
+  pub answer : (l : LogsOf tray logs)
+      → Under cells size pattern (λ T v. after ≡ written before 0 (trayBytes (map (logVerdict size T v budget (length workspace-before)) (l .images))))
 
 -- an outcome, as it is told and as the areas are left
 pub record States (outcome : Outcome (List (Outcome Verdict))) (workspace-before workspace-after before after : List ℕ) (r : TrayCompared) : Type 0 where

@@ -35,7 +35,8 @@ pub fn pair_bits(cells: &[u8], a: u8, b: u8, size: u8, form: Form) -> usize
 // The bits of the pairs of a letter with those after it.
 pub fn row_bits(cells: &[u8], size: u8, a: u8, form: Form) -> usize
     requires { ⌜ HoldsSomeRow size (now cells) a × FormFor size form × (length (now cells) ≡ 4096) ⌝ }
-    ensures bits { λ r. ⌜ ((row : List Complement) → HoldsRow size (now (cells .entry)) a row → length row + a ≡ size → r ≡ length (concatMap (pairAs form) row)) ⌝ }
+    ensures bits { λ r. ⌜ ((row : List Complement) → HoldsRow size (now (cells .entry)) a row → length row + a ≡ size
+        → r ≡ length (concatMap (pairAs form) row)) ⌝ }
     ensures near { λ r. ⌜ r ≤ 3960 ⌝ }
 {
     let mut bits: usize = 0;
@@ -50,7 +51,8 @@ pub fn row_bits(cells: &[u8], size: u8, a: u8, form: Form) -> usize
 // The bits of a table.
 pub fn table_bits(cells: &[u8], size: u8, form: Form) -> usize
     requires { ⌜ HoldsSomeTable size (now cells) × FormFor size form × (length (now cells) ≡ 4096) ⌝ }
-    ensures bits { λ r. ⌜ ((excess : List ℕ) (rows : List (List Complement)) → HoldsWeights size (now (cells .entry)) excess → RowsHeld size (now (cells .entry)) rows → r ≡ length (tableAs form size excess rows)) ⌝ }
+    ensures bits { λ r. ⌜ ((excess : List ℕ) (rows : List (List Complement)) → HoldsWeights size (now (cells .entry)) excess
+        → RowsHeld size (now (cells .entry)) rows → r ≡ length (tableAs form size excess rows)) ⌝ }
     ensures near { λ r. ⌜ r ≤ 65535 ⌝ }
 {
     let mut bits = form.sizes as usize + (size as usize) * (form.weights as usize);

@@ -62,7 +62,8 @@ pub fn put_pair(
     begin: BitWriter,
 ) -> BitWriter
     requires { ⌜ HoldsSomePair size (now cells) a b × Letters a b × FormFor size form × (length (now cells) ≡ 4096) × Writes (now area) begin ⌝ }
-    ensures { λ r. ⌜ ((pair : Complement) → HoldsPair size (now (cells .entry)) a b pair → Puts (now (area .entry)) begin (pairAs form pair) (now (area .exit)) r) ⌝ }
+    ensures { λ r. ⌜ ((pair : Complement) → HoldsPair size (now (cells .entry)) a b pair → Puts (now (area .entry)) begin (pairAs form pair)
+        (now (area .exit)) r) ⌝ }
 {
     let there = cell_at(a, b);
     let back = cell_at(b, a);
@@ -84,7 +85,8 @@ pub fn put_row(
     begin: BitWriter,
 ) -> BitWriter
     requires { ⌜ HoldsSomeRow size (now cells) a × FormFor size form × (length (now cells) ≡ 4096) × Writes (now area) begin ⌝ }
-    ensures { λ r. ⌜ ((row : List Complement) → HoldsRow size (now (cells .entry)) a row → length row + a ≡ size → Puts (now (area .entry)) begin (concatMap (pairAs form) row) (now (area .exit)) r) ⌝ }
+    ensures { λ r. ⌜ ((row : List Complement) → HoldsRow size (now (cells .entry)) a row → length row + a ≡ size
+        → Puts (now (area .entry)) begin (concatMap (pairAs form) row) (now (area .exit)) r) ⌝ }
 {
     let mut writer = begin;
     let mut b = a + 1;
@@ -104,7 +106,8 @@ pub fn put_weights(
     begin: BitWriter,
 ) -> BitWriter
     requires { ⌜ HoldsSomeTable size (now cells) × FormFor size form × (length (now cells) ≡ 4096) × Writes (now area) begin ⌝ }
-    ensures { λ r. ⌜ ((excess : List ℕ) → HoldsWeights size (now (cells .entry)) excess → Puts (now (area .entry)) begin (concatMap (weightAs form) excess) (now (area .exit)) r) ⌝ }
+    ensures { λ r. ⌜ ((excess : List ℕ) → HoldsWeights size (now (cells .entry)) excess → Puts (now (area .entry)) begin (concatMap (weightAs form) excess)
+        (now (area .exit)) r) ⌝ }
 {
     let mut writer = begin;
     let mut a: u8 = 1;
@@ -124,7 +127,8 @@ pub fn put_weights(
 // The pairs of a table, from their cells.
 pub fn put_rows(cells: &[u8], size: u8, form: Form, area: &mut [u8], begin: BitWriter) -> BitWriter
     requires { ⌜ HoldsSomeTable size (now cells) × FormFor size form × (length (now cells) ≡ 4096) × Writes (now area) begin ⌝ }
-    ensures { λ r. ⌜ ((rows : List (List Complement)) → RowsHeld size (now (cells .entry)) rows → Puts (now (area .entry)) begin (concatMap (concatMap (pairAs form)) rows) (now (area .exit)) r) ⌝ }
+    ensures { λ r. ⌜ ((rows : List (List Complement)) → RowsHeld size (now (cells .entry)) rows
+        → Puts (now (area .entry)) begin (concatMap (concatMap (pairAs form)) rows) (now (area .exit)) r) ⌝ }
 {
     let mut writer = begin;
     let mut a: u8 = 1;
@@ -138,7 +142,9 @@ pub fn put_rows(cells: &[u8], size: u8, form: Form, area: &mut [u8], begin: BitW
 // A table, from its cells.
 pub fn put_table(cells: &[u8], size: u8, form: Form, area: &mut [u8]) -> BitWriter
     requires { ⌜ HoldsSomeTable size (now cells) × FormFor size form × (length (now cells) ≡ 4096) ⌝ }
-    ensures { λ r. ⌜ ((excess : List ℕ) (rows : List (List Complement)) → HoldsWeights size (now (cells .entry)) excess → RowsHeld size (now (cells .entry)) rows → Puts (now (area .entry)) (record { next = 0; held = 0; bits = 0 }) (tableAs form size excess rows) (now (area .exit)) r) ⌝ }
+    ensures { λ r. ⌜ ((excess : List ℕ) (rows : List (List Complement)) → HoldsWeights size (now (cells .entry)) excess
+        → RowsHeld size (now (cells .entry)) rows → Puts (now (area .entry)) (record { next = 0; held = 0; bits = 0 }) (tableAs form size excess rows)
+        (now (area .exit)) r) ⌝ }
 {
     let none = BitWriter {
         next: 0,
@@ -153,7 +159,8 @@ pub fn put_table(cells: &[u8], size: u8, form: Form, area: &mut [u8]) -> BitWrit
 // Writes a table where the area has room for it.
 pub fn write_table(cells: &[u8], size: u8, form: Form, area: &mut [u8]) -> Packed
     requires { ⌜ HoldsSomeTable size (now cells) × FormFor size form × (length (now cells) ≡ 4096) ⌝ }
-    ensures { λ r. ⌜ ((excess : List ℕ) (rows : List (List Complement)) → HoldsWeights size (now (cells .entry)) excess → RowsHeld size (now (cells .entry)) rows → Fills (now (area .entry)) (pack (tableAs form size excess rows)) r (now (area .exit))) ⌝ }
+    ensures { λ r. ⌜ ((excess : List ℕ) (rows : List (List Complement)) → HoldsWeights size (now (cells .entry)) excess
+        → RowsHeld size (now (cells .entry)) rows → Fills (now (area .entry)) (pack (tableAs form size excess rows)) r (now (area .exit))) ⌝ }
 {
     let bytes = (table_bits(cells, size, form) + 7) / 8;
     if area.len() < bytes {

@@ -6,22 +6,18 @@ use borrow.Author.Needs.{needs}
 use Rattle.braid.proofs.calls.braid_import.Statement.{statement}
 use Rattle.braid.proofs.calls.braid_import.Tie as tie
 
-import-requires : tie.Need-import-requires
-import-requires c κs = search needs
-
-of-packed-requires : tie.Need-of-packed-requires
-of-packed-requires c κs = search needs
-
-tell-requires : tie.Need-tell-requires
-tell-requires c κs = search needs
+abbrev after-slice-known2 : tie.After-of-packed → tie.After-slice-known2
+after-slice-known2 c = c .before
 
 same-length : tie.Need-same-length
-same-length c = c .before .before .before .before .before .import .kept .1 .1 .0
+same-length c = after-slice-known2 (c .before .before) .before .before .import .kept .1 .1 .0
 
 returns : tie.Need-returns
 returns c =
-    let z = c .before .before .before .before .before .import in
+    let z = after-slice-known2 (c .before .before) .before .before .import in
     meant bytesTold (packedAs (z .result)) (c .before .before .of-packed .ensures) (c .tell .ensures) (z .ensures)
 
 pub braid-import-spec : {M : Type 1} → statement M
-braid-import-spec = tie.close (tie.spec import-requires of-packed-requires tell-requires same-length returns)
+braid-import-spec =
+    tie.close
+    (tie.spec (λ c κs. search needs) (λ c κs. search needs) (λ c κs. search needs) same-length returns)

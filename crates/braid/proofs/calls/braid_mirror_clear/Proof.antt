@@ -1,29 +1,23 @@
 -- `braid::calls::braid_mirror_clear` meets its contract.
 use Rattle.model.specs.Stated.{clearedAs}
 use Rattle.braid.specs.Told.{passedTold}
-use Rattle.braid.proofs.Telling.{tells-outcome, meant}
+use Rattle.braid.proofs.Telling.{meant}
 use borrow.Author.Needs.{needs}
 use Rattle.braid.proofs.calls.braid_mirror_clear.Statement.{statement}
 use Rattle.braid.proofs.calls.braid_mirror_clear.Tie as tie
 
-mirror-clear-requires : tie.Need-mirror-clear-requires
-mirror-clear-requires c κs = search needs
-
-of-cleared-requires : tie.Need-of-cleared-requires
-of-cleared-requires c κs = search needs
-
-tell-requires : tie.Need-tell-requires
-tell-requires c κs = search needs
+abbrev after-slice-known2 : tie.After-of-cleared → tie.After-slice-known2
+after-slice-known2 c = c .before
 
 same-length : tie.Need-same-length
-same-length c = c .before .before .before .before .before .mirror-clear .kept .1 .1 .0
+same-length c = after-slice-known2 (c .before .before) .before .before .mirror-clear .kept .1 .1 .0
 
 returns : tie.Need-returns
 returns c =
-    let z = c .before .before .before .before .before .mirror-clear in
-    let e = z .ensures .0 in
-    (tells-outcome passedTold (clearedAs (z .result)) (c .before .before .of-cleared .ensures) (c .tell .ensures) e, (z .ensures .1 .0, meant passedTold (clearedAs (z .result)) (c .before .before .of-cleared .ensures) (c .tell .ensures) (z .ensures .1 .1)))
+    let z = after-slice-known2 (c .before .before) .before .before .mirror-clear in
+    meant passedTold (clearedAs (z .result)) (c .before .before .of-cleared .ensures) (c .tell .ensures) (z .ensures)
 
 pub braid-mirror-clear-spec : {M : Type 1} → statement M
 braid-mirror-clear-spec =
-    tie.close (tie.spec mirror-clear-requires of-cleared-requires tell-requires same-length returns)
+    tie.close
+    (tie.spec (λ c κs. search needs) (λ c κs. search needs) (λ c κs. search needs) same-length returns)

@@ -6,33 +6,21 @@ use borrow.Author.Needs.{needs}
 use Rattle.braid.proofs.calls.braid_tray.Statement.{statement}
 use Rattle.braid.proofs.calls.braid_tray.Tie as tie
 
-tray-requires : tie.Need-tray-requires
-tray-requires c κs = search needs
-
-of-tray-compared-requires : tie.Need-of-tray-compared-requires
-of-tray-compared-requires c κs = search needs
-
-tell-requires : tie.Need-tell-requires
-tell-requires c κs = search needs
+abbrev after-tray : tie.After-of-tray-compared → tie.After-tray
+after-tray c = c .before .before .before .before .before
 
 same-length : tie.Need-same-length
-same-length c = c .before .before .before .before .before .before .before .tray .kept .1 .1 .1 .1 .0
+same-length c = after-tray (c .before .before) .tray .kept .1 .1 .1 .1 .0
 
 same-length-2 : tie.Need-same-length-2
-same-length-2 c = c .before .before .before .before .before .before .before .tray .kept .1 .1 .1 .1 .1 .0
+same-length-2 c = after-tray (c .before .before) .tray .kept .1 .1 .1 .1 .1 .0
 
 returns : tie.Need-returns
 returns c =
-    let z = c .before .before .before .before .before .before .before .tray in
+    let z = after-tray (c .before .before) .tray in
     meant logsTold (trayCompared (z .result)) (c .before .before .of-tray-compared .ensures) (c .tell .ensures) (z .ensures)
 
 pub braid-tray-spec : {M : Type 1} → statement M
 braid-tray-spec =
     tie.close
-    (tie.spec
-    tray-requires
-    of-tray-compared-requires
-    tell-requires
-    same-length
-    same-length-2
-    returns)
+    (tie.spec (λ c κs. search needs) (λ c κs. search needs) (λ c κs. search needs) same-length same-length-2 returns)

@@ -9,10 +9,5 @@ use Rattle.braid.proofs.numbers.of_refusal.Tie as tie
 pub of-refusal-spec : {M : Type 1} → statement M
 of-refusal-spec =
     tie.close
-    (tie.spec
-    (λ c κs. search needs)
-    (λ c. search needs)
-    (λ c. search needs)
-    (λ c. search needs)
-    (λ c. search needs)
-    (λ c. ap refusedTold (c .before .before .before .before .refusal-numbers .ensures .told)))
+    (tie.spec (λ c κs. search needs) (λ c. search needs) (λ c. search needs) (λ c. search needs) (λ c. search needs)
+    (λ c. let k = c .before .before in ap refusedTold (k .before .before .refusal-numbers .ensures .told)))

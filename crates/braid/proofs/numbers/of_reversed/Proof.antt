@@ -6,18 +6,6 @@ use borrow.Author.Needs.{needs}
 use Rattle.braid.proofs.numbers.of_reversed.Statement.{statement}
 use Rattle.braid.proofs.numbers.of_reversed.Tie as tie
 
-enum-known-answer : tie.Need-enum-known-answer
-enum-known-answer c = search needs
-
-of-refusal-requires : tie.Need-of-refusal-requires
-of-refusal-requires c κs = search needs
-
-enum-known-answer-2 : tie.Need-enum-known-answer-2
-enum-known-answer-2 c = search needs
-
-cast-t9 : tie.Need-cast-t9
-cast-t9 c = search needs
-
 returns : tie.Need-returns
 returns c = c .of-refusal .ensures ∙ sym (ap (λ a. told sizesTold (reversed a)) (c .before .before .answer .given .1))
 
@@ -27,4 +15,4 @@ returns-2 c = sym (ap (λ a. told sizesTold (reversed a)) (c .before .answer2 .g
 pub of-reversed-spec : {M : Type 1} → statement M
 of-reversed-spec =
     tie.close
-    (tie.spec enum-known-answer of-refusal-requires enum-known-answer-2 cast-t9 returns returns-2)
+    (tie.spec (λ c. search needs) (λ c κs. search needs) (λ c. search needs) (λ c. search needs) returns returns-2)

@@ -50,7 +50,7 @@ returns c =
     let r = c .before .read .given .0 .0 in
     let o = chain-refused (a .table .now) (a .first .now) (a .second .now) (a .allowance) (length (a .workspace .now)) (length (a .answer .now)) r e in
     let checks = listed-checks (a .table .now) (a .first .now) (a .second .now) (a .allowance) (length (a .workspace .now)) (a .answer .now) (a .answer .now) _ (o .stated) refl in
-    (o .stated, (o .workspace (a .workspace .now), (refl, (checks, chain-means (a .table .now) (a .first .now) (a .second .now) (a .allowance) (length (a .workspace .now)) (length (a .answer .now)) _ (o .stated)))))
+    record { stated = o .stated; workspace-is = o .workspace (a .workspace .now); area = refl; checks = checks; meaning = chain-means (a .table .now) (a .first .now) (a .second .now) (a .allowance) (length (a .workspace .now)) (length (a .answer .now)) _ (o .stated) }
 
 same-length : tie.Need-same-length
 same-length c = search needs
@@ -71,7 +71,7 @@ returns-2 c =
     let area = subst (ChainArea (a .table .now) (a .first .now) (a .second .now) (a .answer .now) (z .last .1 .1 .1 .1 .1 .1 .1 .1 .1 .1 .0)) (sym told) (area-listed (a .table .now) (a .first .now) (a .second .now) (a .answer .now) (z .last .1 .1 .1 .1 .1 .1 .1 .1 .1 .1 .0) (f .table) (f .pair .one .word) (f .pair .two .word) (t .reads) (compared (z .result)) (l .area)) in
     let checks = listed-checks (a .table .now) (a .first .now) (a .second .now) (a .allowance) (length (a .workspace .now)) (a .answer .now) (z .last .1 .1 .1 .1 .1 .1 .1 .1 .1 .1 .0) (chained (c .listed .result)) e area in
     let wiped = z .ensures .wiped ∙ (sym (answer-workspace (f .table .size) (compared (z .result)) (a .workspace .now)) ∙ ap (λ x. workspaceAfter x (a .workspace .now)) (sym told ∙ e)) in
-    (e, (wiped, (area, (checks, chain-means (a .table .now) (a .first .now) (a .second .now) (a .allowance) (length (a .workspace .now)) (length (a .answer .now)) _ e))))
+    record { stated = e; workspace-is = wiped; area = area; checks = checks; meaning = chain-means (a .table .now) (a .first .now) (a .second .now) (a .allowance) (length (a .workspace .now)) (length (a .answer .now)) _ e }
 
 pub chain-spec : {M : Type 1} → statement M
 chain-spec =

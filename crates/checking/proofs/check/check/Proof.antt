@@ -54,7 +54,7 @@ returns c =
     let v = c .before .before .before .before .read-programs in
     let e = subst (ProgramsDone (a .table .now) (a .first .now) (a .second .now) ForwardAlone (v .last .1 .1 .1 .1 .0)) (c .before .read .given .1) (v .ensures) in
     let o = check-refused (a .table .now) (a .first .now) (a .second .now) (a .entries .now) (length (a .workspace .now)) (c .before .read .given .0 .0) e in
-    (o .stated, (o .workspace (a .workspace .now), check-says (a .table .now) (a .first .now) (a .second .now) (a .entries .now) (length (a .workspace .now)) _ (o .stated)))
+    record { stated = o .stated; workspace-is = o .workspace (a .workspace .now); meaning = check-says (a .table .now) (a .first .now) (a .second .now) (a .entries .now) (length (a .workspace .now)) _ (o .stated) }
 
 returns-2 : tie.Need-returns-2
 returns-2 c =
@@ -65,7 +65,7 @@ returns-2 c =
     let size = c .before .before .before .before .before .read2 .given .0 .0 in
     let e = subst (ChainDone (a .entries .now) size) (c .before .list .given .1) (c .before .before .before .read-chain .ensures) in
     let o = check-no-chain (a .table .now) (a .first .now) (a .second .now) (a .entries .now) (length (a .workspace .now)) (f .table) (f .pair .one .word) (f .pair .two .word) (t .reads) size (f .of .sized) (c .before .list .given .0 .0) e in
-    (o .stated, (o .workspace (a .workspace .now), check-says (a .table .now) (a .first .now) (a .second .now) (a .entries .now) (length (a .workspace .now)) _ (o .stated)))
+    record { stated = o .stated; workspace-is = o .workspace (a .workspace .now); meaning = check-says (a .table .now) (a .first .now) (a .second .now) (a .entries .now) (length (a .workspace .now)) _ (o .stated) }
 
 same-length : tie.Need-same-length
 same-length c = search needs
@@ -81,7 +81,7 @@ returns-3 c =
     let z = c .before .before .check-programs in
     let o = check-runs (a .table .now) (a .first .now) (a .second .now) (a .entries .now) (length (a .workspace .now)) (f .table) (f .pair .one .word) (f .pair .two .word) (t .reads) size (f .of .sized) (list .entries) (list .read) in
     let e = z .ensures .passes (f .table) (f .of) (f .pair .one .word) (f .pair .two .word) (f .pair .one .read) (f .pair .two .read) (list .entries) (list .read) ∙ sym o in
-    (e, (z .ensures .wiped ∙ ap (λ x. workspaceAfter x (a .workspace .now)) e, check-says (a .table .now) (a .first .now) (a .second .now) (a .entries .now) (length (a .workspace .now)) _ e))
+    record { stated = e; workspace-is = z .ensures .wiped ∙ ap (λ x. workspaceAfter x (a .workspace .now)) e; meaning = check-says (a .table .now) (a .first .now) (a .second .now) (a .entries .now) (length (a .workspace .now)) _ e }
 
 pub check-spec : {M : Type 1} → statement M
 check-spec =

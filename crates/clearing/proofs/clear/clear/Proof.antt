@@ -12,7 +12,7 @@ returns c =
     let z = c .before .before .clear-image .ensures in
     let a = c .before .before .before .before .before .before .args in
     let means = clear-means (a .table .now) (a .allowance) (length (a .workspace .now)) in
-    (z .stated, (z .workspace, subst (ClearMeaning (a .table .now)) (sym (z .stated)) means))
+    record { stated = z .stated; workspace-is = z .workspace; meaning = subst (ClearMeaning (a .table .now)) (sym (z .stated)) means }
 
 pub clear-spec : {M : Type 1} → statement M
 clear-spec = tie.close (tie.spec (λ c κs. search needs) (λ c. search needs) returns)

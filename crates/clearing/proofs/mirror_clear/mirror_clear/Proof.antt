@@ -13,7 +13,7 @@ returns c =
     let a = c .before .before .before .before .before .before .args in
     let width = length (a .workspace .now) in
     let means = mirror-means (a .table .now) (a .allowance) width in
-    (z .stated, (z .workspace, subst (MirrorClearMeaning (a .table .now) (a .allowance) width) (sym (z .stated)) means))
+    record { stated = z .stated; workspace-is = z .workspace; meaning = subst (MirrorClearMeaning (a .table .now) (a .allowance) width) (sym (z .stated)) means }
 
 pub mirror-clear-spec : {M : Type 1} → statement M
 mirror-clear-spec = tie.close (tie.spec (λ c κs. search needs) (λ c. search needs) returns)

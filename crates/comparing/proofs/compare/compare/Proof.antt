@@ -38,7 +38,7 @@ returns c =
     let v = c .before .before .before .before .read-programs in
     let e = subst (ProgramsDone (a .table .now) (a .first .now) (a .second .now) ForwardAlone (v .last .1 .1 .1 .1 .0)) (c .before .read .given .1) (v .ensures) in
     let o = compare-refused (a .table .now) (a .first .now) (a .second .now) (a .allowance) (length (a .workspace .now)) (c .before .read .given .0 .0) e in
-    (o .stated, (o .workspace (a .workspace .now), compare-means (a .table .now) (a .first .now) (a .second .now) (a .allowance) (length (a .workspace .now)) _ (o .stated)))
+    record { stated = o .stated; workspace-is = o .workspace (a .workspace .now); meaning = compare-means (a .table .now) (a .first .now) (a .second .now) (a .allowance) (length (a .workspace .now)) _ (o .stated) }
 
 same-length : tie.Need-same-length
 same-length c = search needs
@@ -52,7 +52,7 @@ returns-2 c =
     let z = c .before .before .compare-programs in
     let j = z .ensures .judged (f .table) (f .of) (f .pair .one .word) (f .pair .two .word) (f .pair .one .read) (f .pair .two .read) in
     let o = j .verdict ∙ sym (compare-runs (a .table .now) (a .first .now) (a .second .now) (a .allowance) (length (a .workspace .now)) (f .table) (f .pair .one .word) (f .pair .two .word) (t .reads)) in
-    (o, (z .ensures .workspace ∙ ap (λ x. workspaceAfter x (a .workspace .now)) o, compare-means (a .table .now) (a .first .now) (a .second .now) (a .allowance) (length (a .workspace .now)) _ o))
+    record { stated = o; workspace-is = z .ensures .workspace ∙ ap (λ x. workspaceAfter x (a .workspace .now)) o; meaning = compare-means (a .table .now) (a .first .now) (a .second .now) (a .allowance) (length (a .workspace .now)) _ o }
 
 pub compare-spec : {M : Type 1} → statement M
 compare-spec =

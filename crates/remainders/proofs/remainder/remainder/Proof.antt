@@ -46,7 +46,7 @@ returns c =
     let o = remainder-refused (a .table .now) (a .done .now) (a .pattern .now) (a .allowance) (length (a .workspace .now)) (length (a .answer .now)) r e in
     let told = refused-stated _ r (sym (o .stated)) counted in
     let written = refused-output _ r (sym (o .stated)) remainderBytes (a .answer .now) in
-    (told, (written, (o .workspace (a .workspace .now), remainder-says (a .table .now) (a .done .now) (a .pattern .now) (a .allowance) (length (a .workspace .now)) (length (a .answer .now)) _ (a .answer .now) _ told written)))
+    record { stated = told; answer-is = written; workspace-is = o .workspace (a .workspace .now); meaning = remainder-says (a .table .now) (a .done .now) (a .pattern .now) (a .allowance) (length (a .workspace .now)) (length (a .answer .now)) _ (a .answer .now) _ told written }
 
 same-length : tie.Need-same-length
 same-length c = search needs
@@ -64,16 +64,15 @@ returns-2 c =
     let q = z .ensures .states (f .table) (f .of) (f .pair .one .word) (f .pair .two .word) (f .pair .one .read) (f .pair .two .read) in
     let o = sym (remainder-runs (a .table .now) (a .done .now) (a .pattern .now) (a .allowance) (length (a .workspace .now)) (length (a .answer .now)) (f .table) (f .pair .one .word) (f .pair .two .word) (t .reads)) in
     let told = q .result ∙ ap (mapped counted) o in
-    let written = q .area ∙ ap (λ x. outputAfter remainderBytes x (a .answer .now)) o in (
-      told,
-      (
-        written,
-        (
-          z .ensures .workspace-after ∙ (ap (λ x. workspaceAfter x (a .workspace .now)) told ∙ counted-workspace (remainder (a .table .now) (a .done .now) (a .pattern .now) (a .allowance) (length (a .workspace .now)) (length (a .answer .now))) (a .workspace .now)),
-          remainder-says (a .table .now) (a .done .now) (a .pattern .now) (a .allowance) (length (a .workspace .now)) (length (a .answer .now)) _ (a .answer .now) _ told written,
-        ),
-      ),
-    )
+    let written = q .area ∙ ap (λ x. outputAfter remainderBytes x (a .answer .now)) o in
+    record {
+      stated = told;
+      answer-is = written;
+      workspace-is =
+          z .ensures .workspace-after ∙ (ap (λ x. workspaceAfter x (a .workspace .now)) told ∙ counted-workspace (remainder (a .table .now) (a .done .now) (a .pattern .now) (a .allowance) (length (a .workspace .now)) (length (a .answer .now))) (a .workspace .now));
+      meaning =
+          remainder-says (a .table .now) (a .done .now) (a .pattern .now) (a .allowance) (length (a .workspace .now)) (length (a .answer .now)) _ (a .answer .now) _ told written;
+    }
 
 pub remainder-spec : {M : Type 1} → statement M
 remainder-spec =

@@ -40,7 +40,11 @@ returns c =
     let width = length (a .workspace .now) in
     let o = enquire-refused (a .table .now) (a .program .now) (a .allowance) width (r .0 .0) (done k _ (r .1)) in
     let means = foretells (a .table .now) (a .program .now) (a .allowance) width in
-    (o .stated, (o .workspace (a .workspace .now), subst (EnquireMeaning (a .table .now) (a .program .now) (a .allowance) width) (sym (o .stated)) means))
+    record {
+      stated = o .stated;
+      workspace-is = o .workspace (a .workspace .now);
+      meaning = subst (EnquireMeaning (a .table .now) (a .program .now) (a .allowance) width) (sym (o .stated)) means;
+    }
 
 returns-2 : tie.Need-returns-2
 returns-2 c =
@@ -54,13 +58,12 @@ returns-2 c =
     let o = enquire-runs (a .table .now) (a .program .now) (a .allowance) width (p .table) (t .table-read) (q .word) (t .program-read) in
     let stated = z .answers (p .table) (p .of) (q .word) (q .read) ∙ sym o in
     let zero = zero-after (reversing (p .table) (a .allowance) width (q .word)) (a .workspace .now) in
-    let means = foretells (a .table .now) (a .program .now) (a .allowance) width in (
-      stated,
-      (
-        z .wiped ∙ sym (ap (λ x. workspaceAfter x (a .workspace .now)) o ∙ zero),
-        subst (EnquireMeaning (a .table .now) (a .program .now) (a .allowance) width) (sym stated) means,
-      ),
-    )
+    let means = foretells (a .table .now) (a .program .now) (a .allowance) width in
+    record {
+      stated = stated;
+      workspace-is = z .wiped ∙ sym (ap (λ x. workspaceAfter x (a .workspace .now)) o ∙ zero);
+      meaning = subst (EnquireMeaning (a .table .now) (a .program .now) (a .allowance) width) (sym stated) means;
+    }
 
 pub enquire-spec : {M : Type 1} → statement M
 enquire-spec =

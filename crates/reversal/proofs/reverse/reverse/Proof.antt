@@ -16,7 +16,7 @@ returns c =
     let z = answered c .answer-images .ensures in
     let a = start (answered c) .args in
     let says = reverse-says (a .table .now) (a .program .now) (a .allowance) (length (a .workspace .now)) (length (a .answer .now)) in
-    (z .result, (z .area, (z .work, says _ (a .answer .now) _ (z .result) (z .area))))
+    record { stated = z .result; answer-is = z .area; workspace-is = z .work; meaning = says _ (a .answer .now) _ (z .result) (z .area) }
 
 pub reverse-spec : {M : Type 1} → statement M
 reverse-spec = tie.close (tie.spec (λ c κs. search needs) (λ c. search needs) (λ c. search needs) returns)

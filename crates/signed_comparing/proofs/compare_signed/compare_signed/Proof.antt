@@ -23,7 +23,7 @@ returns c =
     let v = c .before .before .before .before .read-programs in
     let e = subst (ProgramsDone (a .table .now) (a .first .now) (a .second .now) Any (v .last .1 .1 .1 .1 .0)) (c .before .read .given .1) (v .ensures) in
     let o = read-refused (a .table .now) (a .first .now) (a .second .now) (a .allowance) (length (a .workspace .now)) (c .before .read .given .0 .0) e in
-    (o .stated, (o .workspace (a .workspace .now), says (a .table .now) (a .first .now) (a .second .now) (a .allowance) (length (a .workspace .now)) _ (o .stated)))
+    record { stated = o .stated; workspace-is = o .workspace (a .workspace .now); meaning = says (a .table .now) (a .first .now) (a .second .now) (a .allowance) (length (a .workspace .now)) _ (o .stated) }
 
 returns-2 : tie.Need-returns-2
 returns-2 c =
@@ -38,7 +38,7 @@ returns-2 c =
     let o =
     z .ensures .states T (t .runs .of) (one .word) (two .word) (one .read) (two .read)
     ∙ sym (compare-runs (a .table .now) (a .first .now) (a .second .now) (a .allowance) (length (a .workspace .now)) T (one .word) (two .word) (t .table-read) (ap (λ n. readProgram n (a .first .now)) sized ∙ one .read) (ap (λ n. readProgram n (a .second .now)) sized ∙ two .read)) in
-    (o, (z .ensures .workspace ∙ ap (λ x. workspaceAfter x (a .workspace .now)) o, says (a .table .now) (a .first .now) (a .second .now) (a .allowance) (length (a .workspace .now)) _ o))
+    record { stated = o; workspace-is = z .ensures .workspace ∙ ap (λ x. workspaceAfter x (a .workspace .now)) o; meaning = says (a .table .now) (a .first .now) (a .second .now) (a .allowance) (length (a .workspace .now)) _ o }
 
 pub compare-signed-spec : {M : Type 1} → statement M
 compare-signed-spec =
