@@ -5,7 +5,7 @@ use Rattle.model.specs.Checks.{cleared}
 use Rattle.model.specs.Services.{forwardVerdict}
 use Rattle.model.specs.Areas.{workspaceAfter}
 use Rattle.model.specs.Stated.{clearedAs}
-use Rattle.comparing.proofs.Comparing.{comparison-refused, comparison-decided, verdict-wipes}
+use Rattle.comparing.proofs.Comparing.{comparison-refused, comparison-decided, forward-late}
 use borrow.Author.Needs.{needs}
 use Rattle.comparing.proofs.compare.compare_programs.Statement.{statement}
 use Rattle.comparing.proofs.compare.compare_programs.Tie as tie
@@ -52,7 +52,7 @@ returns-2 c =
       workspace =
           x .ensures .workspace ∙ wiped
           ∙ sym (ap (λ o. workspaceAfter o (s .args .workspace .now)) (x .ensures .decided (f .table) (f .of) (f .pair .one .word) (f .pair .two .word) (f .pair .one .read) (f .pair .two .read))
-          ∙ verdict-wipes (f .table) (f .pair .one .word) (f .pair .two .word) (s .args .budget) (length (z .last .1 .1 .1 .0)) (s .args .workspace .now));
+          ∙ forward-late (f .table) (f .pair .one .word) (f .pair .two .word) (s .args .budget) (length (z .last .1 .1 .1 .0)) .zero (s .args .workspace .now));
       judged = λ T o u v eu ev.
           comparison-decided T u v (s .args .budget) (length (s .args .workspace .now))
           (subst (λ r. clearedAs r ≡ cleared T (s .args .budget) (length (s .args .workspace .now))) (c .before .before .before .before .enum-told .given .1) (z .ensures .0 T o))

@@ -11,7 +11,7 @@ use Rattle.model.specs.Areas.{workspaceAfter}
 use Rattle.model.specs.Stated.{clearedAs}
 use Rattle.engine.proofs.Ended.{finishable}
 use Rattle.remainders.specs.Remainder.{States}
-use Rattle.remainders.proofs.Answers.{zero-after}
+use Rattle.remainders.proofs.Answers.{remainder-zero}
 use Rattle.remainders.proofs.Service.{no-clear, pattern-light, pattern-heavy}
 use borrow.Author.Needs.{needs}
 use Rattle.remainders.proofs.remainder.remainder_programs.Statement.{statement}
@@ -87,7 +87,7 @@ returns-3 c =
       workspace-after =
           w .ensures
           ∙ (ap (λ i. replicate i 0) (x .ensures .0 ∙ kept)
-          ∙ sym (ap (λ o. workspaceAfter o (s .args .workspace .now)) (own .result) ∙ zero-after (length (s .args .answer .now)) (reversing (s .pre .0 .table) (s .args .budget) (length bytes) word) (s .args .workspace .now)));
+          ∙ sym (ap (λ o. workspaceAfter o (s .args .workspace .now)) (own .result) ∙ remainder-zero (length (s .args .answer .now)) (reversing (s .pre .0 .table) (s .args .budget) (length bytes) word) (s .args .workspace .now)));
       states = λ T o u v eu ev. pattern-heavy T u v (s .args .budget) (length (s .args .workspace .now)) (s .args .answer .now) (subst (λ r. clearedAs r ≡ cleared T (s .args .budget) (length (s .args .workspace .now))) (c .before .before .before .before .before .before .before .before .before .before .before .before .before .before .enum-told .given .1) (z .ensures .0 T o))
           (omega (arith, c .before .before .before .before .before .before .before .before .before .before .before .before .before .if1 .left, s .pre .1 .two T o v ev, s .pre .1 .one T o u eu))
           (subst (λ i. States (remainderOf (length (s .args .answer .now)) (reversing T (s .args .budget) i (negative u ++ positive v))) (s .args .answer .now) (a .last .1 .1 .0) (a .result)) (x .ensures .0 ∙ kept)
