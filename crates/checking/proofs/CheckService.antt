@@ -1,7 +1,7 @@
 -- Checking a chain: the first program as it is loaded, what following the entries comes to, and the outcome of check after its readings.
 use mathlib.Core.Path.{_≡_, refl, sym, ap, ap₂, _∙_}
 use mathlib.Core.List.{List, [], _∷_, _++_, append-nil}
-use mathlib.Core.Bool.{Bool, true, false, cond}
+use mathlib.Core.Bool.{cond}
 use mathlib.Core.Option.{Option, none, some}
 use Prim.Native.Nat.{ℕ, suc, _+_, _-_, _≤_, _<_}
 use native.Mathlib.Omega.{arith}
@@ -32,6 +32,7 @@ use Rattle.model.specs.Services.{Images, readImages}
 use Rattle.images.proofs.RoundTrip.{table-in-range, chain-image-of}
 use Rattle.checking.specs.Check.{CheckMeaning}
 use Rattle.loading.proofs.Early.{chain-early}
+use Rattle.loading.proofs.Late.{Late, late-answer, late-refusal, late-cond}
 use Rattle.loading.proofs.Outcomes.{AsFound, reading-refused}
 use Rattle.loading.proofs.Programs.{written-end}
 use Rattle.loading.proofs.Reading.{programs-refused, programs-run}
@@ -70,27 +71,19 @@ ends-at after left right carried all right′ p k e =
     (omega (arith, held-length carried all right′ (k .placed), held-length after left right p, ap length (k .word), k .same-length, k .placed .inside, p .inside, e))
 
 module _ (T : Presentation) (width : ℕ) where
-  -- following ends in an answer or in 12, so the workspace is zero after it
-  abbrev Wipes : Outcome Passage → Type 0
-  Wipes o = (area : List ℕ) → workspaceAfter o area ≡ replicate (length area) 0
+  -- following ends in an answer or in 12, after the work has begun
+  entry-late : (k : ℕ) (go : Positive → Outcome Passage) → ((w : Positive) → Late (go w)) → (o : Option Positive) → Late (followedBy width k go o)
+  entry-late k go h none = late-answer
+  entry-late k go h (some w) = late-cond (ltb width (length w)) (late-refusal refl) (h w)
 
-  fits-wipes : (go : Outcome Passage) → Wipes go → (t : Bool) → Wipes (cond t (refused 12 unplaced) go)
-  fits-wipes go h true area = refl
-  fits-wipes go h false area = h area
-
-  entry-wipes : (k : ℕ) (go : Positive → Outcome Passage) → ((w : Positive) → Wipes (go w)) → (o : Option Positive) → Wipes (followedBy width k go o)
-  entry-wipes k go h none area = refl
-  entry-wipes k go h (some w) area = fits-wipes (go w) (h w) (ltb width (length w)) area
-
-  followed-wipes : (es : List Entry) (k : ℕ) (u v : Positive) → Wipes (followed T width k u es v)
+  followed-late : (es : List Entry) (k : ℕ) (u v : Positive) → Late (followed T width k u es v)
   unfolding followed
-  followed-wipes [] k u v area = refl
-  followed-wipes (e ∷ es) k u v area =
-      entry-wipes k (λ w. followed T width (suc k) w es v) (λ w. followed-wipes es (suc k) w v) (applied T u e) area
+  followed-late [] k u v = late-answer
+  followed-late (e ∷ es) k u v = entry-late k (λ w. followed T width (suc k) w es v) (λ w. followed-late es (suc k) w v) (applied T u e)
 
   module _ (u : Positive) (es : List Entry) (v : Positive) where
     pub passage-wipes : (area : List ℕ) → workspaceAfter (passage T width u es v) area ≡ replicate (length area) 0
-    passage-wipes area = fits-wipes (followed T width 0 u es v) (followed-wipes es 0 u v) (ltb width (length u)) area
+    passage-wipes = late-cond (ltb width (length u)) (late-refusal refl) (followed-late es 0 u v) .zero
 
     pub passage-long : width < length u → passage T width u es v ≡ refused 12 unplaced
     passage-long h = ap (λ t. cond t (refused 12 unplaced) (followed T width 0 u es v)) (lt-ltb width (length u) h)

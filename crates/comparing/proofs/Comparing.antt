@@ -6,14 +6,14 @@ use Prim.Native.Nat.{ℕ, suc}
 use native.Mathlib.Omega.{arith}
 use borrow.Author.Tests.{eq-eqb, ne-eqb, eqb-true}
 use lib.Dec.{eqb}
-use lib.ListN.{length, replicate}
+use lib.ListN.{length}
 use Rattle.model.specs.Word.{Positive, positive, negative}
 use Rattle.model.specs.Presentation.{Presentation, weigh}
 use Rattle.model.specs.Reversing.{Ending, finished, open-pair, stopped, budget, room, reversing}
 use Rattle.model.specs.Outcome.{Outcome, answered}
 use Rattle.model.specs.Checks.{cleared}
 use Rattle.model.specs.Services.{Verdict, same-after, different-after, readForward, verdictOf, forwardVerdict, comparison, compare}
-use Rattle.model.specs.Areas.{Compares, workspaceAfter}
+use Rattle.model.specs.Areas.{Compares}
 use Rattle.model.specs.Stated.{refusal, compared, endingAnswer}
 use Rattle.model.specs.declared.answers.Ending.{Ending as EndingAnswer}
 use Rattle.model.specs.declared.answers.Refusal.{Refusal}
@@ -27,6 +27,7 @@ use Rattle.comparing.specs.Compare.{judgement, Ended, EndedIf, Judged, M
 use Rattle.model.specs.declared.answers.Compared.{Compared}
 use Rattle.model.specs.declared.answers.Compared.the-variants.{Same, Different, Refused}
 use Rattle.model.proofs.Outcomes.{still-refused, goes-on}
+use Rattle.loading.proofs.Late.{Late, late-answer, late-cond, late-stop}
 use Rattle.loading.proofs.Outcomes.{AsFound}
 use Rattle.loading.proofs.Reading.{programs-refused, programs-run}
 
@@ -69,6 +70,12 @@ verdict-empty (stopped room) k r h = impossible (cc)
 
 -- THE VERDICT
 
+-- what an ending comes to comes after the work has begun
+verdict-late : (e : Ending) → Late (verdictOf e)
+verdict-late (finished n d k r) = late-answer
+verdict-late (open-pair a b k) = late-answer
+verdict-late (stopped s) = late-stop s
+
 module _ (T : Presentation) (u v : Positive) (steps width : ℕ) where
   -- by the weights
   weighed : Bool → Outcome Verdict
@@ -107,19 +114,9 @@ module _ (T : Presentation) (u v : Positive) (steps width : ℕ) where
       if-same (Different k) q = tt
       if-same (Refused r) q = tt
 
-  -- after any verdict of a table that cleared the workspace is all zero
-  pub verdict-wipes : (area : List ℕ) → workspaceAfter (forwardVerdict T u v steps width) area ≡ replicate (length area) 0
-  verdict-wipes area = by-weight (eqb (weigh T u) (weigh T v))
-    where
-      by-ending : (e : Ending) → workspaceAfter (verdictOf e) area ≡ replicate (length area) 0
-      by-ending (finished n d k r) = refl
-      by-ending (open-pair a b k) = refl
-      by-ending (stopped budget) = refl
-      by-ending (stopped room) = refl
-
-      by-weight : (b : Bool) → workspaceAfter (cond b (verdictOf (reversing T steps width (negative u ++ positive v))) (answered (different-after 0))) area ≡ replicate (length area) 0
-      by-weight true = by-ending (reversing T steps width (negative u ++ positive v))
-      by-weight false = refl
+  -- any verdict of a table that cleared comes after the work has begun
+  pub forward-late : Late (forwardVerdict T u v steps width)
+  forward-late = late-cond (eqb (weigh T u) (weigh T v)) (verdict-late (reversing T steps width (negative u ++ positive v))) late-answer
 
 -- THE SERVICE
 

@@ -4,3 +4,4 @@ pub mod Programs
 pub mod Reading
 pub mod LoadedPrograms
 pub mod Weights
+pub mod Late

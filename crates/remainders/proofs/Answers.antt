@@ -1,7 +1,6 @@
 -- What remainder makes of each ending.
 use mathlib.Core.Path.{_≡_, refl, sym, ap, subst, _∙_}
 use mathlib.Core.List.{List, [], _∷_, _++_, append-nil}
-use mathlib.Core.Bool.{Bool, true, false}
 use Prim.Native.Nat.{ℕ, _+_, _≤_, _<_}
 use native.Mathlib.Omega.{arith}
 use borrow.Author.Tests.{lt-ltb, le-ltb}
@@ -9,10 +8,11 @@ use lib.Dec.{ltb}
 use lib.ListN.{length, take, drop, replicate}
 use Rattle.model.specs.Word.{Word, Positive, positive, negative}
 use Rattle.model.specs.Presentation.{Presentation}
-use Rattle.model.specs.Reversing.{Ending, finished, open-pair, stopped, budget, room}
+use Rattle.model.specs.Reversing.{Ending, finished, open-pair, stopped}
 use Rattle.model.specs.Outcome.{Outcome, answered, unless, mapped}
 use Rattle.model.specs.Services.{Remainder, moves-after, remainderOf}
 use Rattle.model.specs.Areas.{workspaceAfter}
+use Rattle.loading.proofs.Late.{Late, late-answer, late-unless, late-mapped, late-stop}
 use Rattle.model.specs.Stated.{refusal, stopRefusal, counted}
 use Rattle.model.specs.declared.answers.Ending.the-variants.{Finished, Undefined, Stopped}
 use Rattle.model.specs.declared.answers.Stop.{Stop}
@@ -93,14 +93,12 @@ module _ (T : Presentation) (word : Word) (steps : ℕ) (workspace before : List
       by-ending (stopped (h .stop)) (h .is)
       (record { result = sym (ap (λ x. refusal (stopRefusal x)) (h .told)) ∙ stop-numbered (h .stop); area = refl })
 
--- after any ending the workspace is all zero
-pub zero-after : (area : ℕ) (e : Ending) (workspace : List ℕ) → workspaceAfter (mapped counted (remainderOf area e)) workspace ≡ replicate (length workspace) 0
-zero-after area (finished n [] k r) workspace = by-room (ltb area (length n))
-  where
-    by-room : (t : Bool) → workspaceAfter (mapped counted (unless t 13 (moves-after n k))) workspace ≡ replicate (length workspace) 0
-    by-room true = refl
-    by-room false = refl
-zero-after area (finished n (x ∷ d) k r) workspace = refl
-zero-after area (open-pair a b k) workspace = refl
-zero-after area (stopped budget) workspace = refl
-zero-after area (stopped room) workspace = refl
+-- any of them comes after the work has begun
+remainder-late : (area : ℕ) (e : Ending) → Late (remainderOf area e)
+remainder-late area (finished n [] k r) = late-unless (ltb area (length n)) 13 _ refl
+remainder-late area (finished n (x ∷ d) k r) = late-answer
+remainder-late area (open-pair a b k) = late-answer
+remainder-late area (stopped s) = late-stop s
+
+pub remainder-zero : (area : ℕ) (e : Ending) (workspace : List ℕ) → workspaceAfter (mapped counted (remainderOf area e)) workspace ≡ replicate (length workspace) 0
+remainder-zero area e = late-mapped counted _ (remainder-late area e) .zero

@@ -21,6 +21,7 @@ use Rattle.model.specs.declared.answers.Reversed.the-variants.{Refused}
 use Rattle.theory.specs.Mirrors.{readBackward}
 use Rattle.model.specs.Services.{readTableWith}
 use Rattle.loading.proofs.Early.{program-early}
+use Rattle.loading.proofs.Late.{Late}
 use Rattle.loading.proofs.Outcomes.{AsFound, refused-stated, refused-output}
 use Rattle.loading.proofs.Reading.{program-refused, program-runs}
 use Rattle.reversal.specs.Asked.{handed, facing, madeOf, Answers}
@@ -28,8 +29,8 @@ use Rattle.reversal.specs.Answering.{ProgramAnswered, States, loadedOf, 
 use Rattle.reversal.specs.declared.asked.Asked.{Asked}
 use Rattle.reversal.specs.declared.asked.Asked.the-variants.{Reverse, LeftReverse, Commit}
 use Rattle.reversal.proofs.asked.Asked.{the-type}
-use Rattle.reversal.proofs.Answers.{zero-after}
-use Rattle.reversal.proofs.CommitService.{committed-zero}
+use Rattle.reversal.proofs.Answers.{fraction-late}
+use Rattle.reversal.proofs.CommitService.{committed-late}
 
 -- what is asked is not the reversing from the finished end
 abbrev pub Rightward : Asked → Type 0
@@ -48,11 +49,10 @@ faces-right Reverse t w = refl
 faces-right LeftReverse t w = absurd t
 faces-right (Commit h) t w = refl
 
--- after an ending the workspace is all zero
-pub made-zero : (asked : Asked) (area : ℕ) (e : Ending) (workspace : List ℕ) → workspaceAfter (madeOf asked area e) workspace ≡ replicate (length workspace) 0
-made-zero Reverse area e workspace = zero-after area e workspace
-made-zero LeftReverse area e workspace = zero-after area (readBackward e) workspace
-made-zero (Commit h) area e workspace = committed-zero (handed h) area e workspace
+made-late : (asked : Asked) (area : ℕ) (e : Ending) → Late (madeOf asked area e)
+made-late Reverse area e = fraction-late area e
+made-late LeftReverse area e = fraction-late area (readBackward e)
+made-late (Commit h) area e = committed-late (handed h) area e
 
 -- a wiped workspace, and what an ending comes to
 pub answered-states : (asked : Asked) (e : Ending) (o : Outcome Fraction) {workspace workspace′ before after : List ℕ} {r : Reversed} → o ≡ madeOf asked (length before) e
@@ -61,7 +61,7 @@ answered-states asked e o {workspace} {workspace′} {before} is z a =
     record {
       result = a .result ∙ sym (ap (mapped sizes) is);
       area = a .area ∙ sym (ap (λ q. outputAfter fractionBytes q before) is);
-      work = z ∙ sym (ap (λ q. workspaceAfter q workspace) is ∙ made-zero asked (length before) e workspace);
+      work = z ∙ sym (ap (λ q. workspaceAfter q workspace) is ∙ made-late asked (length before) e .zero workspace);
     }
 
 -- a program run under the table itself

@@ -1,17 +1,17 @@
 -- What reverse makes of each ending.
 use mathlib.Core.Path.{_≡_, refl, sym, ap, ap₂, _∙_}
 use mathlib.Core.List.{List}
-use mathlib.Core.Bool.{Bool, true, false}
 use Prim.Native.Nat.{ℕ, _+_, _≤_, _<_}
 use native.Mathlib.Omega.{arith}
 use borrow.Author.Tests.{lt-ltb, le-ltb}
-use lib.ListN.{length, replicate}
+use lib.Dec.{ltb}
+use lib.ListN.{length}
 use Rattle.model.specs.Word.{Word}
 use Rattle.model.specs.Presentation.{Presentation}
-use Rattle.model.specs.Reversing.{Ending, finished, open-pair, stopped, budget, room}
+use Rattle.model.specs.Reversing.{Ending, finished, open-pair, stopped}
 use Rattle.model.specs.Outcome.{Outcome, answered, unless, mapped}
 use Rattle.model.specs.Services.{sizes, Fraction, fractionOf}
-use Rattle.model.specs.Areas.{fractionBytes, outputAfter, workspaceAfter}
+use Rattle.model.specs.Areas.{fractionBytes, outputAfter}
 use Rattle.model.specs.Stated.{refusal, stopRefusal, reversed}
 use Rattle.model.specs.declared.answers.Ending.the-variants.{Finished, Undefined, Stopped}
 use Rattle.model.specs.declared.answers.Stop.{Stop}
@@ -22,6 +22,7 @@ use Rattle.model.specs.declared.answers.Reversed.{Reversed}
 use Rattle.model.specs.declared.answers.Reversed.the-variants.{Answer, Refused}
 use Rattle.engine.specs.Run.{Reverses}
 use Rattle.engine.proofs.Ended.{end, done, met, halted, stop-numbered}
+use Rattle.loading.proofs.Late.{Late, late-refusal, late-unless, late-stop}
 use Rattle.reversal.specs.Fraction.{FractionWritten}
 use Rattle.reversal.specs.Asked.{Answers}
 
@@ -66,13 +67,8 @@ module _ (T : Presentation) (word : Word) (steps : ℕ) (workspace before : List
       let h = halted T word steps workspace s q in
       answers-by (stopped (h .stop)) (h .is) (Refused why) before (ap refusal e ∙ sym (ap (λ x. refusal (stopRefusal x)) (h .told)) ∙ stop-numbered (h .stop)) refl
 
--- after any of them the workspace is all zero
-pub zero-after : (area : ℕ) (e : Ending) (workspace : List ℕ) → workspaceAfter (fractionOf area e) workspace ≡ replicate (length workspace) 0
-zero-after area (finished n d k r) workspace = by-room (lib.Dec.ltb area (length n + length d))
-  where
-    by-room : (t : Bool) → workspaceAfter {A = Fraction} (unless t 13 (record { numerator = n; denominator = d; steps = k })) workspace ≡ replicate (length workspace) 0
-    by-room true = refl
-    by-room false = refl
-zero-after area (open-pair a b k) workspace = refl
-zero-after area (stopped budget) workspace = refl
-zero-after area (stopped room) workspace = refl
+-- any of them comes after the work has begun
+pub fraction-late : (area : ℕ) (e : Ending) → Late (fractionOf area e)
+fraction-late area (finished n d k r) = late-unless (ltb area (length n + length d)) 13 _ refl
+fraction-late area (open-pair a b k) = late-refusal refl
+fraction-late area (stopped s) = late-stop s

@@ -5,10 +5,10 @@ use mathlib.Core.Bool.{Bool, true, false, _&&_, cond}
 use Prim.Native.Nat.{ℕ, _+_, _≤_}
 use borrow.Author.Tests.{eq-eqb, ne-eqb}
 use lib.Dec.{eqb}
-use lib.ListN.{length, replicate}
+use lib.ListN.{length}
 use Rattle.model.specs.Word.{Word}
 use Rattle.model.specs.Presentation.{Presentation}
-use Rattle.model.specs.Reversing.{Ending, finished, open-pair, stopped, reversing}
+use Rattle.model.specs.Reversing.{Ending, reversing}
 use Rattle.model.specs.Outcome.{unplaced, Outcome, answered, refused, _>>=_, mapped}
 use Rattle.model.specs.Images.{readProgram}
 use Rattle.model.specs.Services.{readTableWith, Fraction, fractionOf, reverse, Sizes, sizes, sizesOf, enquire, agree, committedOf, commit}
@@ -26,7 +26,9 @@ use Rattle.engine.specs.Run.{Reverses}
 use Rattle.engine.proofs.Ended.{end, done, met, halted}
 use Rattle.reversal.specs.Asked.{Answers}
 use Rattle.reversal.specs.Commit.{CommitMeaning, CommitPromise}
-use Rattle.reversal.proofs.Answers.{zero-after}
+use Rattle.loading.proofs.Late.{Late, late-refusal, late-cond, late-then}
+use Rattle.reversal.proofs.Answers.{fraction-late}
+use Rattle.reversal.proofs.EnquireService.{sizes-late}
 use Rattle.reversal.proofs.Foretelling.{foretells}
 
 -- THE THREE TESTS
@@ -96,15 +98,9 @@ module _ (z : Sizes) (T : Presentation) (word : Word) (steps : ℕ) (workspace b
         let o = by-numbers e in
         record { result = sym (ap (mapped sizes) o); area = sym (ap (λ q. outputAfter fractionBytes q before) o) }
 
--- after any of them the workspace is all zero
-pub committed-zero : (z : Sizes) (area : ℕ) (e : Ending) (workspace : List ℕ) → workspaceAfter (committedOf z area e) workspace ≡ replicate (length workspace) 0
-committed-zero z area (finished n d k r) workspace = go (agree z (record { numerator = length n; denominator = length d; steps = k }))
-  where
-    go : (t : Bool) → workspaceAfter (cond t (fractionOf area (finished n d k r)) (refused 18 unplaced)) workspace ≡ replicate (length workspace) 0
-    go true = zero-after area (finished n d k r) workspace
-    go false = refl
-committed-zero z area (open-pair a b k) workspace = zero-after area (open-pair a b k) workspace
-committed-zero z area (stopped s) workspace = zero-after area (stopped s) workspace
+-- any of them comes after the work has begun
+pub committed-late : (z : Sizes) (area : ℕ) (e : Ending) → Late (committedOf z area e)
+committed-late z area e = late-then (sizesOf e) _ (sizes-late e) (λ y. late-cond (agree z y) (fraction-late area e) (late-refusal refl))
 
 -- THE SERVICE
 

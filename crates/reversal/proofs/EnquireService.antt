@@ -2,18 +2,17 @@
 use mathlib.Core.Path.{_≡_, refl}
 use mathlib.Core.List.{List}
 use Prim.Native.Nat.{ℕ}
-use lib.ListN.{length, replicate}
 use Rattle.model.specs.Word.{Word}
 use Rattle.model.specs.Presentation.{Presentation}
 use Rattle.model.specs.Reversing.{Ending, finished, open-pair, stopped, budget, room, reversing}
 use Rattle.model.specs.Outcome.{answered}
 use Rattle.model.specs.Images.{readTable, readProgram}
 use Rattle.model.specs.Services.{sizesOf, enquire}
-use Rattle.model.specs.Areas.{workspaceAfter}
 use Rattle.model.specs.Stated.{refusal, reversed, endingAnswer}
 use Rattle.model.specs.declared.answers.Refusal.{Refusal}
 use Rattle.model.specs.Services.{readTableWith}
 use Rattle.loading.proofs.Early.{program-early}
+use Rattle.loading.proofs.Late.{Late, late-answer, late-refusal, late-stop}
 use Rattle.loading.proofs.Outcomes.{AsFound}
 use Rattle.loading.proofs.Reading.{program-refused, program-runs}
 use Rattle.reversal.specs.Enquire.{sizesTold}
@@ -24,18 +23,18 @@ sizes-stated (open-pair a b k) = refl
 sizes-stated (stopped budget) = refl
 sizes-stated (stopped room) = refl
 
--- after any of them the workspace is all zero
-pub zero-after : (e : Ending) (workspace : List ℕ) → workspaceAfter (sizesOf e) workspace ≡ replicate (length workspace) 0
-zero-after (finished n d k r) workspace = refl
-zero-after (open-pair a b k) workspace = refl
-zero-after (stopped budget) workspace = refl
-zero-after (stopped room) workspace = refl
+-- any of them comes after the work has begun
+pub sizes-late : (e : Ending) → Late (sizesOf e)
+sizes-late (finished n d k r) = late-answer
+sizes-late (open-pair a b k) = late-refusal refl
+sizes-late (stopped s) = late-stop s
 
 module _ (table program : List ℕ) (steps width : ℕ) where
   pub enquire-refused : (r : Refusal) → readTableWith readProgram table program ≡ refusal r → AsFound (enquire table program steps width) r
   unfolding enquire
   enquire-refused = program-refused readProgram table program (λ T w. sizesOf (reversing T steps width w)) program-early
 
-  pub enquire-runs : (T : Presentation) → readTable table ≡ answered T → (w : Word) → readProgram (T .size) program ≡ answered w → enquire table program steps width ≡ sizesOf (reversing T steps width w)
+  pub enquire-runs : (T : Presentation) → readTable table ≡ answered T → (w : Word) → readProgram (T .size) program ≡ answered w
+      → enquire table program steps width ≡ sizesOf (reversing T steps width w)
   unfolding enquire
   enquire-runs T e w f = program-runs readProgram table program (λ T w. sizesOf (reversing T steps width w)) T w e f

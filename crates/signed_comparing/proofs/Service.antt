@@ -1,21 +1,18 @@
 -- The comparison after what comes before it, and the outcome of compare_signed after its reading.
 use mathlib.Core.Path.{_≡_, refl, sym, ap, subst, _∙_}
 use mathlib.Core.List.{List, [], _∷_, _++_}
-use mathlib.Core.Bool.{Bool, true, false, cond}
 use Prim.Native.Nat.{ℕ}
-use lib.Dec.{eqb}
-use lib.ListN.{length, replicate}
+use lib.ListN.{length}
 use Rattle.model.specs.Word.{Word, positive, negative, inverse}
-use Rattle.model.specs.Presentation.{Presentation, weigh}
+use Rattle.model.specs.Presentation.{Presentation}
 use Rattle.model.specs.Enumeration.{triples}
-use Rattle.model.specs.Reversing.{Ending, finished, open-pair, stopped, budget, room, reversing}
+use Rattle.model.specs.Reversing.{Ending, finished, open-pair, stopped, reversing}
 use Rattle.model.specs.Outcome.{Outcome, answered, refused, _>>=_, mapped}
 use Rattle.model.specs.Checks.{cubeCheck, cleared}
 use Rattle.model.specs.Mirror.{mirror, mirrorCheck}
 use Rattle.model.specs.Images.{readTable, readProgram}
-use Rattle.model.specs.Services.{ofMirror, Verdict, same-after, different-after, verdictOf, forwardVerdict}
+use Rattle.model.specs.Services.{ofMirror, verdictOf, forwardVerdict}
 use Rattle.model.specs.Signed.{SignedVerdict, grownSet, afterFirst, signedOf, signedComparison, compareSigned}
-use Rattle.model.specs.Areas.{workspaceAfter}
 use Rattle.model.specs.Stated.{refusal, stopRefusal, compared, comparedSigned}
 use Rattle.model.specs.declared.answers.Stop.{Stop as StopAnswer}
 use Rattle.model.specs.declared.answers.Pair.{Pair}
@@ -34,8 +31,10 @@ use Rattle.engine.proofs.Ended.{done, finishable, met, halted, stop-numbered}
 use Rattle.cells.specs.Stands.{Stands}
 use Rattle.model.specs.Services.{Images, readImages}
 use Rattle.loading.proofs.Early.{program-early}
+use Rattle.loading.proofs.Late.{Late, late-refusal, late-mapped, late-stop}
 use Rattle.loading.proofs.Outcomes.{AsFound}
 use Rattle.loading.proofs.Reading.{images-refused, images-run}
+use Rattle.comparing.proofs.Comparing.{forward-late}
 use Rattle.signed_comparing.specs.Preparing.{prepared}
 use Rattle.signed_comparing.specs.Fraction.{Left}
 use Rattle.signed_comparing.specs.Service.{afterFirstAs, SignedSays}
@@ -80,27 +79,10 @@ module _ (T : Presentation) (word : Word) (steps : ℕ) (workspace : List ℕ) w
 -- THE WORKSPACE
 
 -- whatever comes of the reversings, the work has begun
-pub signed-late : (T : Presentation) (steps width : ℕ) (e : Ending) (area : List ℕ) → workspaceAfter (signedOf T steps width e) area ≡ replicate (length area) 0
-signed-late T steps width (open-pair a b k) area = refl
-signed-late T steps width (stopped budget) area = refl
-signed-late T steps width (stopped room) area = refl
-signed-late T steps width (finished n d k r) area = weights (eqb (weigh T n) (weigh T d))
-  where
-    verdict : (v : Verdict) → workspaceAfter (mapped (afterFirst k) (answered v)) area ≡ replicate (length area) 0
-    verdict (same-after j i) = refl
-    verdict (different-after j) = refl
-
-    second : (e : Ending) → workspaceAfter (mapped (afterFirst k) (verdictOf e)) area ≡ replicate (length area) 0
-    second (finished [] [] j i) = refl
-    second (finished [] (x ∷ y) j i) = refl
-    second (finished (x ∷ y) z j i) = refl
-    second (open-pair a b j) = refl
-    second (stopped budget) = refl
-    second (stopped room) = refl
-
-    weights : (b : Bool) → workspaceAfter (mapped (afterFirst k) (cond b (verdictOf (reversing T steps width (negative n ++ positive d))) (answered (different-after 0)))) area ≡ replicate (length area) 0
-    weights true = second (reversing T steps width (negative n ++ positive d))
-    weights false = refl
+pub signed-late : (T : Presentation) (steps width : ℕ) (e : Ending) → Late (signedOf T steps width e)
+signed-late T steps width (finished n d k r) = late-mapped (afterFirst k) _ (forward-late T n d steps width)
+signed-late T steps width (open-pair a b k) = late-refusal refl
+signed-late T steps width (stopped s) = late-stop s
 
 -- THE WHOLE COMPARISON
 

@@ -13,20 +13,8 @@ use borrow.Author.Needs.{needs}
 use Rattle.chaining.proofs.chain.chain.Statement.{statement}
 use Rattle.chaining.proofs.chain.chain.Tie as tie
 
-slice-aggregate-read-programs : tie.Need-slice-aggregate-read-programs
-slice-aggregate-read-programs c = search needs
-
 read-programs-requires : tie.Need-read-programs-requires
 read-programs-requires c κs = blank-zeros
-
-enum-known-read : tie.Need-enum-known-read
-enum-known-read c = search needs
-
-enum-known-read-2 : tie.Need-enum-known-read-2
-enum-known-read-2 c = search needs
-
-slice-aggregate-chain-programs : tie.Need-slice-aggregate-chain-programs
-slice-aggregate-chain-programs c = search needs
 
 chain-programs-requires : tie.Need-chain-programs-requires
 chain-programs-requires c κs =
@@ -52,12 +40,6 @@ returns c =
     let checks = listed-checks (a .table .now) (a .first .now) (a .second .now) (a .allowance) (length (a .workspace .now)) (a .answer .now) (a .answer .now) _ (o .stated) refl in
     record { stated = o .stated; workspace-is = o .workspace (a .workspace .now); area = refl; checks = checks; meaning = chain-means (a .table .now) (a .first .now) (a .second .now) (a .allowance) (length (a .workspace .now)) (length (a .answer .now)) _ (o .stated) }
 
-same-length : tie.Need-same-length
-same-length c = search needs
-
-same-length-2 : tie.Need-same-length-2
-same-length-2 c = search needs
-
 returns-2 : tie.Need-returns-2
 returns-2 c =
     let a = c .before .before .before .before .before .before .before .before .before .before .before .before .before .before .before .before .before .before .before .before .args in
@@ -77,14 +59,14 @@ pub chain-spec : {M : Type 1} → statement M
 chain-spec =
     tie.close
     (tie.spec
-    slice-aggregate-read-programs
+    (λ c. search needs)
     read-programs-requires
-    enum-known-read
-    enum-known-read-2
-    slice-aggregate-chain-programs
+    (λ c. search needs)
+    (λ c. search needs)
+    (λ c. search needs)
     chain-programs-requires
     listed-requires
     returns
-    same-length
-    same-length-2
+    (λ c. search needs)
+    (λ c. search needs)
     returns-2)

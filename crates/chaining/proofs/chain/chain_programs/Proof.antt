@@ -19,12 +19,6 @@ use borrow.Author.Needs.{needs}
 use Rattle.chaining.proofs.chain.chain_programs.Statement.{statement}
 use Rattle.chaining.proofs.chain.chain_programs.Tie as tie
 
-compare-programs-requires : tie.Need-compare-programs-requires
-compare-programs-requires c κs = search needs
-
-enum-known-verdict : tie.Need-enum-known-verdict
-enum-known-verdict c = search needs
-
 same-length : tie.Need-same-length
 same-length c = search needs
 
@@ -43,12 +37,6 @@ returns c =
       wiped = z .ensures .workspace;
       lists = λ T o u v eu ev. lists-nothing T u v (s .args .budget) (length (s .args .workspace .now)) (s .args .answer .now) (z .result) no (z .ensures .judged T o u v eu ev);
     }
-
-chain-bytes-requires : tie.Need-chain-bytes-requires
-chain-bytes-requires c κs = search needs
-
-same-length-2 : tie.Need-same-length-2
-same-length-2 c = search needs
 
 returns-2 : tie.Need-returns-2
 returns-2 c =
@@ -90,15 +78,6 @@ list-requires c κs =
     let r = c .before .before .before .before .before .before .before .before .before .verdict .given .0 .1 .0 in
     ((s .pre .0 .table), (p .one .word), (p .two .word), k, listed-from (s .args .cells .now) (s .args .size) (s .pre .0 .table) (s .pre .0 .of) (p .one .word) (p .two .word) (s .args .first .now) (s .args .second .now) (s .args .m) (s .args .n) (p .one) (p .two) refl refl (s .args .budget) (length (s .args .workspace .now)) k r ((subst (Judged (s .pre .0 .table) (p .one .word) (p .two .word) (s .args .budget) (length (s .args .workspace .now))) (c .before .before .before .before .before .before .before .before .before .verdict .given .1) (z .ensures .judged (s .pre .0 .table) (s .pre .0 .of) (p .one .word) (p .two .word) (p .one .read) (p .two .read))) .ended) (l .last .1 .1 .1 .1 .1 .0) (length (z .last .1 .1 .1 .1 .1 .1 .1 .1 .1 .0) - s .args .n) (l .ensures .same-length ∙ (ap length (z .ensures .workspace ∙ ap (λ j. workspaceAfter (compared j) (s .args .workspace .now)) (c .before .before .before .before .before .before .before .before .before .verdict .given .1)) ∙ length-replicate (length (s .args .workspace .now)) 0)) (l .ensures .loads (s .args .cells .now) (s .pre .0 .table) (s .pre .0 .of) (p .one .word) (p .two .word) (p .one .read) (p .two .read)) (length (s .args .answer .now)) (omega (arith, c .before .before .before .before .before .before .if1 .left, c .before .before .before .before .before .before .before .chain-bytes .ensures)))
 
-wipe-requires : tie.Need-wipe-requires
-wipe-requires c κs = search needs
-
-same-length-3 : tie.Need-same-length-3
-same-length-3 c = search needs
-
-same-length-4 : tie.Need-same-length-4
-same-length-4 c = search needs
-
 returns-3 : tie.Need-returns-3
 returns-3 c =
     let s = c .before .before .before .before .before .before .before .before .before .before .before .before .before .before .before .before .before .before .before .before .before .before .before .before .before .before .before .before .before in
@@ -123,17 +102,17 @@ pub chain-programs-spec : {M : Type 1} → statement M
 chain-programs-spec =
     tie.close
     (tie.spec
-    compare-programs-requires
-    enum-known-verdict
+    (λ c κs. search needs)
+    (λ c. search needs)
     same-length
     returns
-    chain-bytes-requires
-    same-length-2
+    (λ c κs. search needs)
+    (λ c. search needs)
     returns-2
     sub-right
     load-programs-requires
     list-requires
-    wipe-requires
-    same-length-3
-    same-length-4
+    (λ c κs. search needs)
+    (λ c. search needs)
+    (λ c. search needs)
     returns-3)

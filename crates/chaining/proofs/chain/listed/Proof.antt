@@ -7,18 +7,6 @@ use borrow.Author.Needs.{needs}
 use Rattle.chaining.proofs.chain.listed.Statement.{statement}
 use Rattle.chaining.proofs.chain.listed.Tie as tie
 
-enum-known-verdict : tie.Need-enum-known-verdict
-enum-known-verdict c = search needs
-
-chain-bytes-requires : tie.Need-chain-bytes-requires
-chain-bytes-requires c κs = search needs
-
-enum-known-verdict-2 : tie.Need-enum-known-verdict-2
-enum-known-verdict-2 c = search needs
-
-enum-known-verdict-3 : tie.Need-enum-known-verdict-3
-enum-known-verdict-3 c = search needs
-
 returns : tie.Need-returns
 returns c =
     let s = c .before .before .before .before in
@@ -35,10 +23,10 @@ pub listed-spec : {M : Type 1} → statement M
 listed-spec =
     tie.close
     (tie.spec
-    enum-known-verdict
-    chain-bytes-requires
-    enum-known-verdict-2
-    enum-known-verdict-3
+    (λ c. search needs)
+    (λ c κs. search needs)
+    (λ c. search needs)
+    (λ c. search needs)
     returns
     returns-2
     returns-3)

@@ -11,17 +11,8 @@ use borrow.Author.Needs.{needs}
 use Rattle.checking.proofs.check.check.Statement.{statement}
 use Rattle.checking.proofs.check.check.Tie as tie
 
-slice-aggregate-read-programs : tie.Need-slice-aggregate-read-programs
-slice-aggregate-read-programs c = search needs
-
 read-programs-requires : tie.Need-read-programs-requires
 read-programs-requires c κs = blank-zeros
-
-enum-known-read : tie.Need-enum-known-read
-enum-known-read c = search needs
-
-enum-known-read-2 : tie.Need-enum-known-read-2
-enum-known-read-2 c = search needs
 
 read-chain-requires : tie.Need-read-chain-requires
 read-chain-requires c κs =
@@ -29,15 +20,6 @@ read-chain-requires c κs =
     let v = c .before .before .before .before .read-programs in
     let t = subst (ProgramsDone (a .table .now) (a .first .now) (a .second .now) ForwardAlone (v .last .1 .1 .1 .1 .0)) (c .before .read2 .given .1) (v .ensures) in
     (t .forward .pair .some, t .forward .pair .few)
-
-enum-known-list : tie.Need-enum-known-list
-enum-known-list c = search needs
-
-enum-known-list-2 : tie.Need-enum-known-list-2
-enum-known-list-2 c = search needs
-
-slice-aggregate-check-programs : tie.Need-slice-aggregate-check-programs
-slice-aggregate-check-programs c = search needs
 
 check-programs-requires : tie.Need-check-programs-requires
 check-programs-requires c κs =
@@ -67,9 +49,6 @@ returns-2 c =
     let o = check-no-chain (a .table .now) (a .first .now) (a .second .now) (a .entries .now) (length (a .workspace .now)) (f .table) (f .pair .one .word) (f .pair .two .word) (t .reads) size (f .of .sized) (c .before .list .given .0 .0) e in
     record { stated = o .stated; workspace-is = o .workspace (a .workspace .now); meaning = check-says (a .table .now) (a .first .now) (a .second .now) (a .entries .now) (length (a .workspace .now)) _ (o .stated) }
 
-same-length : tie.Need-same-length
-same-length c = search needs
-
 returns-3 : tie.Need-returns-3
 returns-3 c =
     let a = c .before .before .before .before .before .before .before .before .before .before .before .before .before .before .before .before .before .before .before .before .args in
@@ -87,16 +66,16 @@ pub check-spec : {M : Type 1} → statement M
 check-spec =
     tie.close
     (tie.spec
-    slice-aggregate-read-programs
+    (λ c. search needs)
     read-programs-requires
-    enum-known-read
-    enum-known-read-2
+    (λ c. search needs)
+    (λ c. search needs)
     read-chain-requires
-    enum-known-list
-    enum-known-list-2
-    slice-aggregate-check-programs
+    (λ c. search needs)
+    (λ c. search needs)
+    (λ c. search needs)
     check-programs-requires
     returns
     returns-2
-    same-length
+    (λ c. search needs)
     returns-3)

@@ -7,15 +7,6 @@ use borrow.Author.Needs.{needs}
 use Rattle.checking.proofs.check.check_programs.Statement.{statement}
 use Rattle.checking.proofs.check.check_programs.Tie as tie
 
-pass-requires : tie.Need-pass-requires
-pass-requires c κs = search needs
-
-wipe-requires : tie.Need-wipe-requires
-wipe-requires c κs = search needs
-
-same-length : tie.Need-same-length
-same-length c = search needs
-
 returns : tie.Need-returns
 returns c =
     let s = c .before .before .before .before .before .before .before .before .before .before .before .before .before in
@@ -25,4 +16,4 @@ returns c =
     record { wiped = c .before .before .wipe .ensures ∙ (ap (λ k. replicate k 0) (v .ensures .0) ∙ sym (ap (λ x. workspaceAfter x (s .args .workspace .now)) m ∙ passage-wipes (q .table) (length (s .args .workspace .now)) (q .pair .one .word) (s .pre .chain .entries) (q .pair .two .word) (s .args .workspace .now))); passes = v .ensures .1 }
 
 pub check-programs-spec : {M : Type 1} → statement M
-check-programs-spec = tie.close (tie.spec pass-requires wipe-requires same-length returns)
+check-programs-spec = tie.close (tie.spec (λ c κs. search needs) (λ c κs. search needs) (λ c. search needs) returns)

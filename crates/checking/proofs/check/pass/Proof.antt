@@ -40,18 +40,6 @@ follow-requires c κs =
     let fit : (length (s .args .workspace .now) - s .args .m) + length (one .word) ≡ length (s .args .workspace .now) = omega (arith, one .count-is, c .before .before .before .before .before .if1 .left) in
     record { placed = subst (λ l. Placed l 0 (length (s .args .workspace .now) - s .args .m)) (sym (x .ensures .1 (positive (one .word)) (one .read-signed))) (loaded-placed (s .args .workspace .now) (one .word) (length (s .args .workspace .now) - s .args .m) fit); sized = (s .pre .forward .table, s .pre .forward .of); entries = s .pre .chain }
 
-enum-known-followed : tie.Need-enum-known-followed
-enum-known-followed c = search needs
-
-cast-t28 : tie.Need-cast-t28
-cast-t28 c = search needs
-
-enum-told : tie.Need-enum-told
-enum-told c = search needs
-
-enum-known-followed-2 : tie.Need-enum-known-followed-2
-enum-known-followed-2 c = search needs
-
 sub-all : tie.Need-sub-all
 sub-all c =
     let s = c .before .before .before .before .before .before .before .before .before .before .before .before .before .before .before .before .before .before in
@@ -114,9 +102,6 @@ returns-2 c =
           sym (y ∙ ((subst (FollowedAs (w .last .1 .1 .1 .1 .0) (λ i. followed T (length (x .last .1 .1 .1 .0)) 0 (heldAt (x .last .1 .1 .1 .0) 0 (length (s .args .workspace .now) - s .args .m)) es i)) (c .before .before .before .before .before .before .before .before .before .before .followed2 .given .1) (w .ensures .1 T o es e)) .1 v ∙ ap (λ i. answered (cond i joins ends-elsewhere)) (ap (λ i. equal i v) a ∙ (sym (c .before .spells .ensures v h) ∙ c .if2 .taken)))),
     )
 
-same-length-2 : tie.Need-same-length-2
-same-length-2 c = search needs
-
 returns-3 : tie.Need-returns-3
 returns-3 c =
     let s = c .before .before .before .before .before .before .before .before .before .before .before .before .before .before .before .before .before in
@@ -132,9 +117,6 @@ returns-3 c =
           sym (y ∙ (subst (FollowedAs (w .last .1 .1 .1 .1 .0) (λ i. followed T (length (x .last .1 .1 .1 .0)) 0 (heldAt (x .last .1 .1 .1 .0) 0 (length (s .args .workspace .now) - s .args .m)) es i)) (c .before .followed .given .1) (w .ensures .1 T o es e)) v),
     )
 
-same-length-3 : tie.Need-same-length-3
-same-length-3 c = search needs
-
 returns-4 : tie.Need-returns-4
 returns-4 c =
     let s = c .before .before .before .before .before .before .before .before .before .before .before .before .before .before .before .before in
@@ -149,9 +131,6 @@ returns-4 c =
           let y = passed T (length (s .args .workspace .now)) u es v (x .last .1 .1 .1 .0) (length (s .args .workspace .now) - s .args .m) (x .ensures .0) (ap (λ l. heldAt l 0 (length (s .args .workspace .now) - s .args .m)) z ∙ loaded-word (s .args .workspace .now) u (length (s .args .workspace .now) - s .args .m) fit) (omega (arith, n, c .before .before .before .before .before .before .before .before .before .before .if1 .left)) in
           sym (y ∙ (subst (FollowedAs (w .last .1 .1 .1 .1 .0) (λ i. followed T (length (x .last .1 .1 .1 .0)) 0 (heldAt (x .last .1 .1 .1 .0) 0 (length (s .args .workspace .now) - s .args .m)) es i)) (c .enum-told .given .1) (w .ensures .1 T o es e)) v),
     )
-
-same-length-4 : tie.Need-same-length-4
-same-length-4 c = search needs
 
 returns-5 : tie.Need-returns-5
 returns-5 c =
@@ -179,19 +158,19 @@ pass-spec =
     returns
     unpack-letters-requires
     follow-requires
-    enum-known-followed
-    cast-t28
-    enum-told
-    enum-known-followed-2
+    (λ c. search needs)
+    (λ c. search needs)
+    (λ c. search needs)
+    (λ c. search needs)
     sub-all
     add-all
     carry-requires
     spells-requires
     same-length
     returns-2
-    same-length-2
+    (λ c. search needs)
     returns-3
-    same-length-3
+    (λ c. search needs)
     returns-4
-    same-length-4
+    (λ c. search needs)
     returns-5)

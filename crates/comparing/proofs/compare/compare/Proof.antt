@@ -10,20 +10,8 @@ use borrow.Author.Needs.{needs}
 use Rattle.comparing.proofs.compare.compare.Statement.{statement}
 use Rattle.comparing.proofs.compare.compare.Tie as tie
 
-slice-aggregate-read-programs : tie.Need-slice-aggregate-read-programs
-slice-aggregate-read-programs c = search needs
-
 read-programs-requires : tie.Need-read-programs-requires
 read-programs-requires c κs = blank-zeros
-
-enum-known-read : tie.Need-enum-known-read
-enum-known-read c = search needs
-
-enum-known-read-2 : tie.Need-enum-known-read-2
-enum-known-read-2 c = search needs
-
-slice-aggregate-compare-programs : tie.Need-slice-aggregate-compare-programs
-slice-aggregate-compare-programs c = search needs
 
 compare-programs-requires : tie.Need-compare-programs-requires
 compare-programs-requires c κs =
@@ -40,9 +28,6 @@ returns c =
     let o = compare-refused (a .table .now) (a .first .now) (a .second .now) (a .allowance) (length (a .workspace .now)) (c .before .read .given .0 .0) e in
     record { stated = o .stated; workspace-is = o .workspace (a .workspace .now); meaning = compare-means (a .table .now) (a .first .now) (a .second .now) (a .allowance) (length (a .workspace .now)) _ (o .stated) }
 
-same-length : tie.Need-same-length
-same-length c = search needs
-
 returns-2 : tie.Need-returns-2
 returns-2 c =
     let a = c .before .before .before .before .before .before .before .before .before .before .before .before .before .before .before .args in
@@ -58,12 +43,12 @@ pub compare-spec : {M : Type 1} → statement M
 compare-spec =
     tie.close
     (tie.spec
-    slice-aggregate-read-programs
+    (λ c. search needs)
     read-programs-requires
-    enum-known-read
-    enum-known-read-2
-    slice-aggregate-compare-programs
+    (λ c. search needs)
+    (λ c. search needs)
+    (λ c. search needs)
     compare-programs-requires
     returns
-    same-length
+    (λ c. search needs)
     returns-2)

@@ -15,18 +15,6 @@ returns c =
       decided = λ T o u v eu ev. unequal-verdict T u v (s .args .budget) (length (s .args .workspace .now)) (λ e. c .if1 .taken (s .pre .1 .1 .one T o u eu ∙ (e ∙ sym (s .pre .1 .1 .two T o v ev))));
     }
 
-reverse-images-requires : tie.Need-reverse-images-requires
-reverse-images-requires c κs = search needs
-
-wipe-requires : tie.Need-wipe-requires
-wipe-requires c κs = search needs
-
-judge-requires : tie.Need-judge-requires
-judge-requires c κs = search needs
-
-same-length : tie.Need-same-length
-same-length c = search needs
-
 returns-2 : tie.Need-returns-2
 returns-2 c =
     let s = c .before .before .before .before .before .before .before .before .before .before .before .before .before .before in
@@ -45,8 +33,8 @@ compare-cleared-spec =
     tie.close
     (tie.spec
     returns
-    reverse-images-requires
-    wipe-requires
-    judge-requires
-    same-length
+    (λ c κs. search needs)
+    (λ c κs. search needs)
+    (λ c κs. search needs)
+    (λ c. search needs)
     returns-2)

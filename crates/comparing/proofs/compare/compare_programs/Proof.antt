@@ -5,16 +5,10 @@ use Rattle.model.specs.Checks.{cleared}
 use Rattle.model.specs.Services.{forwardVerdict}
 use Rattle.model.specs.Areas.{workspaceAfter}
 use Rattle.model.specs.Stated.{clearedAs}
-use Rattle.comparing.proofs.Comparing.{comparison-refused, comparison-decided, verdict-wipes}
+use Rattle.comparing.proofs.Comparing.{comparison-refused, comparison-decided, forward-late}
 use borrow.Author.Needs.{needs}
 use Rattle.comparing.proofs.compare.compare_programs.Statement.{statement}
 use Rattle.comparing.proofs.compare.compare_programs.Tie as tie
-
-clear-cells-requires : tie.Need-clear-cells-requires
-clear-cells-requires c κs = search needs
-
-enum-known-clear : tie.Need-enum-known-clear
-enum-known-clear c = search needs
 
 enum-told : tie.Need-enum-told
 enum-told c = search needs
@@ -25,9 +19,6 @@ compare-cleared-requires c κs =
     let wiped = c .before .before .before .before .before .clear-cells .ensures .1 ∙ ap (λ r. workspaceAfter (clearedAs r) (s .args .workspace .now)) (c .before .enum-told .given .1) in
     (s .pre .0, (wiped ∙ ap (λ k. replicate k 0) (sym (ap length wiped ∙ length-replicate (length (s .args .workspace .now)) 0)), s .pre .1))
 
-same-length : tie.Need-same-length
-same-length c = search needs
-
 returns : tie.Need-returns
 returns c =
     let s = c .before .before .before .before .before .before .before .before .before .before .before in
@@ -36,9 +27,6 @@ returns c =
       workspace = z .ensures .1 ∙ ap (λ x. workspaceAfter (clearedAs x) (s .args .workspace .now)) (c .before .clear .given .1);
       judged = λ T o u v eu ev. comparison-refused T u v (s .args .budget) (length (s .args .workspace .now)) (c .before .clear .given .0 .0) (subst (λ x. clearedAs x ≡ cleared T (s .args .budget) (length (s .args .workspace .now))) (c .before .clear .given .1) (z .ensures .0 T o));
     }
-
-same-length-2 : tie.Need-same-length-2
-same-length-2 c = search needs
 
 returns-2 : tie.Need-returns-2
 returns-2 c =
@@ -52,7 +40,7 @@ returns-2 c =
       workspace =
           x .ensures .workspace ∙ wiped
           ∙ sym (ap (λ o. workspaceAfter o (s .args .workspace .now)) (x .ensures .decided (f .table) (f .of) (f .pair .one .word) (f .pair .two .word) (f .pair .one .read) (f .pair .two .read))
-          ∙ verdict-wipes (f .table) (f .pair .one .word) (f .pair .two .word) (s .args .budget) (length (z .last .1 .1 .1 .0)) (s .args .workspace .now));
+          ∙ forward-late (f .table) (f .pair .one .word) (f .pair .two .word) (s .args .budget) (length (z .last .1 .1 .1 .0)) .zero (s .args .workspace .now));
       judged = λ T o u v eu ev.
           comparison-decided T u v (s .args .budget) (length (s .args .workspace .now))
           (subst (λ r. clearedAs r ≡ cleared T (s .args .budget) (length (s .args .workspace .now))) (c .before .before .before .before .enum-told .given .1) (z .ensures .0 T o))
@@ -63,11 +51,11 @@ pub compare-programs-spec : {M : Type 1} → statement M
 compare-programs-spec =
     tie.close
     (tie.spec
-    clear-cells-requires
-    enum-known-clear
+    (λ c κs. search needs)
+    (λ c. search needs)
     enum-told
     compare-cleared-requires
-    same-length
+    (λ c. search needs)
     returns
-    same-length-2
+    (λ c. search needs)
     returns-2)

@@ -7,9 +7,6 @@ use borrow.Author.Needs.{needs}
 use Rattle.comparing.proofs.compare.judge.Statement.{statement}
 use Rattle.comparing.proofs.compare.judge.Tie as tie
 
-enum-known-ending : tie.Need-enum-known-ending
-enum-known-ending c = search needs
-
 returns : tie.Need-returns
 returns c =
     let e = c .before .before .ending in
@@ -27,15 +24,6 @@ returns-2 c =
     let k = e .given .0 .1 .1 .0 in
     let r = e .given .0 .1 .1 .1 .0 in
     sym (ap judgement (e .given .1) ∙ judged-under n d k r (c .before .if1 .left) (c .if2 .taken))
-
-enum-known-ending-2 : tie.Need-enum-known-ending-2
-enum-known-ending-2 c = search needs
-
-enum-known-ending-3 : tie.Need-enum-known-ending-3
-enum-known-ending-3 c = search needs
-
-stop-refusal-requires : tie.Need-stop-refusal-requires
-stop-refusal-requires c κs = search needs
 
 returns-3 : tie.Need-returns-3
 returns-3 c =
@@ -56,12 +44,12 @@ pub judge-spec : {M : Type 1} → statement M
 judge-spec =
     tie.close
     (tie.spec
-    enum-known-ending
+    (λ c. search needs)
     returns
     returns-2
-    enum-known-ending-2
-    enum-known-ending-3
-    stop-refusal-requires
+    (λ c. search needs)
+    (λ c. search needs)
+    (λ c κs. search needs)
     returns-3
     returns-4
     returns-5)

@@ -14,21 +14,9 @@ use borrow.Author.Needs.{needs}
 use Rattle.remainders.proofs.remainder.remainder.Statement.{statement}
 use Rattle.remainders.proofs.remainder.remainder.Tie as tie
 
-slice-aggregate-read-programs : tie.Need-slice-aggregate-read-programs
-slice-aggregate-read-programs c = search needs
-
 read-programs-requires : tie.Need-read-programs-requires
 read-programs-requires c κs =
     blank-zeros
-
-enum-known-read : tie.Need-enum-known-read
-enum-known-read c = search needs
-
-enum-known-read-2 : tie.Need-enum-known-read-2
-enum-known-read-2 c = search needs
-
-slice-aggregate-remainder-programs : tie.Need-slice-aggregate-remainder-programs
-slice-aggregate-remainder-programs c = search needs
 
 remainder-programs-requires : tie.Need-remainder-programs-requires
 remainder-programs-requires c κs =
@@ -47,12 +35,6 @@ returns c =
     let told = refused-stated _ r (sym (o .stated)) counted in
     let written = refused-output _ r (sym (o .stated)) remainderBytes (a .answer .now) in
     record { stated = told; answer-is = written; workspace-is = o .workspace (a .workspace .now); meaning = remainder-says (a .table .now) (a .done .now) (a .pattern .now) (a .allowance) (length (a .workspace .now)) (length (a .answer .now)) _ (a .answer .now) _ told written }
-
-same-length : tie.Need-same-length
-same-length c = search needs
-
-same-length-2 : tie.Need-same-length-2
-same-length-2 c = search needs
 
 returns-2 : tie.Need-returns-2
 returns-2 c =
@@ -78,13 +60,13 @@ pub remainder-spec : {M : Type 1} → statement M
 remainder-spec =
     tie.close
     (tie.spec
-    slice-aggregate-read-programs
+    (λ c. search needs)
     read-programs-requires
-    enum-known-read
-    enum-known-read-2
-    slice-aggregate-remainder-programs
+    (λ c. search needs)
+    (λ c. search needs)
+    (λ c. search needs)
     remainder-programs-requires
     returns
-    same-length
-    same-length-2
+    (λ c. search needs)
+    (λ c. search needs)
     returns-2)

@@ -11,23 +11,14 @@ use Rattle.model.specs.Areas.{workspaceAfter}
 use Rattle.model.specs.Stated.{clearedAs}
 use Rattle.engine.proofs.Ended.{finishable}
 use Rattle.remainders.specs.Remainder.{States}
-use Rattle.remainders.proofs.Answers.{zero-after}
+use Rattle.remainders.proofs.Answers.{remainder-zero}
 use Rattle.remainders.proofs.Service.{no-clear, pattern-light, pattern-heavy}
 use borrow.Author.Needs.{needs}
 use Rattle.remainders.proofs.remainder.remainder_programs.Statement.{statement}
 use Rattle.remainders.proofs.remainder.remainder_programs.Tie as tie
 
-clear-cells-requires : tie.Need-clear-cells-requires
-clear-cells-requires c κs = search needs
-
-enum-known-clear : tie.Need-enum-known-clear
-enum-known-clear c = search needs
-
 enum-told : tie.Need-enum-told
 enum-told c = search needs
-
-same-length : tie.Need-same-length
-same-length c = search needs
 
 returns : tie.Need-returns
 returns c =
@@ -39,9 +30,6 @@ returns c =
           (omega (arith, c .if1 .taken, s .pre .1 .two T o v ev, s .pre .1 .one T o u eu));
     }
 
-reverse-images-requires : tie.Need-reverse-images-requires
-reverse-images-requires c κs = search needs
-
 answer-ending-requires : tie.Need-answer-ending-requires
 answer-ending-requires c κs =
     let s = (c .before .before .before .before .before .before .before .before .before .before .before .before .before .before .before .before .before .before) in
@@ -49,12 +37,6 @@ answer-ending-requires c κs =
     let p = s .pre .0 .pair in
     finishable (s .pre .0 .table) (negative (p .one .word) ++ positive (p .two .word)) (s .args .budget) (x .last .1 .1 .1 .1 .1 .1 .1 .0) (x .result)
     (x .ensures .1 (s .pre .0 .table) (s .pre .0 .of) (p .one .word) (p .two .word) (p .one .read) (p .two .read))
-
-wipe-requires : tie.Need-wipe-requires
-wipe-requires c κs = search needs
-
-same-length-2 : tie.Need-same-length-2
-same-length-2 c = search needs
 
 returns-2 : tie.Need-returns-2
 returns-2 c =
@@ -64,12 +46,6 @@ returns-2 c =
       workspace-after = z .ensures .1 ∙ ap (λ x. workspaceAfter (clearedAs x) (s .args .workspace .now)) (c .before .clear .given .1);
       states = λ T o u v eu ev. no-clear T u v (s .args .budget) (length (s .args .workspace .now)) (s .args .answer .now) (c .before .clear .given .0 .0) (subst (λ r. clearedAs r ≡ cleared T (s .args .budget) (length (s .args .workspace .now))) (c .before .clear .given .1) (z .ensures .0 T o));
     }
-
-same-length-3 : tie.Need-same-length-3
-same-length-3 c = search needs
-
-same-length-4 : tie.Need-same-length-4
-same-length-4 c = search needs
 
 returns-3 : tie.Need-returns-3
 returns-3 c =
@@ -87,7 +63,7 @@ returns-3 c =
       workspace-after =
           w .ensures
           ∙ (ap (λ i. replicate i 0) (x .ensures .0 ∙ kept)
-          ∙ sym (ap (λ o. workspaceAfter o (s .args .workspace .now)) (own .result) ∙ zero-after (length (s .args .answer .now)) (reversing (s .pre .0 .table) (s .args .budget) (length bytes) word) (s .args .workspace .now)));
+          ∙ sym (ap (λ o. workspaceAfter o (s .args .workspace .now)) (own .result) ∙ remainder-zero (length (s .args .answer .now)) (reversing (s .pre .0 .table) (s .args .budget) (length bytes) word) (s .args .workspace .now)));
       states = λ T o u v eu ev. pattern-heavy T u v (s .args .budget) (length (s .args .workspace .now)) (s .args .answer .now) (subst (λ r. clearedAs r ≡ cleared T (s .args .budget) (length (s .args .workspace .now))) (c .before .before .before .before .before .before .before .before .before .before .before .before .before .before .enum-told .given .1) (z .ensures .0 T o))
           (omega (arith, c .before .before .before .before .before .before .before .before .before .before .before .before .before .if1 .left, s .pre .1 .two T o v ev, s .pre .1 .one T o u eu))
           (subst (λ i. States (remainderOf (length (s .args .answer .now)) (reversing T (s .args .budget) i (negative u ++ positive v))) (s .args .answer .now) (a .last .1 .1 .0) (a .result)) (x .ensures .0 ∙ kept)
@@ -98,16 +74,16 @@ pub remainder-programs-spec : {M : Type 1} → statement M
 remainder-programs-spec =
     tie.close
     (tie.spec
-    clear-cells-requires
-    enum-known-clear
+    (λ c κs. search needs)
+    (λ c. search needs)
     enum-told
-    same-length
+    (λ c. search needs)
     returns
-    reverse-images-requires
+    (λ c κs. search needs)
     answer-ending-requires
-    wipe-requires
-    same-length-2
+    (λ c κs. search needs)
+    (λ c. search needs)
     returns-2
-    same-length-3
-    same-length-4
+    (λ c. search needs)
+    (λ c. search needs)
     returns-3)

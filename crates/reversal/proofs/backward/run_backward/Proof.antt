@@ -25,21 +25,6 @@ returns c =
           (let f : s .pre .accepted .program .word ≡ w = same-answer (s .pre .accepted .program .word) w (sym (s .pre .accepted .program .read) ∙ e) in omega (arith, c .if1 .taken, s .pre .accepted .program .count-is, ap length f, length-reverse w)),
     )
 
-unpack-letters-requires : tie.Need-unpack-letters-requires
-unpack-letters-requires c κs = search needs
-
-sub-turn-around : tie.Need-sub-turn-around
-sub-turn-around c = search needs
-
-part-turn-around-start : tie.Need-part-turn-around-start
-part-turn-around-start c = search needs
-
-part-turn-around-end : tie.Need-part-turn-around-end
-part-turn-around-end c = search needs
-
-turn-around-requires : tie.Need-turn-around-requires
-turn-around-requires c κs = search needs
-
 reversing-requires : tie.Need-reversing-requires
 reversing-requires c κs =
     let s = c .before .before .before .before .before .before .before .before .before .before .before .before .before in
@@ -54,9 +39,6 @@ reversing-requires c κs =
     let stands = backward-word (s .args .workspace .now) (u .last .1 .1 .1 .0) (t .last .0) w right (s .args .count) fit (q .program .count-is) (u .ensures .0) (u .ensures .1 w (q .program .read)) (t .ensures .1) in
     subst (λ l. Searched l 0 right × ((T : Presentation) × Serves (s .args .cells .now) (wordAt l 0 right) T)) (sym stands)
     (word-searched (s .args .cells .now) (s .args .size) (s .pre .table) (s .pre .of) (reverse w) p (s .args .workspace .now) right fits, (s .pre .table, word-served (s .args .cells .now) (s .args .size) (s .pre .table) (s .pre .of) (reverse w) p (s .args .workspace .now) right fits))
-
-same-length : tie.Need-same-length
-same-length c = search needs
 
 returns-2 : tie.Need-returns-2
 returns-2 c =
@@ -84,11 +66,11 @@ run-backward-spec =
     tie.close
     (tie.spec
     returns
-    unpack-letters-requires
-    sub-turn-around
-    part-turn-around-start
-    part-turn-around-end
-    turn-around-requires
+    (λ c κs. search needs)
+    (λ c. search needs)
+    (λ c. search needs)
+    (λ c. search needs)
+    (λ c κs. search needs)
     reversing-requires
-    same-length
+    (λ c. search needs)
     returns-2)

@@ -11,24 +11,6 @@ use borrow.Author.Needs.{needs}
 use Rattle.reversal.proofs.backward.turn_words.Statement.{statement}
 use Rattle.reversal.proofs.backward.turn_words.Tie as tie
 
-turn-around-requires : tie.Need-turn-around-requires
-turn-around-requires c κs = search needs
-
-sub-turn-around : tie.Need-sub-turn-around
-sub-turn-around c = search needs
-
-part-turn-around-start : tie.Need-part-turn-around-start
-part-turn-around-start c = search needs
-
-part-turn-around-end : tie.Need-part-turn-around-end
-part-turn-around-end c = search needs
-
-turn-around-requires-2 : tie.Need-turn-around-requires-2
-turn-around-requires-2 c κs = search needs
-
-same-length : tie.Need-same-length
-same-length c = search needs
-
 returns : tie.Need-returns
 returns c =
     let s = c .before .before .before .before .before .before .before .before .before in
@@ -45,10 +27,10 @@ pub turn-words-spec : {M : Type 1} → statement M
 turn-words-spec =
     tie.close
     (tie.spec
-    turn-around-requires
-    sub-turn-around
-    part-turn-around-start
-    part-turn-around-end
-    turn-around-requires-2
-    same-length
+    (λ c κs. search needs)
+    (λ c. search needs)
+    (λ c. search needs)
+    (λ c. search needs)
+    (λ c κs. search needs)
+    (λ c. search needs)
     returns)

@@ -16,15 +16,6 @@ use borrow.Author.Needs.{needs}
 use Rattle.reversal.proofs.endings.commit_ending.Statement.{statement}
 use Rattle.reversal.proofs.endings.commit_ending.Tie as tie
 
-enum-known-ending : tie.Need-enum-known-ending
-enum-known-ending c = search needs
-
-answer-ending-requires : tie.Need-answer-ending-requires
-answer-ending-requires c κs = search needs
-
-same-length : tie.Need-same-length
-same-length c = search needs
-
 -- the other variants than `Finished`
 not-finished : (e : Ending) → OneOf (1 ∷ 2 ∷ []) (tagOf the-type e) → NotFinished e
 not-finished (Finished n d k r) h = ⊎-elim (λ e. omega arith) (λ e. omega arith) h
@@ -38,9 +29,6 @@ returns c =
     let no = not-finished (s .args .ending) (c .before .before .before .before .match .keys2) in
     λ T w b p. unfinished-commits (handed (s .args .numbers)) T w b (s .args .workspace .now) (s .args .answer .now) (s .args .ending) no p (a .ensures T w b p)
 
-agrees-requires : tie.Need-agrees-requires
-agrees-requires c κs = search needs
-
 returns-2 : tie.Need-returns-2
 returns-2 c =
     let s = c .before .before .before .before .before .before .before in
@@ -52,9 +40,6 @@ answer-ending-requires-2 : tie.Need-answer-ending-requires-2
 answer-ending-requires-2 c κs =
     let s = c .before .before .before .before .before .before .before .before in
     subst (Finishable (s .args .workspace .now)) (c .before .before .before .before .ending .given .1) (s .pre)
-
-same-length-2 : tie.Need-same-length-2
-same-length-2 c = search needs
 
 returns-3 : tie.Need-returns-3
 returns-3 c =
@@ -68,12 +53,12 @@ pub commit-ending-spec : {M : Type 1} → statement M
 commit-ending-spec =
     tie.close
     (tie.spec
-    enum-known-ending
-    answer-ending-requires
-    same-length
+    (λ c. search needs)
+    (λ c κs. search needs)
+    (λ c. search needs)
     returns
-    agrees-requires
+    (λ c κs. search needs)
     returns-2
     answer-ending-requires-2
-    same-length-2
+    (λ c. search needs)
     returns-3)

@@ -8,7 +8,7 @@ use Rattle.loading.specs.Loading.{TableProgramDone}
 use Rattle.loading.specs.declared.loading.TableProgram.{TableProgram}
 use Rattle.reversal.specs.Enquire.{EnquireMeaning}
 use Rattle.reversal.proofs.Foretelling.{foretells}
-use Rattle.reversal.proofs.EnquireService.{zero-after, enquire-refused, enquire-runs}
+use Rattle.reversal.proofs.EnquireService.{sizes-late, enquire-refused, enquire-runs}
 use Rattle.cells.proofs.Rules.{blank-zeros}
 use borrow.Author.Needs.{needs}
 use Rattle.reversal.proofs.enquire.enquire.Statement.{statement}
@@ -57,7 +57,7 @@ returns-2 c =
     let width = length (a .workspace .now) in
     let o = enquire-runs (a .table .now) (a .program .now) (a .allowance) width (p .table) (t .table-read) (q .word) (t .program-read) in
     let stated = z .answers (p .table) (p .of) (q .word) (q .read) ∙ sym o in
-    let zero = zero-after (reversing (p .table) (a .allowance) width (q .word)) (a .workspace .now) in
+    let zero = sizes-late (reversing (p .table) (a .allowance) width (q .word)) .zero (a .workspace .now) in
     let means = foretells (a .table .now) (a .program .now) (a .allowance) width in
     record {
       stated = stated;

@@ -10,18 +10,6 @@ use borrow.Author.Needs.{needs}
 use Rattle.reversal.proofs.enquire.enquire_program.Statement.{statement}
 use Rattle.reversal.proofs.enquire.enquire_program.Tie as tie
 
-reverse-image-requires : tie.Need-reverse-image-requires
-reverse-image-requires c κs = search needs
-
-wipe-requires : tie.Need-wipe-requires
-wipe-requires c κs = search needs
-
-sizes-of-requires : tie.Need-sizes-of-requires
-sizes-of-requires c κs = search needs
-
-same-length : tie.Need-same-length
-same-length c = search needs
-
 returns : tie.Need-returns
 returns c =
     let s = c .before .before .before .before .before .before .before .before .before .before .before .before in
@@ -35,4 +23,4 @@ returns c =
 
 pub enquire-program-spec : {M : Type 1} → statement M
 enquire-program-spec =
-    tie.close (tie.spec reverse-image-requires wipe-requires sizes-of-requires same-length returns)
+    tie.close (tie.spec (λ c κs. search needs) (λ c κs. search needs) (λ c κs. search needs) (λ c. search needs) returns)

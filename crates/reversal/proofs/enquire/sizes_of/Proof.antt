@@ -6,18 +6,6 @@ use borrow.Author.Needs.{needs}
 use Rattle.reversal.proofs.enquire.sizes_of.Statement.{statement}
 use Rattle.reversal.proofs.enquire.sizes_of.Tie as tie
 
-enum-known-ending : tie.Need-enum-known-ending
-enum-known-ending c = search needs
-
-enum-known-ending-2 : tie.Need-enum-known-ending-2
-enum-known-ending-2 c = search needs
-
-enum-known-ending-3 : tie.Need-enum-known-ending-3
-enum-known-ending-3 c = search needs
-
-stop-refusal-requires : tie.Need-stop-refusal-requires
-stop-refusal-requires c κs = search needs
-
 returns : tie.Need-returns
 returns c = sym (ap sizesTold (c .before .ending .given .1))
 
@@ -31,10 +19,10 @@ pub sizes-of-spec : {M : Type 1} → statement M
 sizes-of-spec =
     tie.close
     (tie.spec
-    enum-known-ending
-    enum-known-ending-2
-    enum-known-ending-3
-    stop-refusal-requires
+    (λ c. search needs)
+    (λ c. search needs)
+    (λ c. search needs)
+    (λ c κs. search needs)
     returns
     returns-2
     returns-3)

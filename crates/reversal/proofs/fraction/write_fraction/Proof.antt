@@ -11,27 +11,6 @@ use borrow.Author.Needs.{needs}
 use Rattle.reversal.proofs.fraction.write_fraction.Statement.{statement}
 use Rattle.reversal.proofs.fraction.write_fraction.Tie as tie
 
-add-copy-bytes : tie.Need-add-copy-bytes
-add-copy-bytes c = search needs
-
-copy-bytes-requires : tie.Need-copy-bytes-requires
-copy-bytes-requires c κs = search needs
-
-sub-invert : tie.Need-sub-invert
-sub-invert c = search needs
-
-part-invert-start : tie.Need-part-invert-start
-part-invert-start c = search needs
-
-part-invert-end : tie.Need-part-invert-end
-part-invert-end c = search needs
-
-invert-requires : tie.Need-invert-requires
-invert-requires c κs = search needs
-
-same-length : tie.Need-same-length
-same-length c = search needs
-
 returns : tie.Need-returns
 returns c =
     let s = c .before .before .before .before .before .before .before .before .before .before in
@@ -49,11 +28,11 @@ pub write-fraction-spec : {M : Type 1} → statement M
 write-fraction-spec =
     tie.close
     (tie.spec
-    add-copy-bytes
-    copy-bytes-requires
-    sub-invert
-    part-invert-start
-    part-invert-end
-    invert-requires
-    same-length
+    (λ c. search needs)
+    (λ c κs. search needs)
+    (λ c. search needs)
+    (λ c. search needs)
+    (λ c. search needs)
+    (λ c κs. search needs)
+    (λ c. search needs)
     returns)

@@ -73,7 +73,7 @@ returns-2 c =
       workspace =
           c .before .before .wipe .ensures ∙ ap (λ n. replicate n 0) (k .settle .ensures .0 ∙ long (k .before .before .before .before))
           ∙ sym (ap (λ o. workspaceAfter o area) (verdict k (p .table) (p .of) (one .word) (two .word) (one .read) (two .read))
-          ∙ signed-late (p .table) (s .args .budget) width (reversing (p .table) (s .args .budget) width (inverse (one .word) ++ two .word)) area);
+          ∙ signed-late (p .table) (s .args .budget) width (reversing (p .table) (s .args .budget) width (inverse (one .word) ++ two .word)) .zero area);
       states = λ T o w v ew ev.
           verdict k T o w v ew ev
           ∙ sym (signed-runs T w v (s .args .budget) width (subst (λ x. clearedAs x ≡ prepared T (s .args .budget) width) (c .before .before .before .before .before .before .before .before .before .before .before .before .enum-told .given .1) (z .ensures .0 T o)));
