@@ -1,5 +1,6 @@
 pub mod Reading
 pub mod BitReader
+pub mod Numbers
 pub mod Several
 pub mod Signed
 pub mod Validating
@@ -12,6 +13,7 @@ pub mod Letters
 pub mod Words
 pub mod Pairs
 pub mod Rows
+pub mod Agreeing
 pub mod Entries
 pub mod Forward
 pub mod Weights

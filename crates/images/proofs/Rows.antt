@@ -1,10 +1,10 @@
 -- Reading the rows of a table into its cells: the pairs and rows read so far, what is left to read, and what the cells hold. The laws are for
--- any reader of a pair; then come those of a table image.
+-- any reader of a pair; then come those of a table in a form.
 use mathlib.Core.Path.{_≡_, refl, sym, ap, subst, _∙_}
 use mathlib.Core.Logic.{_⊎_, inl, inr, ⊎-elim}
 use mathlib.Core.Bool.{true, false, _&&_, cond}
 use mathlib.Core.List.{List, [], _∷_, _++_}
-use Prim.Native.Nat.{ℕ, suc, _+_, _-_, _*_, _≤_, _<_}
+use Prim.Native.Nat.{ℕ, suc, _+_, _-_, _≤_, _<_}
 use native.Mathlib.Omega.{arith}
 use native.Mathlib.Decide.{ℕ-discrete}
 use borrow.Author.Tests.{ne-eqb, lt-ltb, le-ltb, le-leb}
@@ -13,10 +13,10 @@ use lib.ListN.{length, getD, length-append, List·getD-append}
 use lib.Seq.{getD-at}
 use Rattle.model.specs.Presentation.{Presentation, Complement, undefined, complement, swapped, listed, complete}
 use Rattle.model.specs.Outcome.{unplaced, Outcome, answered, refused, _>>=_}
-use Rattle.model.specs.Bits.{Read, field, finish, filling}
-use Rattle.model.specs.Images.{weightWidth, pairField, several, rowsOf, readTable}
+use Rattle.model.specs.Bits.{Read, bitsOf, finish, filling}
+use Rattle.model.specs.Images.{several, rowsOf}
 use Rattle.model.proofs.Numbers.{below-or}
-use Rattle.images.specs.Fields.{FieldAt, from}
+use Rattle.images.specs.Forms.{formOf, numberIn, weightIn, pairIn, rowsIn, partsIn, tableIn}
 use Rattle.cells.specs.Layout.{Letters, cellAt, weightAt}
 use Rattle.model.specs.Range.{InRange}
 use Rattle.model.proofs.Complete.{complete-same}
@@ -24,7 +24,9 @@ use Rattle.cells.specs.Stands.{HoldsFirst, HoldsWeights, Stands, Blank}
 use Rattle.cells.specs.Kept.{SameCell, HoldsPair}
 use Rattle.cells.proofs.Kept.{holds-kept, same-cell-after, swap-letters}
 use Rattle.cells.proofs.Rules.{of-some, of-few}
-use Rattle.images.specs.Tables.{HoldsRow, PairFrom, RowFrom, RowsHeld, rowsThen, LoadedOr, TableOf, TableDone, SizeDone}
+use Rattle.images.specs.Tables.{HoldsRow, PairFrom, RowFrom, RowsHeld, Loaded, LoadedAs, TableDone, SizeDone}
+use Rattle.images.specs.declared.forms.Form.{Form}
+use Rattle.images.specs.declared.forms.Kind.{Kind}
 use Rattle.images.specs.declared.tables.TableRead.{TableRead}
 use Rattle.images.specs.declared.tables.TableRead.the-variants.{Table, Refused}
 use Rattle.images.proofs.Several.{after, after-none, several-step, several-refused, several-done, several-length, rows-step, rows-refused, rows-done}
@@ -44,58 +46,56 @@ pub holds-pair-kept : (size : ℕ) (before after : List ℕ) (a b : ℕ) (c : Co
 holds-pair-kept size before after a b c there back h =
     record { there = holds-kept size before after a b c there (h .there); back = holds-kept size before after b a (swapped c) back (h .back) }
 
-pub record RowFilled (reader : List ℕ → Outcome (Read Complement)) (source : ℕ → List ℕ) (limit at size : ℕ) (before : List ℕ) (a : ℕ) (cells : List ℕ) (next b : ℕ) : Type 0 where
+pub record RowFilled (reader : List ℕ → Outcome (Read Complement)) (begin : List ℕ) (size : ℕ) (before : List ℕ) (a : ℕ) (cells rest : List ℕ)
+    (b : ℕ) : Type 0 where
   pub above : a < b
   pub some-left : b ≤ size + 1
-  pub inside : next ≤ limit
-  pub near : next + 129 * (a + 1) ≤ at + 129 * b
   pub same-length : length cells ≡ length before
   pub done : List Complement
   pub done-length : a + 1 + length done ≡ b
-  pub resumed : several reader (size - a) (source at) ≡ after done (several reader (size + 1 - b) (source next))
+  pub resumed : several reader (size - a) begin ≡ after done (several reader (size + 1 - b) rest)
   pub holds : HoldsRow size cells a done
   pub kept : (p q : ℕ) → Letters p q → (p < a) ⊎ (q < a) → SameCell before cells p q
   pub diagonal : (p : ℕ) → InRange 16 p → SameCell before cells p p
 
-module _ (reader : List ℕ → Outcome (Read Complement)) (source : ℕ → List ℕ) (limit at size : ℕ) (before : List ℕ) (a : ℕ) (inside : at ≤ limit) (positive : 1 ≤ a) (small : a ≤ size) (few : size ≤ 16) where
-  pub row-none : RowFilled reader source limit at size before a before at (a + 1)
+module _ (reader : List ℕ → Outcome (Read Complement)) (begin : List ℕ) (size : ℕ) (before : List ℕ) (a : ℕ) (positive : 1 ≤ a) (small : a ≤ size)
+    (few : size ≤ 16) where
+  pub row-none : RowFilled reader begin size before a before begin (a + 1)
   row-none =
       record {
         above = omega arith;
         some-left = omega arith;
-        inside = inside;
-        near = omega arith;
         same-length = refl;
         done = [];
         done-length = omega arith;
-        resumed = sym (after-none (several reader (size + 1 - (a + 1)) (source at)) ∙ ap (λ k. several reader k (source at)) {x = size + 1 - (a + 1)} {y = size - a} (omega arith));
+        resumed = sym (after-none (several reader (size + 1 - (a + 1)) begin)
+            ∙ ap (λ k. several reader k begin) {x = size + 1 - (a + 1)} {y = size - a} (omega arith));
         holds = λ j h. absurd (omega arith);
         kept = λ p q l o k h. refl;
         diagonal = λ p l k h. refl;
       }
 
-  module _ (cells : List ℕ) (next b : ℕ) (f : RowFilled reader source limit at size before a cells next b) where
+  module _ (cells rest : List ℕ) (b : ℕ) (f : RowFilled reader begin size before a cells rest b) where
     left : b ≤ size → size + 1 - b ≡ suc (size + 1 - (b + 1))
     left h = omega arith
 
     pub pair-letters : b ≤ size → Letters a b
     pair-letters h = (record { low = positive; high = omega arith }, record { low = omega (arith, f .above); high = omega arith })
 
-    pub row-more : b ≤ size → (cells' : List ℕ) (next' : ℕ) → length cells' ≡ length cells → PairFrom reader source limit next size cells a b cells' next' → RowFilled reader source limit at size before a cells' next' (b + 1)
-    row-more h cells' next' same p =
+    pub row-more : b ≤ size → (cells' rest' : List ℕ) → length cells' ≡ length cells → PairFrom reader size cells a b cells' rest rest'
+        → RowFilled reader begin size before a cells' rest' (b + 1)
+    row-more h cells' rest' same p =
         let n : a + 1 + length (f .done) ≡ b = f .done-length in
         record {
           above = omega (arith, f .above);
           some-left = omega arith;
-          inside = p .position .inside;
-          near = omega (arith, f .near, p .position .near);
           same-length = same ∙ f .same-length;
           done = f .done ++ (p .pair ∷ []);
           done-length = omega (arith, length-append (f .done) (p .pair ∷ []));
           resumed =
               f .resumed
-              ∙ (ap (λ k. after (f .done) (several reader k (source next))) (left h)
-              ∙ several-step reader (f .done) (size + 1 - (b + 1)) (source next) (record { value = p .pair; rest = source next' }) (p .read));
+              ∙ (ap (λ k. after (f .done) (several reader k rest)) (left h)
+              ∙ several-step reader (f .done) (size + 1 - (b + 1)) rest (record { value = p .pair; rest = rest' }) (p .read));
           holds =
               one-more (λ j c. HoldsPair size cells' a (a + 1 + j) c) (f .done) (p .pair) undefined
               (λ j l.
@@ -115,21 +115,20 @@ module _ (reader : List ℕ → Outcome (Read Complement)) (source : ℕ → Lis
               (p .kept u u (l, l) (λ e. let x = e .0 in let y = e .1 in omega (arith, f .above)) (λ e. let x = e .0 in let y = e .1 in omega (arith, f .above)));
         }
 
-    pub pair-refused : (n : ℕ) → b ≤ size → reader (source next) ≡ refused n unplaced → several reader (size - a) (source at) ≡ refused n unplaced
+    pub pair-refused : (n : ℕ) → b ≤ size → reader rest ≡ refused n unplaced → several reader (size - a) begin ≡ refused n unplaced
     pair-refused n h e =
         f .resumed
-        ∙ (ap (λ k. after (f .done) (several reader k (source next))) (left h)
-        ∙ several-refused reader (f .done) (size + 1 - (b + 1)) (source next) n unplaced e)
+        ∙ (ap (λ k. after (f .done) (several reader k rest)) (left h)
+        ∙ several-refused reader (f .done) (size + 1 - (b + 1)) rest n unplaced e)
 
-    pub row-answered : size < b → RowFrom reader source limit at size before a cells next
+    pub row-answered : size < b → RowFrom reader size before a cells begin rest
     row-answered h =
         record {
           row = f .done;
           read =
               f .resumed
-              ∙ (ap (λ k. after (f .done) (several reader k (source next))) {x = size + 1 - b} {y = 0} (omega arith)
-              ∙ several-done reader (f .done) (source next));
-          position = record { inside = f .inside; near = omega (arith, f .near, f .some-left) };
+              ∙ (ap (λ k. after (f .done) (several reader k rest)) {x = size + 1 - b} {y = 0} (omega arith)
+              ∙ several-done reader (f .done) rest);
           holds = f .holds;
           kept = f .kept;
           diagonal = f .diagonal;
@@ -147,16 +146,14 @@ weights-kept size few before after excess same h =
       light = h .light;
     }
 
-pub record RowsFilled (reader : List ℕ → Outcome (Read Complement)) (source : ℕ → List ℕ) (limit begin size : ℕ) (start cells : List ℕ) (at a : ℕ) : Type 0 where
+pub record RowsFilled (reader : List ℕ → Outcome (Read Complement)) (begin : List ℕ) (size : ℕ) (start cells rest : List ℕ) (a : ℕ) : Type 0 where
   pub positive : 1 ≤ a
   pub some-left : a ≤ size + 1
-  pub inside : at ≤ limit
-  pub near : at + 2064 ≤ begin + 2064 * a
   pub blank : Blank cells
   pub weighed : (excess : List ℕ) → HoldsWeights size start excess → HoldsWeights size cells excess
   pub done : List (List Complement)
   pub done-length : 1 + length done ≡ a
-  pub resumed : rowsOf reader size (source begin) ≡ after done (rowsOf reader (size + 1 - a) (source at))
+  pub resumed : rowsOf reader size begin ≡ after done (rowsOf reader (size + 1 - a) rest)
   pub widths : (i : ℕ) → i < length done → length (getD done i []) ≡ size - (1 + i)
   pub holds : (i : ℕ) → i < length done → HoldsRow size cells (1 + i) (getD done i [])
 
@@ -195,36 +192,33 @@ module _ (cells : List ℕ) (size : ℕ) (rows : List (List Complement)) (few : 
       differ : b ≤ a → b < a
       differ h = ⊎-elim (λ (x : b < a). x) (λ (x : a ≤ b). let e : a ≡ b = omega arith in absurd (d e)) (below-or b a)
 
-module _ (reader : List ℕ → Outcome (Read Complement)) (source : ℕ → List ℕ) (limit begin size : ℕ) (some : 1 ≤ size) (few : size ≤ 16) where
-  pub rows-none : (cells : List ℕ) → begin ≤ limit → Blank cells → RowsFilled reader source limit begin size cells cells begin 1
-  rows-none cells inside blank =
+module _ (reader : List ℕ → Outcome (Read Complement)) (begin : List ℕ) (size : ℕ) (some : 1 ≤ size) (few : size ≤ 16) where
+  pub rows-none : (cells : List ℕ) → Blank cells → RowsFilled reader begin size cells cells begin 1
+  rows-none cells blank =
       record {
         positive = omega arith;
         some-left = omega arith;
-        inside = inside;
-        near = omega arith;
         blank = blank;
         weighed = λ excess h. h;
         done = [];
         done-length = refl;
-        resumed = sym (after-none (rowsOf reader (size + 1 - 1) (source begin)) ∙ ap (λ k. rowsOf reader k (source begin)) {x = size + 1 - 1} {y = size} (omega arith));
+        resumed = sym (after-none (rowsOf reader (size + 1 - 1) begin) ∙ ap (λ k. rowsOf reader k begin) {x = size + 1 - 1} {y = size} (omega arith));
         widths = λ i h. absurd (omega arith);
         holds = λ i h. absurd (omega arith);
       }
 
-  module _ (start cells : List ℕ) (at a : ℕ) (f : RowsFilled reader source limit begin size start cells at a) where
+  module _ (start cells rest : List ℕ) (a : ℕ) (f : RowsFilled reader begin size start cells rest a) where
     rows-left : a ≤ size → size + 1 - a ≡ suc (size - a)
     rows-left h = omega arith
 
-    pub rows-more : a ≤ size → (cells' : List ℕ) (next : ℕ) → length cells' ≡ length cells → RowFrom reader source limit at size cells a cells' next → RowsFilled reader source limit begin size start cells' next (a + 1)
-    rows-more h cells' next same r =
+    pub rows-more : a ≤ size → (cells' rest' : List ℕ) → length cells' ≡ length cells → RowFrom reader size cells a cells' rest rest'
+        → RowsFilled reader begin size start cells' rest' (a + 1)
+    rows-more h cells' rest' same r =
         let n : 1 + length (f .done) ≡ a = f .done-length in
-        let wide : length (r .row) ≡ size - a = several-length reader (size - a) (source at) (record { value = r .row; rest = source next }) (r .read) in
+        let wide : length (r .row) ≡ size - a = several-length reader (size - a) rest (record { value = r .row; rest = rest' }) (r .read) in
         record {
           positive = omega arith;
           some-left = omega arith;
-          inside = r .position .inside;
-          near = omega (arith, f .near, r .position .near);
           blank =
               record {
                 full = same ∙ f .blank .full;
@@ -237,9 +231,9 @@ module _ (reader : List ℕ → Outcome (Read Complement)) (source : ℕ → Lis
           done-length = omega (arith, length-append (f .done) (r .row ∷ []));
           resumed =
               f .resumed
-              ∙ (ap (λ k. after (f .done) (rowsOf reader k (source at))) (rows-left h)
-              ∙ (rows-step reader (f .done) (size - a) (source at) (record { value = r .row; rest = source next }) (r .read)
-              ∙ ap (λ k. after (f .done ++ (r .row ∷ [])) (rowsOf reader k (source next))) {x = size - a} {y = size + 1 - (a + 1)} (omega arith)));
+              ∙ (ap (λ k. after (f .done) (rowsOf reader k rest)) (rows-left h)
+              ∙ (rows-step reader (f .done) (size - a) rest (record { value = r .row; rest = rest' }) (r .read)
+              ∙ ap (λ k. after (f .done ++ (r .row ∷ [])) (rowsOf reader k rest')) {x = size - a} {y = size + 1 - (a + 1)} (omega arith)));
           widths = one-more (λ i row. length row ≡ size - (1 + i)) (f .done) (r .row) [] (f .widths) (wide ∙ omega arith);
           holds =
               one-more (λ i row. HoldsRow size cells' (1 + i) row) (f .done) (r .row) []
@@ -253,17 +247,17 @@ module _ (reader : List ℕ → Outcome (Read Complement)) (source : ℕ → Lis
               (subst (λ a. HoldsRow size cells' a (r .row)) (sym n) (r .holds));
         }
 
-    pub rows-row-refused : (n : ℕ) → a ≤ size → several reader (size - a) (source at) ≡ refused n unplaced → rowsOf reader size (source begin) ≡ refused n unplaced
+    pub rows-row-refused : (n : ℕ) → a ≤ size → several reader (size - a) rest ≡ refused n unplaced → rowsOf reader size begin ≡ refused n unplaced
     rows-row-refused n h e =
         f .resumed
-        ∙ (ap (λ k. after (f .done) (rowsOf reader k (source at))) (rows-left h)
-        ∙ rows-refused reader (f .done) (size - a) (source at) n unplaced e)
+        ∙ (ap (λ k. after (f .done) (rowsOf reader k rest)) (rows-left h)
+        ∙ rows-refused reader (f .done) (size - a) rest n unplaced e)
 
-    pub rows-ended : size < a → rowsOf reader size (source begin) ≡ answered (record { value = f .done; rest = source at })
+    pub rows-ended : size < a → rowsOf reader size begin ≡ answered (record { value = f .done; rest = rest })
     rows-ended h =
         f .resumed
-        ∙ (ap (λ k. after (f .done) (rowsOf reader k (source at))) {x = size + 1 - a} {y = 0} (omega arith)
-        ∙ rows-done reader (f .done) (source at))
+        ∙ (ap (λ k. after (f .done) (rowsOf reader k rest)) {x = size + 1 - a} {y = 0} (omega arith)
+        ∙ rows-done reader (f .done) rest)
 
     pub rows-listed : size < a → RowsHeld size cells (f .done)
     rows-listed h = record { many = omega (arith, f .done-length, f .some-left); widths = f .widths; holds = f .holds }
@@ -293,72 +287,72 @@ module _ (reader : List ℕ → Outcome (Read Complement)) (source : ℕ → Lis
         by-letters a b ra rb (no e) =
             complete-holds cells size (f .done) few (f .holds) (omega (arith, f .done-length, f .some-left)) (f .widths) excess a b (ra .low) (ra .high) (rb .low) (rb .high) e
 
--- FROM A TABLE IMAGE
+-- WITH THE END, in a form
 
-module _ (image : List ℕ) (begin size : ℕ) (some : 1 ≤ size) (few : size ≤ 16) where
-  pub image-rows-none : (cells : List ℕ) → begin ≤ 8 * length image → Blank cells → RowsFilled (pairField size) (from image) (8 * length image) begin size cells cells begin 1
-  image-rows-none cells inside blank = rows-none (pairField size) (from image) (8 * length image) begin size some few cells inside blank
+module _ (f : Form) (begin : List ℕ) (size : ℕ) (some : 1 ≤ size) (few : size ≤ 16) (start cells rest : List ℕ) (a : ℕ)
+    (filled : RowsFilled (pairIn f size) begin size start cells rest a) (excess : List ℕ) where
+  unfoldable ending : Outcome (Read (List (List Complement))) → Outcome Presentation
+  ending o = o >>= λ rs. finish 3 (record { value = record { size = size; excess = excess; rows = rs .value }; rest = rs .rest })
 
-  module _ (start cells : List ℕ) (at a : ℕ) (f : RowsFilled (pairField size) (from image) (8 * length image) begin size start cells at a) where
-    pub image-rows-more : a ≤ size → (cells' : List ℕ) (next : ℕ) → length cells' ≡ length cells → RowFrom (pairField size) (from image) (8 * length image) at size cells a cells' next → RowsFilled (pairField size) (from image) (8 * length image) begin size start cells' next (a + 1)
-    image-rows-more h cells' next same r = rows-more (pairField size) (from image) (8 * length image) begin size some few start cells at a f h cells' next same r
+  pub row-refused : (n : ℕ) → a ≤ size → several (pairIn f size) (size - a) rest ≡ refused n unplaced → rowsIn f size excess begin ≡ refused n unplaced
+  unfolding rowsIn ending
+  row-refused n h e = ap ending (rows-row-refused (pairIn f size) begin size some few start cells rest a filled n h e)
 
-    module _ (excess : List ℕ) where
-      pub row-refused : (n : ℕ) → a ≤ size → several (pairField size) (size - a) (from image at) ≡ refused n unplaced → rowsThen size excess (from image begin) ≡ refused n unplaced
-      unfolding rowsThen
-      row-refused n h e = ap (λ o. o >>= (λ rs. finish 3 (record { value = record { size = size; excess = excess; rows = rs .value }; rest = rs .rest }))) (rows-row-refused (pairField size) (from image) (8 * length image) begin size some few start cells at a f n h e)
+  ended : size < a → rowsIn f size excess begin ≡ finish 3 (record { value = record { size = size; excess = excess; rows = filled .done }; rest = rest })
+  unfolding rowsIn ending
+  ended h = ap ending (rows-ended (pairIn f size) begin size some few start cells rest a filled h)
 
-      ended : size < a → rowsThen size excess (from image begin) ≡ finish 3 (record { value = record { size = size; excess = excess; rows = f .done }; rest = from image at })
-      unfolding rowsThen
-      ended h = ap (λ o. o >>= (λ rs. finish 3 (record { value = record { size = size; excess = excess; rows = rs .value }; rest = rs .rest }))) (rows-ended (pairField size) (from image) (8 * length image) begin size some few start cells at a f h)
+  pub rows-answered : size < a → filling rest ≡ true → HoldsWeights size start excess → Loaded (rowsIn f size excess begin) cells size
+  unfolding finish
+  rows-answered h t w =
+      record {
+        table = record { size = size; excess = excess; rows = filled .done };
+        read = ended h ∙ ap (λ t. cond t (answered (record { size = size; excess = excess; rows = filled .done })) (refused 3 unplaced)) t;
+        listed = rows-listed (pairIn f size) begin size some few start cells rest a filled h;
+        of = record { stands = rows-stand (pairIn f size) begin size some few start cells rest a filled h excess w; sized = refl };
+      }
 
-      pub rows-answered : size < a → filling (from image at) ≡ true → HoldsWeights size start excess → LoadedOr (rowsThen size excess (from image begin)) cells size (Table size)
-      unfolding finish
-      rows-answered h t w = (
-        refl,
-        record {
-          table = record { size = size; excess = excess; rows = f .done };
-          read = ended h ∙ ap (λ t. cond t (answered (record { size = size; excess = excess; rows = f .done })) (refused 3 unplaced)) t;
-          listed = rows-listed (pairField size) (from image) (8 * length image) begin size some few start cells at a f h;
-          of = record { stands = rows-stand (pairField size) (from image) (8 * length image) begin size some few start cells at a f h excess w; sized = refl };
-        },
-      )
+  pub rows-tail : size < a → filling rest ≡ false → rowsIn f size excess begin ≡ refused 3 unplaced
+  unfolding finish
+  rows-tail h t = ended h ∙ ap (λ t. cond t (answered (record { size = size; excess = excess; rows = filled .done })) (refused 3 unplaced)) t
 
-      pub rows-tail : size < a → filling (from image at) ≡ false → rowsThen size excess (from image begin) ≡ refused 3 unplaced
-      unfolding finish
-      rows-tail h t = ended h ∙ ap (λ t. cond t (answered (record { size = size; excess = excess; rows = f .done })) (refused 3 unplaced)) t
+-- THE WHOLE TABLE: its number of letters, its weights, then its rows
 
--- the whole table: its number of letters, its weights, then its rows
-unfoldable afterHead : Read ℕ → Outcome Presentation
-unfolding rowsThen
-afterHead head = several (field 1 weightWidth) (head .value + 1) (head .rest) >>= λ ws. rowsThen (head .value + 1) (ws .value) (ws .rest)
+module _ (kind : Kind) (input : List ℕ) where
+  unfoldable sized : Outcome (Read ℕ) → Outcome Presentation
+  sized o = o >>= λ n. partsIn (formOf kind (n .value + 1)) (n .value + 1) (n .rest)
 
-pub head-ends : (image : List ℕ) → ((early : ℕ) → field early 4 (from image 0) ≡ refused early unplaced) → readTable image ≡ refused 1 unplaced
-unfolding readTable afterHead
-head-ends image e = ap (λ o. o >>= afterHead) (e 1)
+  abbrev pub sizeRead : Outcome (Read ℕ)
+  sizeRead = numberIn (formOf kind 1 .sizes) (formOf kind 1 .more) 16 (bitsOf input)
 
-module _ (image : List ℕ) (m size : ℕ) (head : FieldAt image 0 4 m) (size-is : m + 1 ≡ size) where
-  weights-next : readTable image ≡ (several (field 1 weightWidth) size (from image 4) >>= λ ws. rowsThen size (ws .value) (ws .rest))
-  unfolding readTable afterHead rowsThen
-  weights-next =
-      ap (λ o. o >>= afterHead) (head .read 1)
-      ∙ ap (λ k. several (field 1 weightWidth) k (from image 4) >>= λ ws. rowsThen k (ws .value) (ws .rest)) size-is
+  pub size-refused : (n : ℕ) → sizeRead ≡ refused n unplaced → tableIn kind input ≡ refused n unplaced
+  unfolding tableIn sized
+  size-refused n e = ap sized e
 
-  pub weights-refused : (n : ℕ) → several (field 1 weightWidth) size (from image 4) ≡ refused n unplaced → readTable image ≡ refused n unplaced
-  weights-refused n e = weights-next ∙ ap (λ o. o >>= λ ws. rowsThen size (ws .value) (ws .rest)) e
+  module _ (m : ℕ) (bits : List ℕ) (head : sizeRead ≡ answered (record { value = m; rest = bits })) where
+    abbrev f : Form
+    f = formOf kind (m + 1)
 
-  -- the rows are left
-  pub rows-next : (excess : List ℕ) (at : ℕ) → several (field 1 weightWidth) size (from image 4) ≡ answered (record { value = excess; rest = from image at })
-      → rowsThen size excess (from image at) ≡ readTable image
-  rows-next excess at e = sym (weights-next ∙ ap (λ o. o >>= λ ws. rowsThen size (ws .value) (ws .rest)) e)
+    unfoldable weighed : Outcome (Read (List ℕ)) → Outcome Presentation
+    weighed o = o >>= λ ws. rowsIn f (m + 1) (ws .value) (ws .rest)
 
--- an answer about the rows is one about the table
-pub loaded-as : {o o′ : Outcome Presentation} → o ≡ o′ → (cells : List ℕ) (size : ℕ) (r : TableRead) → LoadedOr o cells size r → LoadedOr o′ cells size r
-loaded-as e cells size r h = subst (λ o. LoadedOr o cells size r) e h
+    weights-next : tableIn kind input ≡ weighed (several (weightIn f) (m + 1) bits)
+    unfolding tableIn sized partsIn weighed
+    weights-next = ap sized head
 
-pub table-done : (image cells : List ℕ) (size : ℕ) (r : TableRead) → LoadedOr (readTable image) cells size r → TableDone image cells r
-table-done image cells size (Table n) h = subst (TableOf image cells) (sym (h .0)) (h .1)
-table-done image cells size (Refused r) h = h
+    pub weights-refused : (n : ℕ) → several (weightIn (formOf kind (m + 1))) (m + 1) bits ≡ refused n unplaced → tableIn kind input ≡ refused n unplaced
+    unfolding weighed
+    weights-refused n e = weights-next ∙ ap weighed e
+
+    -- the rows are left
+    pub rows-next : (excess rest : List ℕ) → several (weightIn (formOf kind (m + 1))) (m + 1) bits ≡ answered (record { value = excess; rest = rest })
+        → rowsIn (formOf kind (m + 1)) (m + 1) excess rest ≡ tableIn kind input
+    unfolding weighed
+    rows-next excess rest e = sym (weights-next ∙ ap weighed e)
+
+-- an answer about one reading is one about another with the same outcome
+pub loaded-as : {o o′ : Outcome Presentation} → o ≡ o′ → (cells : List ℕ) (r : TableRead) → LoadedAs o cells r → LoadedAs o′ cells r
+loaded-as e cells r h = subst (λ o. LoadedAs o cells r) e h
 
 -- what the cells stand for has the number of letters
 pub size-done : (image cells : List ℕ) (r : TableRead) → TableDone image cells r → SizeDone image r

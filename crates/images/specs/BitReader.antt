@@ -4,14 +4,14 @@ use mathlib.Core.Path.{_≡_}
 use Prim.Native.Nat.{ℕ, _+_, _-_, _*_, _/_, _%_, _^_, _≤_, _<_}
 use lib.ListN.{length, take}
 use Rattle.model.specs.Bits.{number}
-use Rattle.model.specs.Outcome.{unplaced, refused}
-use Rattle.model.specs.Images.{letterField}
-use Rattle.images.specs.Fields.{from, LetterAt}
+use Rattle.model.specs.Outcome.{unplaced, answered, refused}
+use Rattle.images.specs.Fields.{from}
+use Rattle.images.specs.Forms.{numberIn}
 use Rattle.images.specs.declared.bit_reader.BitReader.{BitReader}
 use Rattle.images.specs.declared.bit_reader.Taken.{Taken}
 use Rattle.images.specs.declared.bit_reader.Taken.the-variants.{Value, Ends}
-use Rattle.images.specs.declared.bit_reader.TakenLetter.{TakenLetter}
-use Rattle.images.specs.declared.bit_reader.TakenLetter.the-variants.{Letter, Ends as LetterEnds, Wrong}
+use Rattle.images.specs.declared.bit_reader.TakenNumber.{TakenNumber}
+use Rattle.images.specs.declared.bit_reader.TakenNumber.the-variants.{Number, Ends as NumberEnds, Wrong}
 
 -- the position of the first bit that is not taken yet
 abbrev pub place : BitReader → ℕ
@@ -47,12 +47,13 @@ abbrev pub TakenDone : List ℕ → BitReader → ℕ → Taken → Type 0
 TakenDone image reader width (Value v r) = TakenAt image (place reader) width v r
 TakenDone image reader width Ends = 8 * length image < place reader + width
 
--- a letter was taken, and the reader stands behind it
-pub record LetterBehind (image : List ℕ) (at size width a : ℕ) (r : BitReader) : Type 0 where
-  pub letter : LetterAt image at size width a
-  pub after : ReadsFrom image (at + width) r
+-- a number was taken, and the reader stands behind it
+pub record NumberAt (image : List ℕ) (at width low many n : ℕ) (r : BitReader) : Type 0 where
+  pub small : n < many
+  pub reads : Reads image r
+  pub read : numberIn width low many (from image at) ≡ answered (record { value = n; rest = from image (place r) })
 
-abbrev pub LetterTakenDone : List ℕ → ℕ → ℕ → ℕ → TakenLetter → Type 0
-LetterTakenDone image at size width (Letter a r) = LetterBehind image at size width a r
-LetterTakenDone image at size width LetterEnds = (early wrong : ℕ) → letterField early wrong size (from image at) ≡ refused early unplaced
-LetterTakenDone image at size width Wrong = (early wrong : ℕ) → letterField early wrong size (from image at) ≡ refused wrong unplaced
+abbrev pub NumberDone : List ℕ → ℕ → ℕ → ℕ → ℕ → TakenNumber → Type 0
+NumberDone image at width low many (Number n r) = NumberAt image at width low many n r
+NumberDone image at width low many NumberEnds = numberIn width low many (from image at) ≡ refused 1 unplaced
+NumberDone image at width low many Wrong = numberIn width low many (from image at) ≡ refused 2 unplaced

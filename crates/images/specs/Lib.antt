@@ -1,4 +1,5 @@
 pub mod Fields
+pub mod Forms
 pub mod BitReader
 pub mod Programs
 pub mod Tables

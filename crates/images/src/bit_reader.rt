@@ -3,8 +3,7 @@
 ghost use mathlib.Core.Path.{_≡_};
 ghost use Prim.Native.Nat.{_+_, _*_, _≤_, _<_};
 ghost use lib.ListN.{length};
-ghost use Rattle.images.specs.BitReader.{place, Holds, Reads, ReadsFrom, Splits, TakenDone, LetterTakenDone};
-ghost use Rattle.images.specs.Widths.{WidthOf};
+ghost use Rattle.images.specs.BitReader.{place, Holds, Reads, ReadsFrom, Splits, TakenDone, NumberDone};
 ghost use Rattle.model.specs.Bits.{filling};
 ghost use Rattle.images.specs.Fields.{from};
 
@@ -85,29 +84,33 @@ pub fn take(image: &[u8], reader: BitReader, width: u32) -> Taken
     split(more(image, reader), width)
 }
 
-// What is taken: a letter, and the reader behind it; too few bits; or a field that names no letter.
-pub enum TakenLetter {
-    Letter { letter: u8, reader: BitReader },
+// What is taken: one of so many numbers, counted from 0, and the reader behind it; too few bits; or a field that says none of them.
+pub enum TakenNumber {
+    Number { number: u8, reader: BitReader },
     Ends,
     Wrong,
 }
 
-// The next letter, of the width that `size` letters have.
-pub fn take_letter(image: &[u8], reader: BitReader, size: u8, width: u32) -> TakenLetter
-    requires { ⌜ Reads (now image) reader × WidthOf size width ⌝ }
-    ensures { λ r. ⌜ LetterTakenDone (now (image .entry)) (place reader) size width r ⌝ }
+// The next field, in which `low` says the first of `many` numbers.
+pub fn take_number(image: &[u8], reader: BitReader, width: u32, low: u8, many: u8) -> TakenNumber
+    requires { ⌜ Reads (now image) reader × (width ≤ 8) ⌝ }
+    ensures { λ r. ⌜ NumberDone (now (image .entry)) (place reader) width low many r ⌝ }
 {
     match take(image, reader, width) {
-        Taken::Ends => TakenLetter::Ends,
+        Taken::Ends => TakenNumber::Ends,
         Taken::Value {
             value,
             reader: after,
         } => {
-            if (size as u32) <= value {
-                return TakenLetter::Wrong;
+            if value < low as u32 {
+                return TakenNumber::Wrong;
             }
-            TakenLetter::Letter {
-                letter: (value + 1) as u8,
+            let number = value - low as u32;
+            if many as u32 <= number {
+                return TakenNumber::Wrong;
+            }
+            TakenNumber::Number {
+                number: number as u8,
                 reader: after,
             }
         }

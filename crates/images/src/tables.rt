@@ -1,37 +1,38 @@
-// Table images: read once into cells, from which the engine takes complements.
+// Tables in either form: read once into cells, from which the engine takes complements.
 
+use crate::bit_reader::BitReader;
 use crate::bit_reader::Taken;
-use crate::bit_reader::TakenLetter;
+use crate::bit_reader::TakenNumber;
+use crate::bit_reader::is_end;
 use crate::bit_reader::reader_at;
 use crate::bit_reader::take;
-use crate::bit_reader::take_letter;
-use crate::fields;
-use crate::fields::Field;
+use crate::bit_reader::take_number;
+use crate::forms::Form;
+use crate::forms::Kind;
+use crate::forms::form_of;
 use cells::layout::CELLS;
 use cells::layout::UNDEFINED;
 use cells::layout::cell_at;
 use cells::layout::weight_at;
 use model::answers::Refusal;
+use model::plain::MOST_WEIGHT;
 ghost use mathlib.Core.Path.{_≡_};
-ghost use Prim.Native.Nat.{_+_, _^_, _≤_, _<_};
+ghost use Prim.Native.Nat.{_+_, _≤_, _<_};
 ghost use lib.ListN.{length};
-ghost use Rattle.images.specs.Fields.{Before};
 ghost use Rattle.cells.specs.Layout.{Letters};
 ghost use Rattle.cells.specs.Stands.{Blank};
-ghost use Rattle.images.specs.Tables.{WordDone, PairDone, RowDone, WeightsBefore, WeightsDone, RowsBefore, RowsDone, TableDone, SizeDone};
+ghost use Rattle.images.specs.BitReader.{place, Reads};
+ghost use Rattle.images.specs.Forms.{Narrow, tableIn};
+ghost use Rattle.images.specs.Tables.{WordDone, HeadDone, PairDone, RowDone, WeightsDone, RowsDone, LoadedAs, TableDone, SizeDone};
 
-// The bits of a table's number of letters, of a weight, of the mark that a pair is defined, and of a word's length.
-pub const SIZE_BITS: usize = 4;
+// The most letters of a table, and one more than the most of a word.
+pub const MOST_SIZE: u8 = 16;
 
-pub const WEIGHT_BITS: usize = 3;
+pub const WORD_LENGTHS: u8 = 16;
 
-pub const DEFINED_BITS: usize = 1;
-
-pub const LENGTH_BITS: usize = 4;
-
-// The position after a part of a table, or why there is none.
+// The reader behind a part of a table, or why there is none.
 pub enum TablePart {
-    Next(usize),
+    Next(BitReader),
     Ends,
     Wrong,
 }
@@ -41,149 +42,199 @@ pub enum TableRead {
     Refused(Refusal),
 }
 
-// A word of a table image, into a cell.
+// A word, into a cell.
 pub fn read_word(
-    image: &[u8],
-    at: usize,
+    input: &[u8],
+    begin: BitReader,
+    form: Form,
     size: u8,
-    width: usize,
     cells: &mut [u8],
     cell: usize,
 ) -> TablePart
-    requires { ⌜ Before (now image) at size width × (cell + 16 ≤ length (now cells)) ⌝ }
+    requires { ⌜ Reads (now input) begin × Narrow form × (size ≤ 16) × (cell + 16 ≤ length (now cells)) ⌝ }
     ensures length { λ r. ⌜ length (now (cells .exit)) ≡ length (now (cells .entry)) ⌝ }
-    ensures word { λ r. ⌜ WordDone (now (image .entry)) at size (now (cells .entry)) cell (now (cells .exit)) r ⌝ }
+    ensures word { λ r. ⌜ WordDone (now (input .entry)) (place begin) form size (now (cells .entry)) cell (now (cells .exit)) r ⌝ }
 {
-    match take(image, reader_at(image, at), LENGTH_BITS as u32) {
-        Taken::Ends => TablePart::Ends,
-        Taken::Value {
-            value,
+    match take_number(input, begin, form.lengths, 0, WORD_LENGTHS) {
+        TakenNumber::Ends => TablePart::Ends,
+        TakenNumber::Wrong => TablePart::Wrong,
+        TakenNumber::Number {
+            number: first,
             reader: behind,
         } => {
-            cells[cell] = value as u8;
-            let count = value as usize;
-            let mut next = at + LENGTH_BITS;
+            cells[cell] = first;
+            let count = first as usize;
             let mut reader = behind;
             let mut k: usize = 0;
             while k < count {
-                match take_letter(image, reader, size, width as u32) {
-                    TakenLetter::Ends => return TablePart::Ends,
-                    TakenLetter::Wrong => return TablePart::Wrong,
-                    TakenLetter::Letter {
-                        letter,
+                match take_number(input, reader, form.letters, form.more, size) {
+                    TakenNumber::Ends => return TablePart::Ends,
+                    TakenNumber::Wrong => return TablePart::Wrong,
+                    TakenNumber::Number {
+                        number,
                         reader: after,
                     } => {
-                        cells[cell + 1 + k] = letter;
+                        cells[cell + 1 + k] = number + 1;
                         reader = after;
-                        next = next + width;
                         k += 1;
                     }
                 }
             }
-            TablePart::Next(next)
+            TablePart::Next(reader)
         }
     }
 }
 
-// A pair of a table image, into the cells of a, b and of b, a.
+// What a pair begins with: the mark of an undefined one, or what stands before the words of any other; with the reader behind it.
+pub enum Head {
+    Undefined(BitReader),
+    Words(BitReader),
+    Ends,
+}
+
+// A plain form has nothing before the words: the length of the first is read as the mark, and then again as a length.
+pub fn read_head(input: &[u8], begin: BitReader, form: Form) -> Head
+    requires { ⌜ Reads (now input) begin × Narrow form ⌝ }
+    ensures { λ r. ⌜ HeadDone (now (input .entry)) (place begin) form r ⌝ }
+{
+    match take(input, begin, form.opens) {
+        Taken::Ends => Head::Ends,
+        Taken::Value {
+            value,
+            reader: behind,
+        } => {
+            if value == form.mark as u32 {
+                return Head::Undefined(behind);
+            }
+            match take(input, begin, form.heads) {
+                Taken::Ends => Head::Ends,
+                Taken::Value {
+                    value: _,
+                    reader: words,
+                } => Head::Words(words),
+            }
+        }
+    }
+}
+
+// A pair, into the cells of a, b and of b, a.
 pub fn read_pair(
-    image: &[u8],
-    at: usize,
+    input: &[u8],
+    begin: BitReader,
+    form: Form,
     size: u8,
-    width: usize,
     cells: &mut [u8],
     a: u8,
     b: u8,
 ) -> TablePart
-    requires { ⌜ Before (now image) at size width × Letters a b × (a < b) × (length (now cells) ≡ 4096) × (at + 129 ≤ 2 ^ 40) ⌝ }
+    requires { ⌜ Reads (now input) begin × Narrow form × (size ≤ 16) × Letters a b × (a < b) × (length (now cells) ≡ 4096) ⌝ }
     ensures length { λ r. ⌜ length (now (cells .exit)) ≡ length (now (cells .entry)) ⌝ }
-    ensures pair { λ r. ⌜ PairDone (now (image .entry)) at size (now (cells .entry)) a b (now (cells .exit)) r ⌝ }
+    ensures pair { λ r. ⌜ PairDone (now (input .entry)) (place begin) form size (now (cells .entry)) a b (now (cells .exit)) r ⌝ }
 {
-    let Field::Value(bit) = fields::next_field(image, at, DEFINED_BITS) else {
-        return TablePart::Ends;
-    };
     let there = cell_at(a, b);
     let back = cell_at(b, a);
-    if bit == 0 {
-        cells[there] = UNDEFINED;
-        cells[back] = UNDEFINED;
-        return TablePart::Next(at + 1);
-    }
-    match read_word(image, at + 1, size, width, cells, there) {
-        TablePart::Ends => TablePart::Ends,
-        TablePart::Wrong => TablePart::Wrong,
-        TablePart::Next(next) => read_word(image, next, size, width, cells, back),
+    match read_head(input, begin, form) {
+        Head::Ends => TablePart::Ends,
+        Head::Undefined(behind) => {
+            cells[there] = UNDEFINED;
+            cells[back] = UNDEFINED;
+            TablePart::Next(behind)
+        }
+        Head::Words(words) => {
+            match read_word(input, words, form, size, cells, there) {
+                TablePart::Ends => TablePart::Ends,
+                TablePart::Wrong => TablePart::Wrong,
+                TablePart::Next(next) => read_word(input, next, form, size, cells, back),
+            }
+        }
     }
 }
 
 // The pairs of a letter with those after it, into their cells.
 pub fn read_row(
-    image: &[u8],
-    at: usize,
+    input: &[u8],
+    begin: BitReader,
+    form: Form,
     size: u8,
-    width: usize,
     cells: &mut [u8],
     a: u8,
 ) -> TablePart
-    requires { ⌜ Before (now image) at size width × (1 ≤ a) × (a ≤ size) × (length (now cells) ≡ 4096) × (at + 2064 ≤ 2 ^ 40) ⌝ }
+    requires { ⌜ Reads (now input) begin × Narrow form × (1 ≤ a) × (a ≤ size) × (size ≤ 16) × (length (now cells) ≡ 4096) ⌝ }
     ensures length { λ r. ⌜ length (now (cells .exit)) ≡ length (now (cells .entry)) ⌝ }
-    ensures row { λ r. ⌜ RowDone (now (image .entry)) at size (now (cells .entry)) a (now (cells .exit)) r ⌝ }
+    ensures row { λ r. ⌜ RowDone (now (input .entry)) (place begin) form size (now (cells .entry)) a (now (cells .exit)) r ⌝ }
 {
-    let mut next = at;
+    let mut reader = begin;
     let mut b = a + 1;
     while b <= size {
-        match read_pair(image, next, size, width, cells, a, b) {
+        match read_pair(input, reader, form, size, cells, a, b) {
             TablePart::Ends => return TablePart::Ends,
             TablePart::Wrong => return TablePart::Wrong,
             TablePart::Next(after) => {
-                next = after;
+                reader = after;
                 b += 1;
             }
         }
     }
-    TablePart::Next(next)
+    TablePart::Next(reader)
 }
 
-// The weights of the letters of a table image, each less 1, into their places.
-pub fn read_weights(image: &[u8], at: usize, size: u8, cells: &mut [u8]) -> TablePart
-    requires { ⌜ WeightsBefore (now image) at size (now cells) ⌝ }
+// The weights of the letters, each less 1, into their places.
+pub fn read_weights(
+    input: &[u8],
+    begin: BitReader,
+    form: Form,
+    size: u8,
+    cells: &mut [u8],
+) -> TablePart
+    requires { ⌜ Reads (now input) begin × Narrow form × (size ≤ 16) × (length (now cells) ≡ 4096) ⌝ }
     ensures length { λ r. ⌜ length (now (cells .exit)) ≡ length (now (cells .entry)) ⌝ }
-    ensures weights { λ r. ⌜ WeightsDone (now (image .entry)) at size (now (cells .entry)) (now (cells .exit)) r ⌝ }
+    ensures weights { λ r. ⌜ WeightsDone (now (input .entry)) (place begin) form size (now (cells .entry)) (now (cells .exit)) r ⌝ }
 {
-    let mut next = at;
+    let mut reader = begin;
     let mut a: u8 = 1;
     while a <= size {
-        let Field::Value(value) = fields::next_field(image, next, WEIGHT_BITS) else {
-            return TablePart::Ends;
-        };
-        let place = weight_at(a);
-        cells[place] = value as u8;
-        next = next + WEIGHT_BITS;
-        a += 1;
-    }
-    TablePart::Next(next)
-}
-
-// The pairs of a table image, whose weights were read, into their cells, and the image's end.
-pub fn read_rows(image: &[u8], begin: usize, size: u8, cells: &mut [u8]) -> TableRead
-    requires { ⌜ RowsBefore (now image) begin size (now cells) ⌝ }
-    ensures length { λ r. ⌜ length (now (cells .exit)) ≡ length (now (cells .entry)) ⌝ }
-    ensures rows { λ r. ⌜ RowsDone (now (image .entry)) begin size (now (cells .entry)) (now (cells .exit)) r ⌝ }
-{
-    let width = bits::letter_width(size) as usize;
-    let mut at = begin;
-    let mut a: u8 = 1;
-    while a <= size {
-        match read_row(image, at, size, width, cells, a) {
-            TablePart::Ends => return TableRead::Refused(Refusal::TableEnds),
-            TablePart::Wrong => return TableRead::Refused(Refusal::TableField),
-            TablePart::Next(next) => {
-                at = next;
+        match take_number(input, reader, form.weights, form.more, MOST_WEIGHT) {
+            TakenNumber::Ends => return TablePart::Ends,
+            TakenNumber::Wrong => return TablePart::Wrong,
+            TakenNumber::Number {
+                number,
+                reader: after,
+            } => {
+                let place = weight_at(a);
+                cells[place] = number;
+                reader = after;
                 a += 1;
             }
         }
     }
-    if fields::is_filling(image, at) {
+    TablePart::Next(reader)
+}
+
+// The pairs of a table whose weights were read, into their cells, and the end.
+pub fn read_rows(
+    input: &[u8],
+    begin: BitReader,
+    form: Form,
+    size: u8,
+    cells: &mut [u8],
+) -> TableRead
+    requires { ⌜ Reads (now input) begin × Narrow form × (1 ≤ size) × (size ≤ 16) × Blank (now cells) ⌝ }
+    ensures length { λ r. ⌜ length (now (cells .exit)) ≡ length (now (cells .entry)) ⌝ }
+    ensures rows { λ r. ⌜ RowsDone (now (input .entry)) (place begin) form size (now (cells .entry)) (now (cells .exit)) r ⌝ }
+{
+    let mut reader = begin;
+    let mut a: u8 = 1;
+    while a <= size {
+        match read_row(input, reader, form, size, cells, a) {
+            TablePart::Ends => return TableRead::Refused(Refusal::TableEnds),
+            TablePart::Wrong => return TableRead::Refused(Refusal::TableField),
+            TablePart::Next(after) => {
+                reader = after;
+                a += 1;
+            }
+        }
+    }
+    if is_end(input, reader) {
         TableRead::Table { size }
     } else {
         TableRead::Refused(Refusal::TableTail)
@@ -191,20 +242,43 @@ pub fn read_rows(image: &[u8], begin: usize, size: u8, cells: &mut [u8]) -> Tabl
 }
 
 // Refusal 1 or 2, whichever is come to first, then 3 (specification 5.3). After an answer the cells stand for the table.
+pub fn read_form(input: &[u8], kind: Kind, cells: &mut [u8]) -> TableRead
+    requires { ⌜ Blank (now cells) ⌝ }
+    ensures length { λ r. ⌜ length (now (cells .exit)) ≡ length (now (cells .entry)) ⌝ }
+    ensures table { λ r. ⌜ LoadedAs (tableIn kind (now (input .entry))) (now (cells .exit)) r ⌝ }
+{
+    let least = form_of(kind, 1);
+    match take_number(
+        input,
+        reader_at(input, 0),
+        least.sizes,
+        least.more,
+        MOST_SIZE,
+    ) {
+        TakenNumber::Ends => TableRead::Refused(Refusal::TableEnds),
+        TakenNumber::Wrong => TableRead::Refused(Refusal::TableField),
+        TakenNumber::Number {
+            number,
+            reader: behind,
+        } => {
+            let size = number + 1;
+            let form = form_of(kind, size);
+            match read_weights(input, behind, form, size, cells) {
+                TablePart::Ends => TableRead::Refused(Refusal::TableEnds),
+                TablePart::Wrong => TableRead::Refused(Refusal::TableField),
+                TablePart::Next(next) => read_rows(input, next, form, size, cells),
+            }
+        }
+    }
+}
+
+// A table image.
 pub fn read_table(image: &[u8], cells: &mut [u8]) -> TableRead
     requires { ⌜ Blank (now cells) ⌝ }
     ensures length { λ r. ⌜ length (now (cells .exit)) ≡ length (now (cells .entry)) ⌝ }
     ensures table { λ r. ⌜ TableDone (now (image .entry)) (now (cells .exit)) r ⌝ }
 {
-    let Field::Value(head) = fields::next_field(image, 0, SIZE_BITS) else {
-        return TableRead::Refused(Refusal::TableEnds);
-    };
-    let size = (head + 1) as u8;
-    match read_weights(image, SIZE_BITS, size, cells) {
-        TablePart::Ends => TableRead::Refused(Refusal::TableEnds),
-        TablePart::Wrong => TableRead::Refused(Refusal::TableField),
-        TablePart::Next(at) => read_rows(image, at, size, cells),
-    }
+    read_form(image, Kind::Image, cells)
 }
 
 // The number of letters of a table image, or its refusal.

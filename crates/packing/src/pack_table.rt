@@ -1,10 +1,10 @@
 // Pack a table: its image in the answer area.
 
 use cells::layout::CELLS;
+use images::forms::image_form;
 use images::tables::TableRead;
 use model::answers::Packed;
 use plain_forms::reading::read_plain_table;
-use writers::forms::image_form;
 use writers::tables::write_table;
 ghost use Rattle.model.specs.Stated.{packedAs};
 ghost use Rattle.model.specs.Images.{readTable};

@@ -1,10 +1,10 @@
 // Unpack a table: its plain form in the answer area.
 
 use cells::layout::CELLS;
+use images::forms::plain_form;
 use images::tables;
 use images::tables::TableRead;
 use model::answers::Packed;
-use writers::forms::plain_form;
 use writers::tables::write_table;
 ghost use Rattle.model.specs.Stated.{packedAs};
 ghost use Rattle.model.specs.Images.{readTable};

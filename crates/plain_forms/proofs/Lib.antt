@@ -1,5 +1,3 @@
-pub mod Bytes
+pub mod Agreeing
 pub mod Programs
-pub mod Pairs
-pub mod Tables
 pub mod PlainTrip

@@ -19,7 +19,14 @@ use Rattle.model.proofs.Booleans.{both}
 use Rattle.model.proofs.Impossible.{answer-of, same-answer, not-refused}
 use Rattle.plain_forms.proofs.Programs.{named-positive, named-small}
 use Rattle.images.proofs.Codec.{Codec, then, several-codec, rows-codec}
-use Rattle.plain_forms.proofs.Bytes.{weightByte, weight-bytes}
+
+-- the byte of a weight in plain form
+abbrev weightByte : ℕ → List ℕ
+weightByte w = suc w ∷ []
+
+weight-bytes : (ws : List ℕ) → concatMap weightByte ws ≡ map suc ws
+weight-bytes [] = refl
+weight-bytes (w ∷ ws) = ap (λ l. suc w ∷ l) (weight-bytes ws)
 
 -- a plain form may be made of any bytes
 abbrev Any : List ℕ → Type 0

@@ -12,7 +12,7 @@ use Rattle.model.specs.Bits.{digits}
 use Rattle.bits.proofs.Digits.{AreBits, length-digits, digits-are-bits, bits-append}
 use Rattle.images.proofs.RoundTrip.{concat-bits}
 use Rattle.writers.specs.Forms.{letterAs, wordAs, pairAs, weightAs, tableAs}
-use Rattle.writers.specs.declared.forms.Form.{Form}
+use Rattle.images.specs.declared.forms.Form.{Form}
 
 -- parts of one length
 pub length-concat : {A : Type 0} (f : A → List ℕ) (size : ℕ) → ((x : A) → length (f x) ≡ size) → (xs : List A) → length (concatMap f xs) ≡ length xs * size

@@ -1,9 +1,9 @@
 -- The two forms of a table: every number fits its field, and the bits are those of the table's image and of its plain form.
-use mathlib.Core.Path.{_≡_, refl, sym, ap, ap₂, subst, _∙_}
-use mathlib.Core.List.{List, [], _∷_, _++_, append-assoc, append-nil, map}
+use mathlib.Core.Path.{_≡_, refl, sym, ap, ap₂, _∙_}
+use mathlib.Core.List.{List, [], _∷_, _++_, append-nil, map}
 use Prim.Native.Nat.{ℕ, zero, suc, _+_, _-_, _^_, _≤_, _<_}
 use native.Mathlib.Omega.{arith}
-use lib.ListN.{length, getD}
+use lib.ListN.{length}
 use Rattle.model.specs.Word.{Positive}
 use Rattle.model.specs.Presentation.{Presentation, Complement, undefined, complement}
 use Rattle.model.specs.Enumeration.{concatMap}
@@ -14,7 +14,8 @@ use Rattle.model.specs.Range.{All, AreBytes, InRange, WordInRange, PairInRange,
 use Rattle.bits.proofs.Bytes.{bits-of-append, bits-are-bits}
 use Rattle.bits.proofs.Packing.{packed-of}
 use Rattle.bits.proofs.Width.{letter-fits, width-small}
-use Rattle.writers.specs.Forms.{letterAs, wordAs, pairAs, weightAs, tableAs, imageForm, plainForm, FormFor}
+use Rattle.images.specs.Forms.{imageForm, plainForm}
+use Rattle.writers.specs.Forms.{letterAs, pairAs, weightAs, tableAs, FormFor}
 
 -- THE IMAGE
 

@@ -1,16 +1,14 @@
 -- A table written out in either form, field after field, and that every number fits its field.
 use mathlib.Core.List.{List, _++_}
-use mathlib.Core.Path.{_≡_}
 use Prim.Native.Nat.{ℕ, _+_, _-_, _^_, _≤_, _<_}
 use lib.ListN.{length}
 use Rattle.model.specs.Word.{Positive}
 use Rattle.model.specs.Presentation.{Complement, undefined, complement}
 use Rattle.model.specs.Enumeration.{concatMap}
-use Rattle.model.specs.Bits.{digits, letterWidth}
-use Rattle.model.specs.Images.{sizeWidth, weightWidth, lengthWidth}
-use Rattle.model.specs.Plain.{openByte}
+use Rattle.model.specs.Bits.{digits}
+use Rattle.model.specs.Images.{weightWidth}
 use Rattle.model.specs.Range.{InRange}
-use Rattle.writers.specs.declared.forms.Form.{Form}
+use Rattle.images.specs.declared.forms.Form.{Form}
 
 abbrev pub letterAs : Form → ℕ → List ℕ
 letterAs f a = digits (f .letters) (a - f .less)
@@ -28,26 +26,6 @@ weightAs f e = digits (f .weights) (e + f .more)
 
 abbrev pub tableAs : Form → ℕ → List ℕ → List (List Complement) → List ℕ
 tableAs f size excess rows = digits (f .sizes) (size - f .less) ++ (concatMap (weightAs f) excess ++ concatMap (concatMap (pairAs f)) rows)
-
--- THE TWO FORMS
-
-abbrev pub imageForm : ℕ → Form
-imageForm size =
-    record {
-      sizes = sizeWidth;
-      weights = weightWidth;
-      opens = 1;
-      heads = 1;
-      lengths = lengthWidth;
-      letters = letterWidth size;
-      less = 1;
-      more = 0;
-      mark = 0;
-      head = 1;
-    }
-
-abbrev pub plainForm : Form
-plainForm = record { sizes = 8; weights = 8; opens = 8; heads = 0; lengths = 8; letters = 8; less = 0; more = 1; mark = openByte; head = 0 }
 
 -- of a table of so many letters every number fits its field, and no field is wider than a byte
 pub record FormFor (size : ℕ) (f : Form) : Type 0 where

@@ -12,9 +12,9 @@ ghost use Rattle.cells.specs.Kept.{HoldsPair};
 ghost use Rattle.images.specs.Tables.{HoldsRow, RowsHeld};
 ghost use Rattle.writers.specs.Forms.{FormFor, pairAs, tableAs};
 ghost use Rattle.writers.specs.Held.{HoldsSomePair, HoldsSomeRow, HoldsSomeTable};
-use crate::forms::Form;
 use cells::layout::UNDEFINED;
 use cells::layout::cell_at;
+use images::forms::Form;
 
 // The bits of a pair.
 pub fn pair_bits(cells: &[u8], a: u8, b: u8, size: u8, form: Form) -> usize

@@ -19,11 +19,11 @@ ghost use Rattle.writers.specs.Held.{HoldsSomeWord, HoldsSomePair, Holds
 use crate::bit_writer::BitWriter;
 use crate::bit_writer::close;
 use crate::bit_writer::put;
-use crate::forms::Form;
 use crate::measuring::table_bits;
 use cells::layout::UNDEFINED;
 use cells::layout::cell_at;
 use cells::layout::weight_at;
+use images::forms::Form;
 use model::answers::Packed;
 use model::answers::Refusal;
 

@@ -1,52 +1,91 @@
--- `images::read_pair` meets its contract.
-use mathlib.Core.Path.{refl, sym, subst, _∙_}
-use Prim.Native.Nat.{_+_}
+-- `images::tables::read_pair` meets its contract.
+use mathlib.Core.Path.{_≡_, refl, sym, subst, _∙_}
+use mathlib.Core.List.{List}
+use Prim.Native.Nat.{ℕ}
 use native.Mathlib.Omega.{arith}
-use lib.ListN.{set, length-set}
-use Rattle.images.specs.Fields.{FieldDone, FieldAt}
-use Rattle.cells.specs.Layout.{cellAt}
-use Rattle.images.specs.Tables.{WordDone}
-use Rattle.cells.proofs.Kept.{cell-inside, swap-letters}
-use Rattle.images.proofs.Pairs.{WordAt, PairAt, bit-ends, pair-undefined, first-refused, second-done}
 use borrow.Author.Needs.{needs}
+use lib.ListN.{set, length-set}
+use Rattle.model.specs.Outcome.{unplaced, refused}
+use Rattle.cells.specs.Layout.{cellAt}
+use Rattle.cells.proofs.Kept.{cell-inside, swap-letters}
+use Rattle.images.specs.Fields.{from}
+use Rattle.images.specs.Forms.{pairIn, wordIn, wordsIn}
+use Rattle.images.specs.BitReader.{place, Reads}
+use Rattle.images.specs.Tables.{WordDone, WordFrom, HeadDone, PairBegins, PairFrom}
+use Rattle.images.specs.declared.bit_reader.BitReader.{BitReader}
+use Rattle.images.specs.declared.tables.Head.{Head}
+use Rattle.images.specs.declared.tables.TablePart.{TablePart}
+use Rattle.images.proofs.Pairs.{cells-undefined, first-refused, second-done}
 use Rattle.images.proofs.tables.read_pair.Statement.{statement}
 use Rattle.images.proofs.tables.read_pair.Tie as tie
 
-abbrev start : tie.After-known-told → tie.Start
-start c = c .before .before .before .before .before .before
+abbrev start : tie.After-read-head → tie.Start
+start c = c .before .before .before .before .before
 
-bit-at : (c : tie.After-known-told) → FieldAt (start c .args .image .now) (start c .args .at) 1 (c .before .bit .given .0 .0)
-bit-at c = subst (FieldDone (start c .args .image .now) (start c .args .at) 1) (c .before .bit .given .1) (c .before .before .before .next-field .ensures)
+abbrev bits : tie.Start → BitReader → List ℕ
+bits c r = from (c .args .input .now) (place r)
+
+told : (c : tie.After-read-head) (r : Head) → c .read-head .result ≡ r
+    → HeadDone (start c .args .input .now) (place (start c .args .begin)) (start c .args .form) r
+told c r e = subst (HeadDone (start c .args .input .now) (place (start c .args .begin)) (start c .args .form)) e (c .read-head .ensures)
+
+-- the words of a pair, and the reader before them
+abbrev head : tie.After-known-told2 → tie.After-read-head
+head c = c .before .before .before
+
+abbrev began : tie.After-known-told2 → tie.Start
+began c = start (head c)
+
+abbrev words : tie.After-known-told2 → BitReader
+words c = c .before .words .given .0 .0
+
+defined : (c : tie.After-known-told2)
+    → PairBegins (began c .args .form) (began c .args .input .now) (place (began c .args .begin))
+    (λ size. wordsIn (began c .args .form) size (bits (began c) (words c))) (words c)
+defined c = told (head c) _ (c .before .words .given .1)
 
 -- what the first word's reading gives, in the cell of a, b
-first-at : (c : tie.After-read-word)
-    → WordDone (start (c .before .before .before .before .before) .args .image .now) (start (c .before .before .before .before .before) .args .at + 1) (start (c .before .before .before .before .before) .args .size) (start (c .before .before .before .before .before) .args .cells .now) (cellAt (start (c .before .before .before .before .before) .args .a) (start (c .before .before .before .before .before) .args .b)) (c .read-word .last .1 .1 .1 .1 .0) (c .read-word .result)
-first-at c =
-    let s = start (c .before .before .before .before .before) in
-    subst (λ cell. WordDone (s .args .image .now) (s .args .at + 1) (s .args .size) (s .args .cells .now) cell (c .read-word .last .1 .1 .1 .1 .0) (c .read-word .result))
-    (c .before .before .before .before .cell-at .ensures) (c .read-word .ensures .1)
+abbrev before : tie.After-read-word → tie.After-known-told2
+before c = c .before .before
 
-first-read : (c : tie.After-next)
-    → WordAt (start (c .before .before .before .before .before .before .before .before .before) .args .image .now) (start (c .before .before .before .before .before .before .before .before .before) .args .at + 1) (start (c .before .before .before .before .before .before .before .before .before) .args .size) (start (c .before .before .before .before .before .before .before .before .before) .args .cells .now) (cellAt (start (c .before .before .before .before .before .before .before .before .before) .args .a) (start (c .before .before .before .before .before .before .before .before .before) .args .b)) (c .before .before .before .before .read-word .last .1 .1 .1 .1 .0) (c .next .given .0 .0)
-first-read c =
-    let w = c .before .before .before .before in
-    let s = start (w .before .before .before .before .before) in
-    subst (WordDone (s .args .image .now) (s .args .at + 1) (s .args .size) (s .args .cells .now) (cellAt (s .args .a) (s .args .b)) (w .read-word .last .1 .1 .1 .1 .0))
-    (c .next .given .1) (first-at w)
+abbrev mid : tie.After-read-word → List ℕ
+mid c = c .read-word .last .1 .1 .1 .1 .0
 
-next-field-requires : tie.Need-next-field-requires
-next-field-requires c κs = search needs
+first-told : (c : tie.After-read-word) (r : TablePart) → c .read-word .result ≡ r
+    → WordDone (began (before c) .args .input .now) (place (words (before c))) (began (before c) .args .form) (began (before c) .args .size)
+    (began (before c) .args .cells .now) (cellAt (began (before c) .args .a) (began (before c) .args .b)) (mid c) r
+first-told c r e =
+    let s = began (before c) in
+    let at = place (words (before c)) in
+    subst (λ cell. WordDone (s .args .input .now) at (s .args .form) (s .args .size) (s .args .cells .now) cell (mid c) r)
+    (head (before c) .before .before .cell-at .ensures)
+    (subst (WordDone (s .args .input .now) at (s .args .form) (s .args .size) (s .args .cells .now) (head (before c) .before .before .cell-at .result)
+    (mid c)) e
+    (c .read-word .ensures .1))
 
-enum-known-bit : tie.Need-enum-known-bit
-enum-known-bit c = search needs
+refused-by : (c : tie.After-read-word) (n : ℕ)
+    → wordIn (began (before c) .args .form) (began (before c) .args .size) (bits (began (before c)) (words (before c))) ≡ refused n unplaced
+    → pairIn (began (before c) .args .form) (began (before c) .args .size) (bits (began (before c)) (began (before c) .args .begin)) ≡ refused n unplaced
+refused-by c n =
+    let k = before c in
+    let s = began k in
+    first-refused (s .args .form) (s .args .size) (s .args .cells .now) (s .args .a) (s .args .b) (s .pre .3) (s .pre .4) (bits s (s .args .begin))
+    (bits s (words k))
+    (defined k .pair (s .args .size)) n
 
-enum-told : tie.Need-enum-told
-enum-told c = search needs
+-- the first word, and the reader behind it
+abbrev first : tie.After-known-told3 → tie.After-read-word
+first c = c .before .before .before .before .before
 
-returns : tie.Need-returns
-returns c =
-    let s = c .before .before .before .before .before in
-    (refl, bit-ends (s .args .image .now) (s .args .at) (s .args .size) (subst (FieldDone (s .args .image .now) (s .args .at) 1) (c .enum-told .given .1) (c .before .before .next-field .ensures)))
+abbrev next : tie.After-known-told3 → BitReader
+next c = c .before .next .given .0 .0
+
+first-read : (c : tie.After-known-told3) → Reads (began (before (first c)) .args .input .now) (next c)
+    × WordFrom (wordIn (began (before (first c)) .args .form) (began (before (first c)) .args .size)) (began (before (first c)) .args .size)
+    (began (before (first c)) .args .cells .now)
+    (cellAt (began (before (first c)) .args .a) (began (before (first c)) .args .b)) (mid (first c))
+    (bits (began (before (first c))) (words (before (first c)))) (bits (began (before (first c))) (next c))
+first-read c = first-told (first c) _ (c .before .next .given .1)
 
 cell-at-requires : tie.Need-cell-at-requires
 cell-at-requires c κs = search needs
@@ -54,37 +93,36 @@ cell-at-requires c κs = search needs
 cell-at-requires-2 : tie.Need-cell-at-requires-2
 cell-at-requires-2 c κs = search needs
 
+read-head-requires : tie.Need-read-head-requires
+read-head-requires c κs = search needs
+
+enum-told : tie.Need-enum-told
+enum-told c = search needs
+
+enum-known-behind : tie.Need-enum-known-behind
+enum-known-behind c = search needs
+
 slice-write-cells : tie.Need-slice-write-cells
 slice-write-cells c = search needs
 
 slice-write-cells-2 : tie.Need-slice-write-cells-2
-slice-write-cells-2 c = simp length-set (omega (arith, c .before .cell-at2 .ensures, start (c .before .before .before) .pre .1 .0 .high, start (c .before .before .before) .pre .1 .1 .high, start (c .before .before .before) .pre .3))
+slice-write-cells-2 c =
+    let h = c .before .before .before in
+    let s = start h in
+    simp length-set (omega (arith, h .before .cell-at2 .ensures, s .pre .3 .0 .high, s .pre .3 .1 .high, s .pre .5))
 
-add-t16 : tie.Need-add-t16
-add-t16 c = search needs
-
-same-length : tie.Need-same-length
-same-length c = search needs
-
-returns-2 : tie.Need-returns-2
-returns-2 c =
-    let s = start (c .before .before .before) in (
-      simp length-set,
-      subst (λ j. PairAt (s .args .image .now) (s .args .at) (s .args .size) (s .args .cells .now) (s .args .a) (s .args .b) (set (set (s .args .cells .now) (c .before .before .cell-at .result) 255) j 255) (s .args .at + 1)) (sym (c .before .cell-at2 .ensures))
-          (subst (λ i. PairAt (s .args .image .now) (s .args .at) (s .args .size) (s .args .cells .now) (s .args .a) (s .args .b) (set (set (s .args .cells .now) i 255) (cellAt (s .args .b) (s .args .a)) 255) (s .args .at + 1)) (sym (c .before .before .cell-at .ensures))
-          (pair-undefined (s .args .image .now) (s .args .at) (s .args .size) (s .args .cells .now) (s .args .a) (s .args .b) (s .pre .1) (s .pre .2) (s .pre .3) (c .before .before .before .before .bit .given .0 .0) (bit-at (c .before .before .before)) (c .if1 .taken))),
-    )
-
-add-read-word : tie.Need-add-read-word
-add-read-word c = search needs
+enum-known-words : tie.Need-enum-known-words
+enum-known-words c = search needs
 
 read-word-requires : tie.Need-read-word-requires
 read-word-requires c κs =
-    let e = c .before in
-    let s = start (e .before .before .before) in
-    let p = s .pre .0 in (
-      record { inside = bit-at (e .before .before .before) .inside; small = omega (arith, s .pre .4); some = p .some; few = p .few; narrow = p .narrow; width-is = p .width-is },
-      omega (arith, e .before .before .cell-at .ensures, cell-inside (s .args .a) (s .args .b) (s .pre .1), s .pre .3),
+    let k = c .before in
+    let s = began k in (
+      defined k .reads,
+      s .pre .1,
+      s .pre .2,
+      omega
+          (arith, head k .before .before .cell-at .ensures, cell-inside (s .args .a) (s .args .b) (s .pre .3), s .pre .5),
     )
 
 enum-told-2 : tie.Need-enum-told-2
@@ -98,79 +136,105 @@ enum-known-next c = search needs
 
 read-word-requires-2 : tie.Need-read-word-requires-2
 read-word-requires-2 c κs =
-    let n = c .before .before in
-    let w = n .before .before .before .before in
-    let k = w .before .before .before .before .before in
-    let s = start k in
-    let p = s .pre .0 in (
-      record { inside = first-read n .position .inside; small = omega (arith, s .pre .4, first-read n .position .near); some = p .some; few = p .few; narrow = p .narrow; width-is = p .width-is },
-      omega (arith, w .before .before .before .cell-at2 .ensures, cell-inside (s .args .b) (s .args .a) (swap-letters (s .args .a) (s .args .b) (s .pre .1)), s .pre .3, w .read-word .ensures .0),
+    let n = c .before in
+    let w = first n in
+    let s = began (before w) in (
+      first-read n .0,
+      s .pre .1,
+      s .pre .2,
+      omega (
+        arith,
+        head (before w) .before .cell-at2 .ensures,
+        cell-inside (s .args .b) (s .args .a)
+            (swap-letters (s .args .a) (s .args .b) (s .pre .3)),
+        s .pre .5,
+        w .read-word .ensures .0,
+      ),
+    )
+
+returns : tie.Need-returns
+returns c =
+    let h = c .before .before in
+    (refl, told h _ (c .enum-told .given .1) (start h .args .size))
+
+same-length : tie.Need-same-length
+same-length c = search needs
+
+returns-2 : tie.Need-returns-2
+returns-2 c =
+    let h = c .before .before .before in
+    let s = start h in
+    let r = c .before .behind .given .0 .0 in
+    let u : PairBegins (s .args .form) (s .args .input .now) (place (s .args .begin)) _ r = told h _ (c .before .behind .given .1) in
+    let From = PairFrom (pairIn (s .args .form) (s .args .size)) (s .args .size) (s .args .cells .now) (s .args .a) (s .args .b) in (
+      simp length-set,
+      (
+        u .reads,
+        subst (λ j. From (set (set (s .args .cells .now) (h .before .before .cell-at .result) 255) j 255) (bits s (s .args .begin)) (bits s r))
+            (sym (h .before .cell-at2 .ensures))
+            (subst (λ i. From (set (set (s .args .cells .now) i 255) (cellAt (s .args .b) (s .args .a)) 255) (bits s (s .args .begin)) (bits s r))
+            (sym (h .before .before .cell-at .ensures))
+            (cells-undefined (s .args .form) (s .args .size) (s .args .cells .now) (s .args .a) (s .args .b) (s .pre .3) (s .pre .4) (s .pre .5)
+            (bits s (s .args .begin)) (bits s r)
+            (u .pair (s .args .size)))),
+      ),
     )
 
 same-length-2 : tie.Need-same-length-2
-same-length-2 c = c .before .before .before .before .read-word .kept .1 .1 .1 .1 .0
+same-length-2 c = search needs
 
 returns-3 : tie.Need-returns-3
 returns-3 c =
     let w = c .before .before .before .before in
-    let k = w .before .before .before .before .before in
-    let s = start k in (
-      w .read-word .ensures .0,
-      first-refused (s .args .image .now) (s .args .at) (s .args .size) (s .args .cells .now) (s .args .a) (s .args .b) (s .pre .1) (s .pre .2) (s .pre .3) (k .before .bit .given .0 .0) (bit-at k) (w .before .before .if1 .left) 1
-          (subst (WordDone (s .args .image .now) (s .args .at + 1) (s .args .size) (s .args .cells .now) (cellAt (s .args .a) (s .args .b)) (w .read-word .last .1 .1 .1 .1 .0)) (c .enum-told2 .given .1) (first-at w)),
-    )
+    (w .read-word .ensures .0, refused-by w 1 (first-told w _ (c .enum-told2 .given .1)))
 
 same-length-3 : tie.Need-same-length-3
-same-length-3 c = c .before .before .before .before .read-word .kept .1 .1 .1 .1 .0
+same-length-3 c = search needs
 
 returns-4 : tie.Need-returns-4
 returns-4 c =
     let w = c .before .before .before .before in
-    let k = w .before .before .before .before .before in
-    let s = start k in (
-      w .read-word .ensures .0,
-      first-refused (s .args .image .now) (s .args .at) (s .args .size) (s .args .cells .now) (s .args .a) (s .args .b) (s .pre .1) (s .pre .2) (s .pre .3) (k .before .bit .given .0 .0) (bit-at k) (w .before .before .if1 .left) 2
-          (subst (WordDone (s .args .image .now) (s .args .at + 1) (s .args .size) (s .args .cells .now) (cellAt (s .args .a) (s .args .b)) (w .read-word .last .1 .1 .1 .1 .0)) (c .enum-told3 .given .1) (first-at w)),
-    )
+    (w .read-word .ensures .0, refused-by w 2 (first-told w _ (c .enum-told3 .given .1)))
 
 same-length-4 : tie.Need-same-length-4
-same-length-4 c =
-    c .before .before .read-word2 .kept .1 .1 .1 .1 .0 ∙
-    c .before .before .before .before .before .before .before .before .before .read-word .kept .1 .1 .1 .1 .0
+same-length-4 c = search needs
 
 returns-5 : tie.Need-returns-5
 returns-5 c =
     let v = c .before .before in
-    let n = v .before .before .before in
-    let w = n .before .before .before .before in
-    let k = w .before .before .before .before .before in
-    let s = start k in (
+    let n = v .before .before in
+    let w = first n in
+    let k = before w in
+    let s = began k in
+    let after = v .read-word2 .last .1 .1 .1 .1 .0 in (
       v .read-word2 .ensures .0 ∙ w .read-word .ensures .0,
-      second-done (s .args .image .now) (s .args .at) (s .args .size) (s .args .cells .now) (s .args .a) (s .args .b) (s .pre .1) (s .pre .2) (s .pre .3) (k .before .bit .given .0 .0) (bit-at k) (w .before .before .if1 .left) (w .read-word .last .1 .1 .1 .1 .0) (n .next .given .0 .0) (first-read n) (v .read-word2 .last .1 .1 .1 .1 .0) (v .read-word2 .result)
-          (subst (λ cell. WordDone (s .args .image .now) (n .next .given .0 .0) (s .args .size) (w .read-word .last .1 .1 .1 .1 .0) cell (v .read-word2 .last .1 .1 .1 .1 .0) (v .read-word2 .result)) (w .before .before .before .cell-at2 .ensures) (v .read-word2 .ensures .1)),
+      second-done (s .args .form) (s .args .size) (s .args .cells .now) (s .args .a) (s .args .b) (s .pre .3) (s .pre .4) (s .args .input .now)
+          (place (s .args .begin)) (place (next n))
+          (bits s (words k)) (defined k .pair (s .args .size)) (mid w) (first-read n .1) after (v .read-word2 .result)
+          (subst (λ cell. WordDone (s .args .input .now) (place (next n)) (s .args .form) (s .args .size) (mid w) cell after (v .read-word2 .result))
+          (head k .before .cell-at2 .ensures) (v .read-word2 .ensures .1)),
     )
 
 pub read-pair-spec : {M : Type 1} → statement M
 read-pair-spec =
     tie.close
     (tie.spec
-    next-field-requires
-    enum-known-bit
-    enum-told
-    returns
     cell-at-requires
     cell-at-requires-2
+    read-head-requires
+    enum-told
+    enum-known-behind
     slice-write-cells
     slice-write-cells-2
-    add-t16
-    same-length
-    returns-2
-    add-read-word
+    enum-known-words
     read-word-requires
     enum-told-2
     enum-told-3
     enum-known-next
     read-word-requires-2
+    returns
+    same-length
+    returns-2
     same-length-2
     returns-3
     same-length-3

@@ -1,122 +1,171 @@
--- `images::read_rows` meets its contract. The loop's invariant: the rows read stand in their cells, and the rest of the table is left.
-use mathlib.Core.Path.{sym, subst, _∙_}
-use Prim.Native.Nat.{_+_, _-_, _*_, _≤_}
+-- `images::tables::read_rows` meets its contract. The loop's invariant: the rows read stand in their cells, and the other rows are left.
+use mathlib.Core.Path.{_≡_, sym, subst, _∙_}
+use mathlib.Core.List.{List}
+use Prim.Native.Nat.{ℕ, _+_, _-_}
 use native.Mathlib.Omega.{arith}
 use borrow.Author.Needs.{needs}
 use lib.ListN.{length}
-use Rattle.model.specs.Images.{pairField}
-use Rattle.bits.proofs.Width.{width-small}
+use Rattle.model.specs.Outcome.{unplaced, refused}
+use Rattle.model.specs.Images.{several}
 use Rattle.images.specs.Fields.{from}
-use Rattle.images.specs.Tables.{RowDone}
-use Rattle.images.proofs.Rows.{RowsFilled, image-rows-none, image-rows-more, row-refused, rows-answered, rows-tail}
+use Rattle.images.specs.Forms.{pairIn, rowsIn}
+use Rattle.images.specs.BitReader.{place, Reads}
+use Rattle.images.specs.Tables.{RowDone, RowFrom}
+use Rattle.images.specs.declared.bit_reader.BitReader.{BitReader}
+use Rattle.images.specs.declared.tables.TablePart.{TablePart}
+use Rattle.images.proofs.Rows.{RowsFilled, rows-none, rows-more, row-refused, rows-answered, rows-tail}
 use Rattle.images.proofs.tables.read_rows.Statement.{statement}
 use Rattle.images.proofs.tables.read_rows.Tie as tie
 
 abbrev Inv-loop : tie.InvT-loop
-Inv-loop image begin size cells₀ width at₀ a₀ cells at a =
-    RowsFilled (pairField size) (from image) (8 * length image) begin size cells₀ cells at a
+Inv-loop input form size cells₀ reader₀ a₀ cells reader a =
+    Reads input reader × RowsFilled (pairIn form size) (from input (place reader₀)) size cells₀ cells (from input (place reader)) a
 
 abbrev μ-loop : tie.MeasureT-loop
-μ-loop image begin size cells₀ width at₀ a₀ cells at a =
-    size + 1 - a
+μ-loop input form size cells₀ reader₀ a₀ cells reader a = size + 1 - a
 
-letter-width-requires : tie.Need-letter-width-requires Inv-loop μ-loop
-letter-width-requires c κs = ((c .before .before) .pre .some, (c .before .before) .pre .few)
+abbrev start : tie.At-loop Inv-loop μ-loop → tie.Start Inv-loop μ-loop
+start c = c .before .before .before
 
-cast-width : tie.Need-cast-width Inv-loop μ-loop
-cast-width c = search needs
+abbrev bits : tie.Start Inv-loop μ-loop → BitReader → List ℕ
+bits c r = from (c .args .input .now) (place r)
+
+kept : (c : tie.At-loop Inv-loop μ-loop) → length (c .loop .cells) ≡ length (start c .args .cells .now)
+kept c = c .loop .inv .1 .blank .full ∙ sym (start c .pre .4 .full)
+
+-- a row that was read
+abbrev loop : tie.After-read-row Inv-loop μ-loop → tie.At-loop Inv-loop μ-loop
+loop c = c .before .before .before
+
+abbrev began : tie.After-read-row Inv-loop μ-loop → tie.Start Inv-loop μ-loop
+began c = start (loop c)
+
+abbrev filled : tie.After-read-row Inv-loop μ-loop → List ℕ
+filled c = c .read-row .last .1 .1 .1 .1 .0
+
+returned : (c : tie.After-read-row Inv-loop μ-loop) → length (filled c) ≡ length (began c .args .cells .now)
+returned c = c .read-row .ensures .0 ∙ kept (loop c)
+
+told : (c : tie.After-read-row Inv-loop μ-loop) (r : TablePart) → c .read-row .result ≡ r
+    → RowDone (began c .args .input .now) (place (loop c .loop .reader)) (began c .args .form) (began c .args .size) (loop c .loop .cells) (loop c .loop .a)
+    (filled c) r
+told c r e =
+    let l = loop c in
+    let s = start l in
+    subst (RowDone (s .args .input .now) (place (l .loop .reader)) (s .args .form) (s .args .size) (l .loop .cells) (l .loop .a) (filled c)) e
+    (c .read-row .ensures .1)
+
+refused-by : (c : tie.After-read-row Inv-loop μ-loop) (n : ℕ)
+    → several (pairIn (began c .args .form) (began c .args .size)) (began c .args .size - loop c .loop .a) (bits (began c) (loop c .loop .reader))
+    ≡ refused n unplaced
+    → (excess : List ℕ) → rowsIn (began c .args .form) (began c .args .size) excess (bits (began c) (began c .args .begin)) ≡ refused n unplaced
+refused-by c n e excess =
+    let l = loop c in
+    let s = start l in
+    row-refused (s .args .form) (bits s (s .args .begin)) (s .args .size) (s .pre .2) (s .pre .3) (s .args .cells .now) (l .loop .cells)
+    (bits s (l .loop .reader)) (l .loop .a)
+    (l .loop .inv .1) excess n (c .before .before .loop-test .taken) e
 
 loop-holds : tie.Need-loop-holds Inv-loop μ-loop
 loop-holds c =
-    let s = (c .before .before .before) in image-rows-none (s .args .image .now) (s .args .begin) (s .args .size) (s .pre .some) (s .pre .few) (s .args .cells .now) (s .pre .inside) (s .pre .blank)
+    let s = c .before .before in (
+      s .pre .0,
+      rows-none (pairIn (s .args .form) (s .args .size)) (bits s (s .args .begin)) (s .args .size) (s .pre .2) (s .pre .3) (s .args .cells .now)
+          (s .pre .4),
+    )
 
 read-row-requires : tie.Need-read-row-requires Inv-loop μ-loop
 read-row-requires c κs =
-    let s = (c .before .before .before .before .before .before) in
-    let l = c .before .before .loop in
-    let near : l .at + 2064 ≤ 65536 = omega (arith, l .inv .near, l .inv .some-left, c .before .loop-test .taken, s .pre .small, s .pre .few) in (
-      record {
-        inside = l .inv .inside;
-        small = omega arith;
-        some = s .pre .some;
-        few = s .pre .few;
-        narrow = subst (λ n. n ≤ 4) (sym (c .before .before .before .letter-width .ensures)) (width-small (s .args .size));
-        width-is = c .before .before .before .letter-width .ensures;
-      },
-      l .inv .positive,
-      c .before .loop-test .taken,
-      l .inv .blank .full,
-      omega arith,
-    )
+    let l = c .before .before in
+    let s = start l in
+    (l .loop .inv .0, s .pre .1, l .loop .inv .1 .positive, c .before .loop-test .taken, s .pre .3, l .loop .inv .1 .blank .full)
 
 enum-told : tie.Need-enum-told Inv-loop μ-loop
 enum-told c = search needs
 
 same-length : tie.Need-same-length Inv-loop μ-loop
-same-length c =
-    c .before .before .before .before .read-row .ensures .0 ∙ (c .before .before .before .before .before .before .before .loop .inv .blank .full ∙ sym ((c .before .before .before .before .before .before .before .before .before .before .before) .pre .blank .full))
+same-length c = returned (c .before .before .before .before)
 
 returns : tie.Need-returns Inv-loop μ-loop
 returns c =
-    let s = (c .before .before .before .before .before .before .before .before .before .before .before) in
-    let l = c .before .before .before .before .before .before .before .loop in
-    (c .before .before .before .before .read-row .ensures .0 ∙ (l .inv .blank .full ∙ sym (s .pre .blank .full)), λ excess w. row-refused (s .args .image .now) (s .args .begin) (s .args .size) (s .pre .some) (s .pre .few) (s .args .cells .now) (l .cells) (l .at) (l .a) (l .inv) excess 1 (c .before .before .before .before .before .before .loop-test .taken) (subst (RowDone (s .args .image .now) (l .at) (s .args .size) (l .cells) (l .a) (c .before .before .before .before .read-row .last .1 .1 .1 .1 .0)) (c .enum-told .given .1) (c .before .before .before .before .read-row .ensures .1)))
+    let r = c .before .before .before .before in
+    (returned r, λ excess w. refused-by r 1 (told r _ (c .enum-told .given .1)) excess)
 
 enum-told-2 : tie.Need-enum-told-2 Inv-loop μ-loop
 enum-told-2 c = search needs
 
 same-length-2 : tie.Need-same-length-2 Inv-loop μ-loop
-same-length-2 c =
-    c .before .before .before .before .read-row .ensures .0 ∙ (c .before .before .before .before .before .before .before .loop .inv .blank .full ∙ sym ((c .before .before .before .before .before .before .before .before .before .before .before) .pre .blank .full))
+same-length-2 c = returned (c .before .before .before .before)
 
 returns-2 : tie.Need-returns-2 Inv-loop μ-loop
 returns-2 c =
-    let s = (c .before .before .before .before .before .before .before .before .before .before .before) in
-    let l = c .before .before .before .before .before .before .before .loop in
-    (c .before .before .before .before .read-row .ensures .0 ∙ (l .inv .blank .full ∙ sym (s .pre .blank .full)), λ excess w. row-refused (s .args .image .now) (s .args .begin) (s .args .size) (s .pre .some) (s .pre .few) (s .args .cells .now) (l .cells) (l .at) (l .a) (l .inv) excess 2 (c .before .before .before .before .before .before .loop-test .taken) (subst (RowDone (s .args .image .now) (l .at) (s .args .size) (l .cells) (l .a) (c .before .before .before .before .read-row .last .1 .1 .1 .1 .0)) (c .enum-told2 .given .1) (c .before .before .before .before .read-row .ensures .1)))
+    let r = c .before .before .before .before in
+    (returned r, λ excess w. refused-by r 2 (told r _ (c .enum-told2 .given .1)) excess)
 
-enum-known-next : tie.Need-enum-known-next Inv-loop μ-loop
-enum-known-next c = search needs
+enum-known-after : tie.Need-enum-known-after Inv-loop μ-loop
+enum-known-after c = search needs
+
+-- the loop goes on
+abbrev turn : tie.After-known-told Inv-loop μ-loop → tie.After-read-row Inv-loop μ-loop
+turn c = c .before .before .before .before .before
+
+abbrev after : tie.After-known-told Inv-loop μ-loop → BitReader
+after c = c .before .after .given .0 .0
+
+read : (c : tie.After-known-told Inv-loop μ-loop) → Reads (began (turn c) .args .input .now) (after c)
+    × RowFrom (pairIn (began (turn c) .args .form) (began (turn c) .args .size)) (began (turn c) .args .size) (loop (turn c) .loop .cells)
+    (loop (turn c) .loop .a)
+    (filled (turn c)) (bits (began (turn c)) (loop (turn c) .loop .reader)) (bits (began (turn c)) (after c))
+read c = told (turn c) _ (c .before .after .given .1)
 
 add-a : tie.Need-add-a Inv-loop μ-loop
-add-a c =
-    omega (arith, c .before .before .before .before .before .before .before .loop-test .taken, (c .before .before .before .before .before .before .before .before .before .before .before .before) .pre .few)
+add-a c = omega (arith, turn c .before .before .loop-test .taken, began (turn c) .pre .3)
 
 loop-less : tie.Need-loop-less Inv-loop μ-loop
-loop-less c = omega (arith, c .before .before .before .before .before .before .before .loop-test .taken)
+loop-less c = omega (arith, turn c .before .before .loop-test .taken)
 
 loop-again : tie.Need-loop-again Inv-loop μ-loop
 loop-again c =
-    let s = (c .before .before .before .before .before .before .before .before .before .before .before .before) in
-    let l = c .before .before .before .before .before .before .before .before .loop in
-    image-rows-more (s .args .image .now) (s .args .begin) (s .args .size) (s .pre .some) (s .pre .few) (s .args .cells .now) (l .cells) (l .at) (l .a) (l .inv) (c .before .before .before .before .before .before .before .loop-test .taken) (c .before .before .before .before .before .read-row .last .1 .1 .1 .1 .0) (c .before .next .given .0 .0) (c .before .before .before .before .before .read-row .ensures .0)
-    (subst (RowDone (s .args .image .now) (l .at) (s .args .size) (l .cells) (l .a) (c .before .before .before .before .before .read-row .last .1 .1 .1 .1 .0)) (c .before .next .given .1) (c .before .before .before .before .before .read-row .ensures .1))
+    let r = turn c in
+    let l = loop r in
+    let s = start l in (
+      read c .0,
+      rows-more (pairIn (s .args .form) (s .args .size)) (bits s (s .args .begin)) (s .args .size) (s .pre .2) (s .pre .3) (s .args .cells .now)
+          (l .loop .cells)
+          (bits s (l .loop .reader)) (l .loop .a) (l .loop .inv .1) (r .before .before .loop-test .taken) (filled r) (bits s (after c))
+          (r .read-row .ensures .0) (read c .1),
+    )
 
-is-filling-requires : tie.Need-is-filling-requires Inv-loop μ-loop
-is-filling-requires c κs =
-    let s = (c .before .before .before .before .before) in
-    let l = c .before .loop in
-    record { narrow = omega arith; inside = l .inv .inside; small = omega (arith, l .inv .near, l .inv .some-left, s .pre .small, s .pre .few) }
+is-end-requires : tie.Need-is-end-requires Inv-loop μ-loop
+is-end-requires c κs = c .before .loop .inv .0
 
 same-length-3 : tie.Need-same-length-3 Inv-loop μ-loop
-same-length-3 c =
-    c .before .before .before .loop .inv .blank .full ∙ sym ((c .before .before .before .before .before .before .before) .pre .blank .full)
+same-length-3 c = kept (c .before .before .before)
 
 returns-3 : tie.Need-returns-3 Inv-loop μ-loop
 returns-3 c =
-    let s = (c .before .before .before .before .before .before .before) in
-    let l = c .before .before .before .loop in
-    (l .inv .blank .full ∙ sym (s .pre .blank .full), λ excess w. rows-answered (s .args .image .now) (s .args .begin) (s .args .size) (s .pre .some) (s .pre .few) (s .args .cells .now) (l .cells) (l .at) (l .a) (l .inv) excess (c .before .before .loop-test .left) (sym (c .before .is-filling .ensures) ∙ c .if1 .taken) w)
+    let l = c .before .before .before in
+    let s = start l in (
+      kept l,
+      λ excess w.
+          rows-answered (s .args .form) (bits s (s .args .begin)) (s .args .size) (s .pre .2) (s .pre .3) (s .args .cells .now) (l .loop .cells)
+          (bits s (l .loop .reader))
+          (l .loop .a) (l .loop .inv .1) excess (c .before .before .loop-test .left) (sym (c .before .is-end .ensures) ∙ c .if1 .taken) w,
+    )
 
 same-length-4 : tie.Need-same-length-4 Inv-loop μ-loop
-same-length-4 c =
-    c .before .before .before .loop .inv .blank .full ∙ sym ((c .before .before .before .before .before .before .before) .pre .blank .full)
+same-length-4 c = kept (c .before .before .before)
 
 returns-4 : tie.Need-returns-4 Inv-loop μ-loop
 returns-4 c =
-    let s = (c .before .before .before .before .before .before .before) in
-    let l = c .before .before .before .loop in
-    (l .inv .blank .full ∙ sym (s .pre .blank .full), λ excess w. rows-tail (s .args .image .now) (s .args .begin) (s .args .size) (s .pre .some) (s .pre .few) (s .args .cells .now) (l .cells) (l .at) (l .a) (l .inv) excess (c .before .before .loop-test .left) (sym (c .before .is-filling .ensures) ∙ c .if1 .left))
+    let l = c .before .before .before in
+    let s = start l in (
+      kept l,
+      λ excess w.
+          rows-tail (s .args .form) (bits s (s .args .begin)) (s .args .size) (s .pre .2) (s .pre .3) (s .args .cells .now) (l .loop .cells)
+          (bits s (l .loop .reader))
+          (l .loop .a) (l .loop .inv .1) excess (c .before .before .loop-test .left) (sym (c .before .is-end .ensures) ∙ c .if1 .left),
+    )
 
 pub read-rows-spec : {M : Type 1} → statement M
 read-rows-spec =
@@ -124,8 +173,6 @@ read-rows-spec =
     (tie.spec
     Inv-loop
     μ-loop
-    letter-width-requires
-    cast-width
     loop-holds
     read-row-requires
     enum-told
@@ -134,11 +181,11 @@ read-rows-spec =
     enum-told-2
     same-length-2
     returns-2
-    enum-known-next
+    enum-known-after
     add-a
     loop-less
     loop-again
-    is-filling-requires
+    is-end-requires
     same-length-3
     returns-3
     same-length-4

@@ -1,16 +1,14 @@
 -- `packing::pack_table::pack` meets its contract.
-use mathlib.Core.Path.{_≡_, sym, ap, subst, _∙_}
-use mathlib.Core.List.{List}
-use Prim.Native.Nat.{ℕ}
+use mathlib.Core.Path.{_≡_, ap, subst, _∙_}
 use lib.ListN.{length}
 use Rattle.cells.proofs.Rules.{blank-zeros, of-some, of-few}
 use Rattle.plain_forms.specs.Reading.{PlainTableDone, PlainTableOf}
 use Rattle.model.specs.Bits.{pack}
 use Rattle.model.specs.Images.{readTable, tableImage}
 use Rattle.model.specs.Plain.{readPlainTable}
-use Rattle.model.specs.Services.{fitted, packTable, unpackTable}
+use Rattle.model.specs.Services.{packTable, unpackTable}
 use Rattle.writers.specs.Filling.{Fills}
-use Rattle.writers.specs.Forms.{imageForm, tableAs}
+use Rattle.writers.specs.Forms.{tableAs}
 use Rattle.writers.proofs.Parts.{loaded-weights, loaded-table}
 use Rattle.writers.proofs.TableForms.{image-fits, image-bits}
 use Rattle.packing.proofs.Packing.{refused-keeps, fills-keeps, plain-refused, plain-read}

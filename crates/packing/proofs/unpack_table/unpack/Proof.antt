@@ -1,16 +1,14 @@
 -- `packing::unpack_table::unpack` meets its contract.
-use mathlib.Core.Path.{_≡_, sym, ap, subst, _∙_}
-use mathlib.Core.List.{List}
-use Prim.Native.Nat.{ℕ}
+use mathlib.Core.Path.{_≡_, ap, subst, _∙_}
 use lib.ListN.{length}
-use Rattle.cells.proofs.Rules.{blank-zeros, of-some, of-few}
+use Rattle.cells.proofs.Rules.{blank-zeros, of-few}
 use Rattle.images.specs.Tables.{TableDone, TableOf}
 use Rattle.model.specs.Bits.{pack}
 use Rattle.model.specs.Images.{readTable}
 use Rattle.model.specs.Plain.{readPlainTable, plainTable}
-use Rattle.model.specs.Services.{fitted, packTable, unpackTable}
+use Rattle.model.specs.Services.{packTable, unpackTable}
 use Rattle.writers.specs.Filling.{Fills}
-use Rattle.writers.specs.Forms.{plainForm, tableAs}
+use Rattle.writers.specs.Forms.{tableAs}
 use Rattle.writers.proofs.Parts.{loaded-weights, loaded-table}
 use Rattle.writers.proofs.TableForms.{plain-fits, plain-packed}
 use Rattle.images.proofs.RoundTrip.{table-in-range}

@@ -1,13 +1,27 @@
-// How a table is written out: as an image (specification 5.4) or in plain form (5.7).
+// The forms of a table: its image (specification 5.4) and its plain form (5.7). Both are read and written by one driver.
 
 ghost use mathlib.Core.Path.{_≡_};
 ghost use Prim.Native.Nat.{_≤_};
-ghost use Rattle.writers.specs.Forms.{imageForm, plainForm};
+ghost use Rattle.images.specs.Forms.{imageForm, plainForm, formOf};
 use cells::layout::UNDEFINED;
-use images::tables::DEFINED_BITS;
-use images::tables::LENGTH_BITS;
-use images::tables::SIZE_BITS;
-use images::tables::WEIGHT_BITS;
+
+// The bits of a table's number of letters, of a weight, of the mark that a pair is defined, and of a word's length.
+const SIZE_BITS: u32 = 4;
+
+const WEIGHT_BITS: u32 = 3;
+
+const DEFINED_BITS: u32 = 1;
+
+const LENGTH_BITS: u32 = 4;
+
+// The bits of every field of a plain form.
+const BYTE_BITS: u32 = 8;
+
+// Which of the forms a table has.
+pub enum Kind {
+    Image,
+    Plain,
+}
 
 // The widths of the fields, and what is written in them: the number of letters less `less`, a weight above 1 with `more`, `mark` for an undefined
 // pair, `head` before the two words of any other pair, the length of a word, and a letter less `less`.
@@ -30,11 +44,11 @@ pub fn image_form(size: u8) -> Form
     ensures { λ r. ⌜ r ≡ imageForm size ⌝ }
 {
     Form {
-        sizes: SIZE_BITS as u32,
-        weights: WEIGHT_BITS as u32,
-        opens: DEFINED_BITS as u32,
-        heads: DEFINED_BITS as u32,
-        lengths: LENGTH_BITS as u32,
+        sizes: SIZE_BITS,
+        weights: WEIGHT_BITS,
+        opens: DEFINED_BITS,
+        heads: DEFINED_BITS,
+        lengths: LENGTH_BITS,
         letters: bits::letter_width(size) as u32,
         less: 1,
         more: 0,
@@ -48,15 +62,26 @@ pub fn plain_form() -> Form
     ensures { λ r. ⌜ r ≡ plainForm ⌝ }
 {
     Form {
-        sizes: 8,
-        weights: 8,
-        opens: 8,
+        sizes: BYTE_BITS,
+        weights: BYTE_BITS,
+        opens: BYTE_BITS,
         heads: 0,
-        lengths: 8,
-        letters: 8,
+        lengths: BYTE_BITS,
+        letters: BYTE_BITS,
         less: 0,
         more: 1,
         mark: UNDEFINED,
         head: 0,
+    }
+}
+
+// The form of a table of so many letters.
+pub fn form_of(kind: Kind, size: u8) -> Form
+    requires { ⌜ (1 ≤ size) × (size ≤ 16) ⌝ }
+    ensures { λ r. ⌜ r ≡ formOf kind size ⌝ }
+{
+    match kind {
+        Kind::Image => image_form(size),
+        Kind::Plain => plain_form(),
     }
 }
