@@ -18,7 +18,8 @@ use Rattle.reversal.specs.declared.asked.Asked.{Asked}
 use Rattle.reversal.specs.declared.asked.Asked.the-variants.{Reverse, LeftReverse, Commit}
 
 -- a program that was run under the cells: its answer, and a workspace all zero
-pub record ProgramAnswered (asked : Asked) (cells : List ℕ) (size : ℕ) (program : List ℕ) (budget : ℕ) (workspace workspace′ before after : List ℕ) (r : Reversed) : Type 0 where
+pub record ProgramAnswered (asked : Asked) (cells : List ℕ) (size : ℕ) (program : List ℕ) (budget : ℕ) (workspace workspace′ before after : List ℕ)
+    (r : Reversed) : Type 0 where
   pub wiped : workspace′ ≡ replicate (length workspace) 0
   pub answers : (T : Presentation) → Of cells size T → (w : Word) → readProgram size program ≡ answered w
       → Answers (madeOf asked (length before) (reversing T budget (length workspace) (facing asked w))) before after r
@@ -46,3 +47,7 @@ abbrev pub outcomeOf : Asked → List ℕ → List ℕ → ℕ → ℕ → ℕ �
 outcomeOf Reverse table program steps width area = reverse table program steps width area
 outcomeOf LeftReverse table program steps width area = leftReverse table program steps width area
 outcomeOf (Commit h) table program steps width area = commit table program steps width (handed h) area
+
+abbrev pub ImagesAnswered : Asked → List ℕ → List ℕ → ℕ → List ℕ → List ℕ → List ℕ → List ℕ → Reversed → Type 0
+ImagesAnswered asked table program steps workspace workspace′ before after r =
+    States (outcomeOf asked table program steps (length workspace) (length before)) workspace workspace′ before after r
