@@ -55,8 +55,8 @@ made-late LeftReverse area e = fraction-late area (readBackward e)
 made-late (Commit h) area e = committed-late (handed h) area e
 
 -- a wiped workspace, and what an ending comes to
-pub answered-states : (asked : Asked) (e : Ending) (o : Outcome Fraction) {workspace workspace′ before after : List ℕ} {r : Reversed} → o ≡ madeOf asked (length before) e
-    → workspace′ ≡ replicate (length workspace) 0 → Answers (madeOf asked (length before) e) before after r → States o workspace workspace′ before after r
+pub answered-states : (asked : Asked) (e : Ending) (o : Outcome Fraction) {workspace workspace′ before after : List ℕ} {r : Reversed}
+    → o ≡ madeOf asked (length before) e → workspace′ ≡ replicate (length workspace) 0 → Answers (madeOf asked (length before) e) before after r → States o workspace workspace′ before after r
 answered-states asked e o {workspace} {workspace′} {before} is z a =
     record {
       result = a .result ∙ sym (ap (mapped sizes) is);
@@ -65,8 +65,9 @@ answered-states asked e o {workspace} {workspace′} {before} is z a =
     }
 
 -- a program run under the table itself
-pub rightward : (asked : Asked) {cells : List ℕ} {size : ℕ} {program : List ℕ} {budget : ℕ} {workspace workspace′ before after : List ℕ} {r : Reversed} → Rightward asked
-    → ProgramAnswered asked cells size program budget workspace workspace′ before after r → LoadedAnswered asked cells size program budget workspace workspace′ before after r
+pub rightward : (asked : Asked) {cells : List ℕ} {size : ℕ} {program : List ℕ} {budget : ℕ} {workspace workspace′ before after : List ℕ} {r : Reversed}
+    → Rightward asked → ProgramAnswered asked cells size program budget workspace workspace′ before after r
+    → LoadedAnswered asked cells size program budget workspace workspace′ before after r
 rightward Reverse {budget = b} {workspace = k} t z T o w e = answered-states Reverse (reversing T b (length k) w) _ refl (z .wiped) (z .answers T o w e)
 rightward LeftReverse t z T o w e = absurd t
 rightward (Commit h) {budget = b} {workspace = k} t z T o w e = answered-states (Commit h) (reversing T b (length k) w) _ refl (z .wiped) (z .answers T o w e)
@@ -96,7 +97,8 @@ module _ (table program : List ℕ) (steps width area : ℕ) where
   abbrev rest : Asked → Presentation → Word → Outcome Fraction
   rest asked T w = loadedOf asked T w steps width area
 
-  pub images-refused : (asked : Asked) (r : Refusal) → readTableWith readProgram table program ≡ refusal r → AsFound (outcomeOf asked table program steps width area) r
+  pub images-refused : (asked : Asked) (r : Refusal) → readTableWith readProgram table program ≡ refusal r
+      → AsFound (outcomeOf asked table program steps width area) r
   unfolding reverse leftReverse commit
   images-refused Reverse = program-refused readProgram table program (rest Reverse) program-early
   images-refused LeftReverse = program-refused readProgram table program (rest LeftReverse) program-early

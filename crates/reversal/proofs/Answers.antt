@@ -65,7 +65,8 @@ module _ (T : Presentation) (word : Word) (steps : ℕ) (workspace before : List
   pub was-stopped : (s : Stop) (why : Refusal) → why ≡ stopRefusal s → Reverses T word steps workspace (Stopped s) → Answers outcome before before (Refused why)
   was-stopped s why e q =
       let h = halted T word steps workspace s q in
-      answers-by (stopped (h .stop)) (h .is) (Refused why) before (ap refusal e ∙ sym (ap (λ x. refusal (stopRefusal x)) (h .told)) ∙ stop-numbered (h .stop)) refl
+      answers-by (stopped (h .stop)) (h .is) (Refused why) before
+      (ap refusal e ∙ sym (ap (λ x. refusal (stopRefusal x)) (h .told)) ∙ stop-numbered (h .stop)) refl
 
 -- any of them comes after the work has begun
 pub fraction-late : (area : ℕ) (e : Ending) → Late (fractionOf area e)

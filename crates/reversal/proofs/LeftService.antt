@@ -49,7 +49,8 @@ module _ (T : Presentation) (w : Word) (steps : ℕ) (workspace before : List �
   pub no-mirror : (p : Pair) → mirrorCheck T ≡ refusal (NoMirror p)
       → States (leftFraction T w steps (length workspace) (length before)) workspace workspace before before (Refused (NoMirror p))
   no-mirror p e =
-      run-states _ (refusal (NoMirror p)) (no-mirror-outcome T w steps (length workspace) (length before) p e) (record { result = refl; area = refl; work = refl })
+      run-states _ (refusal (NoMirror p)) (no-mirror-outcome T w steps (length workspace) (length before) p e)
+      (record { result = refl; area = refl; work = refl })
 
   pub has-mirror : mirrorCheck T ≡ answered tt → (workspace′ after : List ℕ) (r : Reversed) → workspace′ ≡ replicate (length workspace) 0
       → Answers (underMirror T w steps (length workspace) (length before)) before after r
@@ -90,7 +91,8 @@ module _ (table program : List ℕ) (steps : ℕ) (workspace before : List ℕ) 
     where
       says : LeftMeaning table program steps (length workspace) before after told
       says T e w f m =
-          let o = images-run table program steps (length workspace) (length before) LeftReverse T e w f ∙ under-mirror T w steps (length workspace) (length before) m in
+          let o = images-run table program steps (length workspace) (length before) LeftReverse T e w f
+          ∙ under-mirror T w steps (length workspace) (length before) m in
           let told-is = t ∙ ap (mapped sizes) o in
           let written-is = a ∙ ap (λ q. outputAfter fractionBytes q before) o in
           let right = reversing (mirror T) steps (length workspace) (reverse w) in

@@ -47,3 +47,7 @@ abbrev pub outcomeOf : Asked → List ℕ → List ℕ → ℕ → ℕ → ℕ �
 outcomeOf Reverse table program steps width area = reverse table program steps width area
 outcomeOf LeftReverse table program steps width area = leftReverse table program steps width area
 outcomeOf (Commit h) table program steps width area = commit table program steps width (handed h) area
+
+abbrev pub ImagesAnswered : Asked → List ℕ → List ℕ → ℕ → List ℕ → List ℕ → List ℕ → List ℕ → Reversed → Type 0
+ImagesAnswered asked table program steps workspace workspace′ before after r =
+    States (outcomeOf asked table program steps (length workspace) (length before)) workspace workspace′ before after r

@@ -105,7 +105,8 @@ module _ (table logs pattern : List ℕ) (steps width area : ℕ) where
           judges : Images Positive → Outcome Verdict
           judges i = comparison (i .table) (i .first) (i .second) steps width
 
-          by-log : (o : Outcome Positive) → ((o >>= λ u. answered (record { table = T; word = u })) >>= then-pattern >>= judges) ≡ (o >>= λ u. forwardVerdict T u v steps width)
+          by-log : (o : Outcome Positive)
+              → ((o >>= λ u. answered (record { table = T; word = u })) >>= then-pattern >>= judges) ≡ (o >>= λ u. forwardVerdict T u v steps width)
           by-log (answered u) =
               goes-on (then-pattern (record { table = T; word = u })) _ (goes-on (readForward (T .size) pattern) v pattern-read _) judges
               ∙ goes-on (cleared T steps width) tt clear _
@@ -209,7 +210,8 @@ record AnswerShows (pattern : List ℕ) (steps width : ℕ) (images : List (List
 module _ (table logs pattern : List ℕ) (steps width area : ℕ) (vs : List (Outcome Verdict)) (e : tray table logs pattern steps width area ≡ answered vs)
     (images : List (List ℕ)) (tray-read : readTray logs ≡ answered images) (T : Presentation) (table-read : readTable table ≡ answered T) where
   abbrev clears-all : TableWith Positive → Outcome (List (Outcome Verdict))
-  clears-all l = cleared (l .table) steps width >>= λ ok. unless (ltb area (3 * length images)) 13 (map (λ image. compare table image pattern steps width) images)
+  clears-all l =
+      cleared (l .table) steps width >>= λ ok. unless (ltb area (3 * length images)) 13 (map (λ image. compare table image pattern steps width) images)
 
   by-pattern : (o : Outcome Positive) → ((o >>= λ w. answered (record { table = T; word = w })) >>= clears-all) ≡ answered vs
       → (v : Positive) × (o ≡ answered v) × (clears-all (record { table = T; word = v }) ≡ answered vs)

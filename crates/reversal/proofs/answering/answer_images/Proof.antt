@@ -16,7 +16,8 @@ start c = c .before .before .before .before .before .before
 done : (c : tie.After-read-table-program) (r : TableProgram) → c .read-table-program .result ≡ r
     → TableProgramDone (start c .args .table .now) (start c .args .program .now) Any (c .read-table-program .last .1 .1 .1 .0) r
 done c r e =
-    subst (TableProgramDone (start c .args .table .now) (start c .args .program .now) Any (c .read-table-program .last .1 .1 .1 .0)) e (c .read-table-program .ensures)
+    let v = c .read-table-program in
+    subst (TableProgramDone (start c .args .table .now) (start c .args .program .now) Any (v .last .1 .1 .1 .0)) e (v .ensures)
 
 -- the images that were read
 abbrev reading : tie.After-read2 → tie.After-read-table-program
@@ -36,8 +37,8 @@ returns c =
     let k = c .before .before .before .before in
     let a = start k .args in
     let r = c .before .read .given in
-    let f = images-refused (a .table .now) (a .program .now) (a .allowance) (length (a .workspace .now)) (length (a .answer .now)) (a .asked) (r .0 .0) (done k _ (r .1)) in
-    refused-states _ (r .0 .0) f (a .workspace .now) (a .answer .now)
+    let refuses = images-refused (a .table .now) (a .program .now) (a .allowance) (length (a .workspace .now)) (length (a .answer .now)) (a .asked) in
+    refused-states _ (r .0 .0) (refuses (r .0 .0) (done k _ (r .1))) (a .workspace .now) (a .answer .now)
 
 returns-2 : tie.Need-returns-2
 returns-2 c =
@@ -46,8 +47,8 @@ returns-2 c =
     let t = done (reading k) _ (k .read2 .given .1) in
     let p = t .runs in
     let q = p .accepted .program in
-    run-states _ _
-    (images-run (a .table .now) (a .program .now) (a .allowance) (length (a .workspace .now)) (length (a .answer .now)) (a .asked) (p .table) (t .table-read) (q .word) (t .program-read))
+    let runs = images-run (a .table .now) (a .program .now) (a .allowance) (length (a .workspace .now)) (length (a .answer .now)) (a .asked) in
+    run-states _ _ (runs (p .table) (t .table-read) (q .word) (t .program-read))
     (answered c .answer-loaded .ensures (p .table) (p .of) (q .word) (q .read))
 
 pub answer-images-spec : {M : Type 1} → statement M

@@ -25,7 +25,8 @@ returns c =
     let a = start told .args in
     let z = k .answer-mirrored in
     let after = z .last .1 .1 .1 .1 .1 in
-    subst (λ x. LoadedAnswered x (a .cells .now) (a .size) (a .program .now) (a .budget) (a .workspace .now) (after .0) (a .answer .now) (after .1 .0) (z .result))
+    let program = a .program .now in
+    subst (λ x. LoadedAnswered x (a .cells .now) (a .size) program (a .budget) (a .workspace .now) (after .0) (a .answer .now) (after .1 .0) (z .result))
     (sym (told .enum-told .given .1)) (z .ensures)
 
 returns-2 : tie.Need-returns-2

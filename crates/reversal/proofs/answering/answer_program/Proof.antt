@@ -37,7 +37,8 @@ returns c =
     record {
       wiped = w .wipe .ensures ∙ ap (λ i. replicate i 0) (v .0);
       answers = λ T o u e.
-          subst (λ i. Answers (madeOf (x .asked) (length (x .answer .now)) (reversing T (x .budget) i (facing (x .asked) u))) (x .answer .now) (a .last .1 .1 .1 .0) (a .result)) (v .0)
+          let before = x .answer .now in
+          subst (λ i. Answers (madeOf (x .asked) (length before) (reversing T (x .budget) i (facing (x .asked) u))) before (a .last .1 .1 .1 .0) (a .result)) (v .0)
           (a .ensures T (facing (x .asked) u) (x .budget) (v .1 T o u e));
     }
 

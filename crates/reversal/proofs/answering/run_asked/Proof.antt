@@ -19,7 +19,10 @@ returns c =
     let told = k .before .before in
     let a = start told .args in
     let v = k .run-backward in
-    (v .ensures .0, subst (λ x. RunsAs x (a .cells .now) (a .size) (a .program .now) (a .budget) (v .last .1 .1 .1 .1 .1 .0) (v .result)) (sym (told .enum-told .given .1)) (v .ensures .1))
+    let after = v .last .1 .1 .1 .1 .1 .0 in (
+      v .ensures .0,
+      subst (λ x. RunsAs x (a .cells .now) (a .size) (a .program .now) (a .budget) after (v .result)) (sym (told .enum-told .given .1)) (v .ensures .1),
+    )
 
 returns-2 : tie.Need-returns-2
 returns-2 c =
@@ -27,7 +30,8 @@ returns-2 c =
     let a = start2 k .args in
     let v = k .reverse-image in
     let right = is-rightward (a .asked) (k .before .before .match .keys2) in
-    (v .ensures .0, λ T o w e. subst (λ x. Reverses T x (a .budget) (v .last .1 .1 .1 .1 .1 .0) (v .result)) (sym (faces-right (a .asked) right w)) (v .ensures .1 T o w e))
+    let after = v .last .1 .1 .1 .1 .1 .0 in
+    (v .ensures .0, λ T o w e. subst (λ x. Reverses T x (a .budget) after (v .result)) (sym (faces-right (a .asked) right w)) (v .ensures .1 T o w e))
 
 pub run-asked-spec : {M : Type 1} → statement M
 run-asked-spec =

@@ -61,8 +61,8 @@ returns-2 c =
     let k = t .before .before .before in
     let a = start (answered k) .args in
     let g = k .result2 .given in
-    λ T w b p. answered-backward T w b (length (a .workspace .now)) (a .answer .now) (answered k .answer-ending .last .1 .1 .0) (g .0 .0) (g .0 .1 .0) (g .0 .1 .1 .0)
-    (told (answered k) _ (g .1) T w b p) (t .turn-words .last .0) (t .turn-words .ensures)
+    λ T w b p. answered-backward T w b (length (a .workspace .now)) (a .answer .now) (answered k .answer-ending .last .1 .1 .0)
+    (g .0 .0) (g .0 .1 .0) (g .0 .1 .1 .0) (told (answered k) _ (g .1) T w b p) (t .turn-words .last .0) (t .turn-words .ensures)
 
 pub answer-backward-spec : {M : Type 1} → statement M
 answer-backward-spec =

@@ -20,7 +20,8 @@ start c = c .before .before .before .before .before
 done : (c : tie.After-read-table-program) (r : TableProgram) → c .read-table-program .result ≡ r
     → TableProgramDone (start c .args .table .now) (start c .args .program .now) Any (c .read-table-program .last .1 .1 .1 .0) r
 done c r e =
-    subst (TableProgramDone (start c .args .table .now) (start c .args .program .now) Any (c .read-table-program .last .1 .1 .1 .0)) e (c .read-table-program .ensures)
+    let v = c .read-table-program in
+    subst (TableProgramDone (start c .args .table .now) (start c .args .program .now) Any (v .last .1 .1 .1 .0)) e (v .ensures)
 
 -- the images that were read
 abbrev reading : tie.After-read2 → tie.After-read-table-program
