@@ -20,8 +20,8 @@ use Rattle.images.proofs.Codec.{field-codec, input-rest, bits-suffix}
 
 pub form-narrow : (kind : Kind) (size : ℕ) → Narrow (formOf kind size)
 form-narrow Image size =
-    record { weights = omega arith; opens = omega arith; heads = omega arith; lengths = omega arith; letters = omega (arith, width-small size) }
-form-narrow Plain size = record { weights = omega arith; opens = omega arith; heads = omega arith; lengths = omega arith; letters = omega arith }
+    record { weights = omega arith; opens = omega arith; lengths = omega arith; letters = omega (arith, width-small size) }
+form-narrow Plain size = record { weights = omega arith; opens = omega arith; lengths = omega arith; letters = omega arith }
 
 pub sizes-narrow : (kind : Kind) → formOf kind 1 .sizes ≤ 8
 sizes-narrow Image = omega arith
@@ -137,7 +137,7 @@ module _ (size : ℕ) where
 
       go : (o : Outcome (Read ℕ)) → AgreeBits (field 1 1 bits) o
           → AgreeBits (o >>= λ m. cond (eqb (m .value) 0) (answered (record { value = undefined; rest = m .rest }))
-          (o >>= λ h. wordsIn (imageForm size) size (h .rest)))
+          (wordsIn (imageForm size) size (m .rest)))
           (o >>= λ m. cond (eqb (m .value) 0) (answered (record { value = undefined; rest = m .rest })) (definedField size (m .rest)))
       go (answered r) h = pick (eqb (r .value) 0) (r .rest) (h .1)
       go (refused n place) h = refl

@@ -23,12 +23,13 @@ use Rattle.images.specs.declared.tables.TablePart.the-variants.{Next, En
 -- THE HEAD OF A PAIR
 
 module _ (f : Form) (size : ℕ) (bits : List ℕ) where
-  defined : Outcome (Read ℕ) → Outcome (Read Complement)
-  defined o = o >>= λ h. wordsIn f size (h .rest)
+  -- the words of a pair behind what was read for its mark
+  defined : List ℕ → Outcome (Read Complement)
+  defined rest = wordsIn f size (cond (eqb (f .heads) 0) bits rest)
 
   pairOf : Outcome (Read ℕ) → Outcome (Read Complement)
   unfolding defined
-  pairOf o = o >>= λ m. cond (eqb (m .value) (f .mark)) (answered (record { value = undefined; rest = m .rest })) (defined (field 1 (f .heads) bits))
+  pairOf o = o >>= λ m. cond (eqb (m .value) (f .mark)) (answered (record { value = undefined; rest = m .rest })) (defined (m .rest))
 
   pub mark-ends : field 1 (f .opens) bits ≡ refused 1 unplaced → pairIn f size bits ≡ refused 1 unplaced
   unfolding pairOf defined
@@ -37,15 +38,19 @@ module _ (f : Form) (size : ℕ) (bits : List ℕ) where
   module _ (v : ℕ) (rest : List ℕ) (e : field 1 (f .opens) bits ≡ answered (record { value = v; rest = rest })) where
     pub pair-undefined : v ≡ f .mark → pairIn f size bits ≡ answered (record { value = undefined; rest = rest })
     unfolding pairOf defined
-    pair-undefined m =
-        ap pairOf e ∙ ap (λ t. cond t (answered (record { value = undefined; rest = rest })) (defined (field 1 (f .heads) bits))) (eq-eqb v (f .mark) m)
+    pair-undefined m = ap pairOf e ∙ ap (λ t. cond t (answered (record { value = undefined; rest = rest })) (defined rest)) (eq-eqb v (f .mark) m)
 
-    pub pair-defined : (v ≡ f .mark → ⊥) → (o : Outcome (Read ℕ)) → field 1 (f .heads) bits ≡ o → pairIn f size bits ≡ (o >>= λ h. wordsIn f size (h .rest))
-    unfolding pairOf defined
-    pair-defined m o h =
-        ap pairOf e
-        ∙ (ap (λ t. cond t (answered (record { value = undefined; rest = rest })) (defined (field 1 (f .heads) bits))) (ne-eqb v (f .mark) m)
-        ∙ ap defined h)
+    pair-defined : (v ≡ f .mark → ⊥) → pairIn f size bits ≡ defined rest
+    unfolding pairOf
+    pair-defined m = ap pairOf e ∙ ap (λ t. cond t (answered (record { value = undefined; rest = rest })) (defined rest)) (ne-eqb v (f .mark) m)
+
+    pub words-first : (v ≡ f .mark → ⊥) → f .heads ≡ 0 → pairIn f size bits ≡ wordsIn f size bits
+    unfolding defined
+    words-first m h = pair-defined m ∙ ap (λ t. wordsIn f size (cond t bits rest)) (eq-eqb (f .heads) 0 h)
+
+    pub words-behind : (v ≡ f .mark → ⊥) → (f .heads ≡ 0 → ⊥) → pairIn f size bits ≡ wordsIn f size rest
+    unfolding defined
+    words-behind m h = pair-defined m ∙ ap (λ t. wordsIn f size (cond t bits rest)) (ne-eqb (f .heads) 0 h)
 
 -- ITS CELLS
 

@@ -42,7 +42,6 @@ formOf Plain size = plainForm
 pub record Narrow (f : Form) : Type 0 where
   pub weights : f .weights ≤ 8
   pub opens : f .opens ≤ 8
-  pub heads : f .heads ≤ 8
   pub lengths : f .lengths ≤ 8
   pub letters : f .letters ≤ 8
 
@@ -69,11 +68,11 @@ wordsIn f size bits =
     wordIn f size (x .rest) >>= λ y.
     answered (record { value = complement (x .value) (y .value); rest = y .rest })
 
--- where a pair does not begin with the mark of an undefined one, its beginning is read again
+-- where nothing stands before the words of a pair, what was read as its mark is the length of the first
 abbrev pub pairIn : Form → ℕ → List ℕ → Outcome (Read Complement)
 pairIn f size bits =
     field 1 (f .opens) bits >>= λ m.
-    cond (eqb (m .value) (f .mark)) (answered (record { value = undefined; rest = m .rest })) (field 1 (f .heads) bits >>= λ h. wordsIn f size (h .rest))
+    cond (eqb (m .value) (f .mark)) (answered (record { value = undefined; rest = m .rest })) (wordsIn f size (cond (eqb (f .heads) 0) bits (m .rest)))
 
 -- all rows, and the end
 unfoldable pub rowsIn : Form → ℕ → List ℕ → List ℕ → Outcome Presentation

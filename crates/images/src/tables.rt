@@ -106,13 +106,10 @@ pub fn read_head(input: &[u8], begin: BitReader, form: Form) -> Head
             if value == form.mark as u32 {
                 return Head::Undefined(behind);
             }
-            match take(input, begin, form.heads) {
-                Taken::Ends => Head::Ends,
-                Taken::Value {
-                    value: _,
-                    reader: words,
-                } => Head::Words(words),
+            if form.heads == 0 {
+                return Head::Words(begin);
             }
+            Head::Words(behind)
         }
     }
 }

@@ -109,16 +109,10 @@ module _ (size : ℕ) where
       bits : List ℕ
       bits = bitsOf (x ∷ xs)
 
-      -- nothing stands before the words
-      nothing : field 1 0 bits ≡ answered (said 0 bits)
-      nothing = ap (λ t. unless t 1 (said 0 bits)) (le-ltb (length bits) 0 (omega arith))
-
       read : pairIn plainForm size bits ≡ cond (eqb x openByte) (answered (said undefined (bitsOf xs))) (wordsIn plainForm size bits)
       read =
-          ap (λ (o : Outcome (Read ℕ)). o >>= λ m. cond (eqb (m .value) openByte) (answered (said undefined (m .rest)))
-          (field 1 0 bits >>= λ h. wordsIn plainForm size (h .rest)))
+          ap (λ (o : Outcome (Read ℕ)). o >>= λ m. cond (eqb (m .value) openByte) (answered (said undefined (m .rest))) (wordsIn plainForm size bits))
           (byte-read x xs h)
-          ∙ ap (λ (o : Outcome (Read ℕ)). cond (eqb x openByte) (answered (said undefined (bitsOf xs))) (o >>= λ h. wordsIn plainForm size (h .rest))) nothing
 
       pick : (t : Bool) → AgreeBytes (cond t (answered (said undefined (bitsOf xs))) (wordsIn plainForm size bits))
           (cond t (answered (said undefined xs)) (plainDefined size x xs))

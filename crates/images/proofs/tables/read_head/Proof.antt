@@ -10,7 +10,7 @@ use Rattle.images.specs.BitReader.{place, TakenAt, TakenDone}
 use Rattle.images.specs.declared.bit_reader.BitReader.{BitReader}
 use Rattle.images.specs.declared.bit_reader.Taken.{Taken}
 use Rattle.images.proofs.Numbers.{taken-read, taken-ends}
-use Rattle.images.proofs.Pairs.{mark-ends, pair-undefined, pair-defined}
+use Rattle.images.proofs.Pairs.{mark-ends, pair-undefined, words-first, words-behind}
 use Rattle.images.proofs.tables.read_head.Statement.{statement}
 use Rattle.images.proofs.tables.read_head.Tie as tie
 
@@ -42,16 +42,9 @@ read : (c : tie.After-known-told)
     (record { value = value c; rest = from (start (took c) .args .input .now) (place (behind c)) })
 read c = let s = start (took c) in taken-read (s .args .input .now) (s .args .begin) (s .args .form .opens) (value c) (behind c) (taken c)
 
--- what was taken before the words
-abbrev marked : tie.After-take2 → tie.After-known-told
+-- what was taken is no mark
+abbrev marked : tie.After-struct-known2 → tie.After-known-told
 marked c = c .before .before .before
-
-abbrev began : tie.After-take2 → tie.Start
-began c = start (took (marked c))
-
-told-head : (c : tie.After-take2) (r : Taken) → c .take2 .result ≡ r
-    → TakenDone (began c .args .input .now) (began c .args .begin) (began c .args .form .heads) r
-told-head c r e = subst (TakenDone (began c .args .input .now) (began c .args .begin) (began c .args .form .heads)) e (c .take2 .ensures)
 
 take-requires : tie.Need-take-requires
 take-requires c κs = search needs
@@ -71,57 +64,28 @@ returns c =
     let s = start (took k) in
     record { reads = taken k .after .reads; pair = λ size. pair-undefined (s .args .form) size (bits s) (value k) _ (read k) (c .if1 .taken) }
 
-take-requires-2 : tie.Need-take-requires-2
-take-requires-2 c κs = search needs
-
-enum-told-2 : tie.Need-enum-told-2
-enum-told-2 c = search needs
-
-enum-known-words : tie.Need-enum-known-words
-enum-known-words c = search needs
-
 returns-2 : tie.Need-returns-2
 returns-2 c =
+    let k = marked (c .before) in
+    let s = start (took k) in
+    record { reads = s .pre .0; pair = λ size. words-first (s .args .form) size (bits s) (value k) _ (read k) (c .before .before .if1 .left) (c .if2 .taken) }
+
+returns-3 : tie.Need-returns-3
+returns-3 c =
     let t = c .before .before in
     let s = start t in
     λ size.
     mark-ends (s .args .form) size (bits s)
     (taken-ends (s .args .input .now) (s .args .begin) (s .args .form .opens) (s .pre .0) (told t _ (c .enum-told .given .1)))
 
-returns-3 : tie.Need-returns-3
-returns-3 c =
-    let t = c .before .before in
-    let k = marked t in
-    let s = began t in
-    λ size.
-    pair-defined (s .args .form) size (bits s) (value k) _ (read k) (t .before .if1 .left) _
-    (taken-ends (s .args .input .now) (s .args .begin) (s .args .form .heads) (s .pre .0) (told-head t _ (c .enum-told2 .given .1)))
-
 returns-4 : tie.Need-returns-4
 returns-4 c =
-    let t = c .before .before .before in
-    let k = marked t in
-    let s = began t in
-    let words : TakenAt (s .args .input .now) (place (s .args .begin)) (s .args .form .heads) _ _ = told-head t _ (c .before .words .given .1) in
+    let k = marked (c .before) in
+    let s = start (took k) in
     record {
-      reads = words .after .reads;
-      pair = λ size.
-          pair-defined (s .args .form) size (bits s) (value k) _ (read k) (t .before .if1 .left) _
-          (taken-read (s .args .input .now) (s .args .begin) (s .args .form .heads) _ _ words);
+      reads = taken k .after .reads;
+      pair = λ size. words-behind (s .args .form) size (bits s) (value k) _ (read k) (c .before .before .if1 .left) (c .if2 .left);
     }
 
 pub read-head-spec : {M : Type 1} → statement M
-read-head-spec =
-    tie.close
-    (tie.spec
-    take-requires
-    enum-told
-    enum-known-value
-    cast-if1
-    returns
-    take-requires-2
-    enum-told-2
-    enum-known-words
-    returns-2
-    returns-3
-    returns-4)
+read-head-spec = tie.close (tie.spec take-requires enum-told enum-known-value cast-if1 returns returns-2 returns-3 returns-4)
