@@ -43,10 +43,10 @@ put-areas-requires c κs =
     let w = s .args .workspace .now in
     let a = s .args .answer .now in
     let g = k .reversed2 .given in
-    let told = sym (ap reversed (g .1)) ∙ v .ensures .0 in
+    let told = sym (ap reversed (g .1)) ∙ v .ensures .stated in
     let same : length (v .last .1 .1 .1 .1 .0) ≡ length a = k .before .before .before .answer .given in
     let fits = fraction-fits (s .args .table .now) (s .args .program .now) (s .args .size) (s .args .count) (s .pre .1) (length w) (length a)
-    (s .pre .0 .workspace-length) (s .pre .0 .answer-length) (g .0 .0) (g .0 .1 .0) (g .0 .1 .1 .0) told a (v .last .1 .1 .1 .1 .0) (v .ensures .1 .0) same in
+    (s .pre .0 .workspace-length) (s .pre .0 .answer-length) (g .0 .0) (g .0 .1 .0) (g .0 .1 .1 .0) told a (v .last .1 .1 .1 .1 .0) (v .ensures .answer-is) same in
     let few = count-small (s .args .program .now) (s .args .size) (s .args .count) (s .pre .1 .program-read) in
     let u = after-slice-known7 c .before .before .unpack-letters .ensures .0 in (
       omega (arith, few, u, after-workspace k .workspace .given, s .pre .0 .workspace-length),
@@ -61,7 +61,7 @@ returns c =
     let v = after-workspace-from-after-put-refusal-arg k .before .reverse in
     let w = s .args .workspace .now in
     let a = s .args .answer .now in
-    let told = sym (ap reversed (k .before .before .reversed .given .1)) ∙ v .ensures .0 in
+    let told = sym (ap reversed (k .before .before .reversed .given .1)) ∙ v .ensures .stated in
     reported (c .before .before .put-refusal .ensures) (omega (arith, s .pre .0 .room))
     (refused-report (s .args .table .now) (s .args .program .now) (s .args .size) (s .args .count) (s .pre .1) (length w) (length a)
     (s .pre .0 .workspace-length) (s .pre .0 .answer-length) (k .before .before .reversed .given .0 .0) told)
@@ -74,15 +74,15 @@ returns-2 c =
     let w = s .args .workspace .now in
     let a = s .args .answer .now in
     let g = k .reversed2 .given in
-    let told = sym (ap reversed (g .1)) ∙ v .ensures .0 in
+    let told = sym (ap reversed (g .1)) ∙ v .ensures .stated in
     let same : length (v .last .1 .1 .1 .1 .0) ≡ length a = k .before .before .before .answer .given in
     let fits = fraction-fits (s .args .table .now) (s .args .program .now) (s .args .size) (s .args .count) (s .pre .1) (length w) (length a)
-    (s .pre .0 .workspace-length) (s .pre .0 .answer-length) (g .0 .0) (g .0 .1 .0) (g .0 .1 .1 .0) told a (v .last .1 .1 .1 .1 .0) (v .ensures .1 .0) same in
+    (s .pre .0 .workspace-length) (s .pre .0 .answer-length) (g .0 .0) (g .0 .1 .0) (g .0 .1 .1 .0) told a (v .last .1 .1 .1 .1 .0) (v .ensures .answer-is) same in
     let few = count-small (s .args .program .now) (s .args .size) (s .args .count) (s .pre .1 .program-read) in
     let u = after-slice-known7 (c .before .before .before) .before .before .unpack-letters in
     reported (c .before .before .put-areas .ensures) (omega (arith, few, fits, same, s .pre .0 .answer-length, s .pre .0 .room))
     (answer-report (s .args .table .now) (s .args .program .now) (s .args .size) (s .args .count) (s .pre .1) (length w) (length a)
-    (s .pre .0 .workspace-length) (s .pre .0 .answer-length) (g .0 .0) (g .0 .1 .0) (g .0 .1 .1 .0) told a (v .last .1 .1 .1 .1 .0) (v .ensures .1 .0)
+    (s .pre .0 .workspace-length) (s .pre .0 .answer-length) (g .0 .0) (g .0 .1 .0) (g .0 .1 .1 .0) told a (v .last .1 .1 .1 .1 .0) (v .ensures .answer-is)
     (v .last .1 .1 .1 .0) (u .last .1 .1 .1 .0) (u .ensures .1 (s .pre .1 .program-read .program .word) (s .pre .1 .program-read .program .read)))
 
 pub render-accepted-spec : {M : Type 1} → statement M
