@@ -64,7 +64,8 @@ module _ (outcome : Outcome (List ℕ)) (before : List ℕ) where
   pub refused-answers : (r : Refusal) → outcome ≡ refusal r → Answers outcome before before (Refused r)
   refused-answers r e = record { result = ap (mapped length) (sym e); area = ap (λ o. outputAfter (λ b. b) o before) (sym e) }
 
-  pub written-answers : (bytes after : List ℕ) (k : ℕ) → outcome ≡ answered bytes → length bytes ≡ k → after ≡ begins bytes before → Answers outcome before after (Written k)
+  pub written-answers : (bytes after : List ℕ) (k : ℕ) → outcome ≡ answered bytes → length bytes ≡ k → after ≡ begins bytes before
+      → Answers outcome before after (Written k)
   written-answers bytes after k e n w =
       record { result = ap answered (sym n) ∙ ap (mapped length) (sym e); area = w ∙ ap (λ o. outputAfter (λ b. b) o before) (sym e) }
 
@@ -75,7 +76,8 @@ all-made count moves h =
 
 module _ (size moves : ℕ) (w : Word) (before : List ℕ) where
   sound : (places : ℕ) → size + 1 ≡ places → Sound places (length (take moves w) + 0) (bedAfter size moves w)
-  sound places e = subst (λ m. Sound m (length (take moves w) + 0) (bedAfter size moves w)) {x = suc size} {y = places} (omega arith) (laid-sound (suc size) 0 (take moves w) (firstBed size) (first-sound size))
+  sound places e = subst (λ m. Sound m (length (take moves w) + 0) (bedAfter size moves w)) {x = suc size} {y = places} (omega arith)
+      (laid-sound (suc size) 0 (take moves w) (firstBed size) (first-sound size))
 
   module _ (places : ℕ) (e : size + 1 ≡ places) where
     long : length (bedBytes (bedAfter size moves w)) ≡ places * places

@@ -81,7 +81,8 @@ module _ (cells : List ℕ) (T : Presentation) (s : Stands cells T) (a b : ℕ) 
     near-held h = held (b ∷ a ∷ []) (h .other) (h .word ∙ ap (λ w. complement w (h .other)) near-word)
 
     pub near-second : (getD cells (cellAt a b + 2) 0 ≡ a → ⊥) → Decides false (HasBraidWord T a b)
-    near-second n = decided-false λ h. n (ap (λ i. getD cells i 0) {x = cellAt a b + 2} {y = cellAt a b + 1 + 1} (omega arith) ∙ near-held h .letters 1 (omega arith))
+    near-second n = decided-false λ h. n (ap (λ i. getD cells i 0) {x = cellAt a b + 2} {y = cellAt a b + 1 + 1} (omega arith)
+        ∙ near-held h .letters 1 (omega arith))
 
     pub near-decided : getD cells (cellAt a b + 1) 0 ≡ b → getD cells (cellAt a b + 2) 0 ≡ a → Decides (eqb (getD cells (cellAt a b) 0) 2) (HasBraidWord T a b)
     near-decided first second =

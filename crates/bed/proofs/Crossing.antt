@@ -92,7 +92,8 @@ module _ (v : BedStruct) (places : ℕ) (B : Bed) (h : Shown v places B) where
         ∙ ap (λ m. position (getD (B .bobbins) (i - 1) 0) (getD (B .bobbins) (suc (i - 1)) 0) (pairs m)) (sym (h .sound .places)))))
 
     pub crossed-shows : (inside : at < length (B .totals)) (t d : ℤ) → t ≡ getD (v .totals) at (pos 0) +ℤ d
-        → Shows (record { bobbins = set (set (v .bobbins) (i - 1) (getD (v .bobbins) i 0)) i (getD (v .bobbins) (i - 1) 0); totals = set (v .totals) at t }) (crossed (i - 1) d B)
+        → Shows (record { bobbins = set (set (v .bobbins) (i - 1) (getD (v .bobbins) i 0)) i (getD (v .bobbins) (i - 1) 0); totals = set (v .totals) at t })
+        (crossed (i - 1) d B)
     crossed-shows inside t d e =
         record {
           bobbins =

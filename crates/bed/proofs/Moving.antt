@@ -86,13 +86,15 @@ module _ (program : List ℕ) (size : ℕ) (few : size ≤ 16) (w : Word) (read 
         record {
           shows = shows;
           c = length (take i w) + 0;
-          sound = subst (λ m. Sound m (length (take i w) + 0) (laid (take i w) (firstBed size))) {x = suc size} {y = size + 1} (omega arith) (laid-sound (suc size) 0 (take i w) (firstBed size) (first-sound size));
+          sound = subst (λ m. Sound m (length (take i w) + 0) (laid (take i w) (firstBed size))) {x = suc size} {y = size + 1} (omega arith)
+              (laid-sound (suc size) 0 (take i w) (firstBed size) (first-sound size));
           few = omega (arith, done, short);
           small = omega arith;
         }
 
     named : LetterInRange (size + 1 - 1) (getD w i (forward 0))
-    named = subst (λ n. LetterInRange n (getD w i (forward 0))) {x = size} {y = size + 1 - 1} (omega arith) (letter-of size w i h (program-in-range size few program w read .letters))
+    named = subst (λ n. LetterInRange n (getD w i (forward 0))) {x = size} {y = size + 1 - 1} (omega arith)
+        (letter-of size w i h (program-in-range size few program w read .letters))
 
     pub next-moves : (x : ℕ) → x ≡ byte (getD w i (forward 0)) → Moves v (size + 1) x
     next-moves x e = record { bed = laid (take i w) (firstBed size); shown = so-far; letter = getD w i (forward 0); byte-is = sym e; named = named }

@@ -67,9 +67,11 @@ module _ (table program : List ℕ) (moves area : ℕ) where
     pub bed-no-program : (size : ℕ) → T .size ≡ size → (r : Refusal) → readProgram size program ≡ refusal r → bed table program moves area ≡ refusal r
     unfolding shown
     bed-no-program size s r p =
-        bed-is ∙ still-refused (readProgram (T .size) program) r (ap (λ n. readProgram n program) s ∙ p) (λ w. fitted area (bedBytes (bedAfter (T .size) moves w)))
+        bed-is ∙ still-refused (readProgram (T .size) program) r (ap (λ n. readProgram n program) s ∙ p)
+        (λ w. fitted area (bedBytes (bedAfter (T .size) moves w)))
 
-    pub bed-shows : (size : ℕ) → T .size ≡ size → (w : Word) → readProgram size program ≡ answered w → bed table program moves area ≡ fitted area (bedBytes (bedAfter size moves w))
+    pub bed-shows : (size : ℕ) → T .size ≡ size → (w : Word) → readProgram size program ≡ answered w → bed table program moves area ≡ fitted area
+        (bedBytes (bedAfter size moves w))
     unfolding shown
     bed-shows size s w p =
         bed-is
@@ -96,11 +98,13 @@ module _ (table program : List ℕ) (moves : ℕ) (before after : List ℕ) (r :
       let t = told-bytes (bed table program moves (length before)) k (sym (a .result) ∙ told) in
       go (isBraid T) refl (t .0) (t .1) (t .2)
     where
-      go : (b : Bool) → isBraid T ≡ b → (bytes : List ℕ) → bed table program moves (length before) ≡ answered bytes → length bytes ≡ k → BedMeaning T w moves (take k after)
+      go : (b : Bool) → isBraid T ≡ b → (bytes : List ℕ) → bed table program moves (length before) ≡ answered bytes → length bytes ≡ k
+          → BedMeaning T w moves (take k after)
       go true b bytes o n =
           let shows = bed-shows table program moves (length before) T (braid-read table T e b) (T .size) refl w p in
           let same : bytes ≡ bedBytes (bedAfter (T .size) moves w) = same-bytes (length before) (bedBytes (bedAfter (T .size) moves w)) bytes (sym shows ∙ o) in
-          let left : take k after ≡ bytes = ap (take k) (a .area ∙ ap (λ o. outputAfter (λ b. b) o before) o) ∙ take-at bytes (drop (length bytes) before) k n in
+          let left : take k after ≡ bytes = ap (take k) (a .area ∙ ap (λ o. outputAfter (λ b. b) o before) o)
+          ∙ take-at bytes (drop (length bytes) before) k n in
           subst (BedMeaning T w moves) (sym (left ∙ same)) (bed-meaning T b w (program-in-range (T .size) (table-in-range table T e .few) program w p) moves)
       go false b bytes o n =
           let no = bed-no-table table program moves (length before) NotBraidTable (braid-refused table T e b) in

@@ -89,11 +89,13 @@ module _ (old : List ℕ) (at k : ℕ) (ts : List ℤ) (more : k < length ts) (r
       ∙ omega (arith, length-take-le at old (omega arith), bytes-length (take k ts), length-take-le k ts (omega arith))
 
   -- what is written, and the two bytes that come next
-  so-far : written old at (concatMap totalBytes (take k ts)) ≡ done ++ (getD old (at + 2 * k) 0 ∷ getD old (suc (at + 2 * k)) 0 ∷ drop (suc (suc (at + 2 * k))) old)
+  so-far : written old at (concatMap totalBytes (take k ts)) ≡ done
+      ++ (getD old (at + 2 * k) 0 ∷ getD old (suc (at + 2 * k)) 0 ∷ drop (suc (suc (at + 2 * k))) old)
   unfolding done
   so-far =
       sym (append-assoc (take at old) (concatMap totalBytes (take k ts)) _)
-      ∙ (ap (λ n. done ++ drop n old) {x = at + length (concatMap totalBytes (take k ts))} {y = at + 2 * k} (omega (arith, bytes-length (take k ts), length-take-le k ts (omega arith)))
+      ∙ (ap (λ n. done ++ drop n old) {x = at + length (concatMap totalBytes (take k ts))} {y = at + 2 * k}
+      (omega (arith, bytes-length (take k ts), length-take-le k ts (omega arith)))
       ∙ ap (λ l. done ++ l)
       (drop-cons old (at + 2 * k) 0 (omega arith) ∙ ap (λ l. getD old (at + 2 * k) 0 ∷ l) (drop-cons old (suc (at + 2 * k)) 0 (omega arith))))
 
@@ -117,7 +119,8 @@ module _ (old : List ℕ) (at k : ℕ) (ts : List ℤ) (more : k < length ts) (r
       after : written old at (concatMap totalBytes (take (k + 1) ts)) ≡ done ++ (totalBytes (getD ts k (pos 0)) ++ drop (suc (suc (at + 2 * k))) old)
       after =
           ap (λ n. take at old ++ (concatMap totalBytes (take (k + 1) ts) ++ drop n old))
-          {x = at + length (concatMap totalBytes (take (k + 1) ts))} {y = suc (suc (at + 2 * k))} (omega (arith, bytes-length (take (k + 1) ts), length-take-le (k + 1) ts (omega arith)))
+          {x = at + length (concatMap totalBytes (take (k + 1) ts))} {y = suc (suc (at + 2 * k))}
+          (omega (arith, bytes-length (take (k + 1) ts), length-take-le (k + 1) ts (omega arith)))
           ∙ (ap (λ b. take at old ++ (b ++ drop (suc (suc (at + 2 * k))) old)) bytes-are
           ∙ (ap (λ b. take at old ++ b) (append-assoc (concatMap totalBytes (take k ts)) (totalBytes (getD ts k (pos 0))) (drop (suc (suc (at + 2 * k))) old))
           ∙ sym (append-assoc (take at old) (concatMap totalBytes (take k ts)) (totalBytes (getD ts k (pos 0)) ++ drop (suc (suc (at + 2 * k))) old))))

@@ -13,7 +13,8 @@ use Rattle.model.specs.Presentation.{Presentation, complete, weightOf, weigh}
 use Rattle.model.specs.Reversing.{finished, room, reversing}
 use Rattle.model.specs.Outcome.{Outcome, answered, refused, _>>=_, unless, mapped}
 use Rattle.model.specs.Images.{readProgram, chainImage}
-use Rattle.model.specs.Services.{Verdict, same-after, different-after, readForward, comparison, chainBytes, listable, ChainAnswer, listed-after, unlisted-after, chainAnswer, verdictIn, chain}
+use Rattle.model.specs.Services.{Verdict, same-after, different-after, readForward, comparison, chainBytes, listable, ChainAnswer, listed-after, unlisted-after}
+use Rattle.model.specs.Services.{chainAnswer, verdictIn, chain}
 use Rattle.model.specs.Areas.{Compares, Listed, ChainArea, workspaceAfter}
 use Rattle.model.specs.Stated.{refusal}
 use Rattle.model.specs.declared.answers.Refusal.{Refusal}
@@ -124,7 +125,8 @@ listed-of T u v r before after few c =
 
 -- what the listing asks, from the comparison and the programs that were loaded again
 module _ (cells : List ℕ) (size : ℕ) (T : Presentation) (o : Of cells size T) (u v : Positive) (first second : List ℕ) (m n : ℕ) (one : ForwardOf first size m)
-    (two : ForwardOf second size n) (eu : one .word ≡ u) (ev : two .word ≡ v) (steps width k r : ℕ) (e : Ended T u v steps width k r) (bytes : List ℕ) (right : ℕ)
+    (two : ForwardOf second size n) (eu : one .word ≡ u) (ev : two .word ≡ v) (steps width k r : ℕ) (e : Ended T u v steps width k r) (bytes : List ℕ)
+    (right : ℕ)
     (same-width : length bytes ≡ width) (l : LoadedPrograms cells T u v bytes m right) (room : ℕ) (enough : chainBytes size r ≤ room) where
   few : size ≤ 16
   few = of-few o

@@ -68,7 +68,16 @@ pub ends-at : (after : List ℕ) (left right : ℕ) (carried : List ℕ) (all ri
 ends-at after left right carried all right′ p k e =
     sym (k .word)
     ∙ gathered carried all right′
-    (omega (arith, held-length carried all right′ (k .placed), held-length after left right p, ap length (k .word), k .same-length, k .placed .inside, p .inside, e))
+    (omega (
+      arith,
+      held-length carried all right′ (k .placed),
+      held-length after left right p,
+      ap length (k .word),
+      k .same-length,
+      k .placed .inside,
+      p .inside,
+      e,
+    ))
 
 module _ (T : Presentation) (width : ℕ) where
   -- following ends in an answer or in 12, after the work has begun

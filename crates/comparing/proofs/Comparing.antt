@@ -89,7 +89,8 @@ module _ (T : Presentation) (u v : Positive) (steps width : ℕ) where
       → compared (judgement e) ≡ forwardVerdict T u v steps width
   unfolding weighed
   equal-verdict h area n e p =
-      let a : e ≡ endingAnswer (reversing T steps width (negative u ++ positive v)) = p .answer ∙ ap (λ i. endingAnswer (reversing T steps i (negative u ++ positive v))) n in
+      let a : e ≡ endingAnswer (reversing T steps width (negative u ++ positive v)) =
+      p .answer ∙ ap (λ i. endingAnswer (reversing T steps i (negative u ++ positive v))) n in
       ap (λ x. compared (judgement x)) a
       ∙ (judgement-states (reversing T steps width (negative u ++ positive v)) ∙ sym (ap weighed (eq-eqb (weigh T u) (weigh T v) h)))
 
@@ -106,7 +107,12 @@ module _ (T : Presentation) (u v : Positive) (steps width : ℕ) where
     where
       by-weight : (b : Bool) → eqb (weigh T u) (weigh T v) ≡ b → (k i : ℕ) → compared (Same k i) ≡ weighed b → Ended T u v steps width k i
       by-weight true h k i q =
-          record { clear = sym clear; same-weight = eqb-true (weigh T u) (weigh T v) h; empty = verdict-empty (reversing T steps width (negative u ++ positive v)) k i (sym q) }
+          record {
+            clear = sym clear;
+            same-weight = eqb-true (weigh T u) (weigh T v) h;
+            empty =
+                verdict-empty (reversing T steps width (negative u ++ positive v)) k i (sym q);
+          }
       by-weight false h k i q = impossible (cc)
 
       if-same : (j : Compared) → compared j ≡ forwardVerdict T u v steps width → EndedIf T u v steps width j
@@ -128,7 +134,8 @@ module _ (table first second : List ℕ) (steps width : ℕ) where
   unfolding compare
   compare-refused = programs-refused table first second judges
 
-  pub compare-runs : (T : Presentation) (u v : Positive) → Compares table first second T u v → compare table first second steps width ≡ comparison T u v steps width
+  pub compare-runs : (T : Presentation) (u v : Positive) → Compares table first second T u v
+      → compare table first second steps width ≡ comparison T u v steps width
   unfolding compare
   compare-runs = programs-run table first second judges
 

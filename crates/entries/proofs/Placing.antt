@@ -122,7 +122,8 @@ module _ {n index : ℕ} {answer : List ℕ} (h : EntryInside n index answer) (a
         ∙ (regroup (digits 15 (e .offset)) (digits (letterWidth n) (e .a - 1)) (digits (letterWidth n) (e .b - 1)) rest
         ∙ ap (λ w. digits 15 (e .offset) ++ (digits w (e .a - 1) ++ (digits w (e .b - 1) ++ rest))) (sym ew)))
 
-    pub entry-read : (s : ChainEntry) (x y : ℕ) → s .offset ≡ number 0 (take 15 (drop at (bitsOf answer))) → x ≡ number 0 (take width (drop (at + 15) (bitsOf answer)))
+    pub entry-read : (s : ChainEntry) (x y : ℕ) → s .offset ≡ number 0 (take 15 (drop at (bitsOf answer)))
+        → x ≡ number 0 (take width (drop (at + 15) (bitsOf answer)))
         → y ≡ number 0 (take width (drop (at + 15 + width) (bitsOf answer))) → s .a ≡ x + 1 → s .b ≡ y + 1 → Same e s
     entry-read s x y ec ex ey xa yb =
         let la : length (digits 15 (e .offset)) ≡ 15 = length-digits 15 (e .offset) in

@@ -28,7 +28,8 @@ take-two a b xs h =
 pub byte-bits : (image : List ℕ) (next : ℕ) → next < length image → take 8 (from image (8 * next)) ≡ digits 8 (getD image next 0)
 byte-bits image next h =
     ap (λ bits. take 8 (drop (8 * next) bits)) (bits-split image next h)
-    ∙ (ap (take 8) (drop-at (bitsOf (take next image)) (digits 8 (getD image next 0) ++ bitsOf (drop (suc next) image)) (8 * next) (length-bits-take image next (omega arith)))
+    ∙ (ap (take 8) (drop-at (bitsOf (take next image)) (digits 8 (getD image next 0) ++ bitsOf (drop (suc next) image)) (8 * next)
+    (length-bits-take image next (omega arith)))
     ∙ take-at (digits 8 (getD image next 0)) (bitsOf (drop (suc next) image)) 8 (length-digits 8 (getD image next 0)))
 
 -- a number of binary digits by the first and the last ones
@@ -121,7 +122,8 @@ module _ (image : List ℕ) (next held bits : ℕ) (h : Holds image next held bi
         }
 
     -- so a field is taken
-    pub split-taken : (reader : BitReader) → place reader ≡ 8 * next - held → held < 8 + width → (r : Taken) → Splits next held bits width r → TakenDone image reader width r
+    pub split-taken : (reader : BitReader) → place reader ≡ 8 * next - held → held < 8 + width → (r : Taken) → Splits next held bits width r
+        → TakenDone image reader width r
     split-taken reader here few (Value v r) s =
         record {
           inside = omega (arith, here, h .begun, h .read);
@@ -139,7 +141,8 @@ pub held-none : (image : List ℕ) (next : ℕ) → next ≤ length image → Ho
 held-none image next h = record { read = h; begun = omega arith; value = refl }
 
 pub held-byte : (image : List ℕ) (next : ℕ) → next < length image → getD image next 0 < 256 → Holds image (next + 1) 8 (getD image next 0)
-held-byte image next h byte = subst (Holds image (next + 1) 8) {x = 0 + getD image next 0} (omega arith) (held-more image next 0 0 (held-none image next (omega arith)) (omega arith) h byte)
+held-byte image next h byte = subst (Holds image (next + 1) 8) {x = 0 + getD image next 0} (omega arith)
+    (held-more image next 0 0 (held-none image next (omega arith)) (omega arith) h byte)
 
 -- a reader's place lies inside the image, and fewer than eight bits follow where every byte was read
 pub place-inside : (image : List ℕ) (r : BitReader) → Reads image r → place r ≤ 8 * length image
@@ -148,5 +151,6 @@ place-inside image r h = omega (arith, h .holds .read)
 pub end-read : (image : List ℕ) (r : BitReader) → Reads image r → length image ≤ r .next → eqb (r .bits % 2 ^ r .held) 0 ≡ filling (from image (place r))
 end-read image r h all =
     ap (λ n. eqb n 0)
-    (h .holds .value ∙ ap (λ n. number 0 (take n (from image (place r)))) {x = r .held} {y = 8 * length image - place r} (omega (arith, h .holds .read, h .holds .begun)))
+    (h .holds .value ∙ ap (λ n. number 0 (take n (from image (place r)))) {x = r .held} {y = 8 * length image - place r}
+    (omega (arith, h .holds .read, h .holds .begun)))
     ∙ filling-short image (place r) (place-inside image r h) (omega (arith, h .few, h .holds .read, h .holds .begun))

@@ -36,13 +36,16 @@ module _ (Input : List ℕ → Type 0) (suffix : (xs ys : List ℕ) → Input (x
     next : ℕ → Read A → Outcome (Read (List A))
     next k r = several reader k (r .rest) >>= λ rs. answered (record { value = r .value ∷ rs .value; rest = rs .rest })
 
-    several-reads-back : (xs : List A) → All Range xs → (rest : List ℕ) → several reader (length xs) (concatMap write xs ++ rest) ≡ answered (record { value = xs; rest = rest })
+    several-reads-back : (xs : List A) → All Range xs → (rest : List ℕ) → several reader (length xs) (concatMap write xs ++ rest) ≡ answered
+        (record { value = xs; rest = rest })
     several-reads-back [] h rest = refl
     several-reads-back (x ∷ xs) h rest =
         ap (several reader (suc (length xs))) (append-assoc (write x) (concatMap write xs) rest)
-        ∙ then (reader (write x ++ (concatMap write xs ++ rest))) _ (record { value = x; rest = concatMap write xs ++ rest }) (answered (record { value = x ∷ xs; rest = rest }))
+        ∙ then (reader (write x ++ (concatMap write xs ++ rest))) _ (record { value = x; rest = concatMap write xs ++ rest })
+        (answered (record { value = x ∷ xs; rest = rest }))
         (one .reads-back x (h .0) (concatMap write xs ++ rest))
-        (then (several reader (length xs) (concatMap write xs ++ rest)) (λ rs. answered (record { value = x ∷ rs .value; rest = rs .rest })) (record { value = xs; rest = rest }) _ (several-reads-back xs (h .1) rest) refl)
+        (then (several reader (length xs) (concatMap write xs ++ rest)) (λ rs. answered (record { value = x ∷ rs .value; rest = rs .rest }))
+        (record { value = xs; rest = rest }) _ (several-reads-back xs (h .1) rest) refl)
 
     several-stood : (k : ℕ) (input : List ℕ) → Input input → (r : Read (List A)) → several reader k input ≡ answered r
         → (input ≡ concatMap write (r .value) ++ r .rest) × (length (r .value) ≡ k) × All Range (r .value)
@@ -80,9 +83,11 @@ module _ (Input : List ℕ → Type 0) (suffix : (xs ys : List ℕ) → Input (x
     rows-reads-back (suc k) [] h rest = absurd h
     rows-reads-back (suc k) (row ∷ rows) h rest =
         ap (rowsOf reader (suc k)) (append-assoc (concatMap write row) (concatMap (concatMap write) rows) rest)
-        ∙ then (several reader k (concatMap write row ++ (concatMap (concatMap write) rows ++ rest))) _ (record { value = row; rest = concatMap (concatMap write) rows ++ rest }) (answered (record { value = row ∷ rows; rest = rest }))
+        ∙ then (several reader k (concatMap write row ++ (concatMap (concatMap write) rows ++ rest))) _
+        (record { value = row; rest = concatMap (concatMap write) rows ++ rest }) (answered (record { value = row ∷ rows; rest = rest }))
         (several-codec k .reads-back row (h .0, h .1) (concatMap (concatMap write) rows ++ rest))
-        (then (rowsOf reader k (concatMap (concatMap write) rows ++ rest)) (λ rs. answered (record { value = row ∷ rs .value; rest = rs .rest })) (record { value = rows; rest = rest }) _ (rows-reads-back k rows (h .2) rest) refl)
+        (then (rowsOf reader k (concatMap (concatMap write) rows ++ rest)) (λ rs. answered (record { value = row ∷ rs .value; rest = rs .rest }))
+        (record { value = rows; rest = rest }) _ (rows-reads-back k rows (h .2) rest) refl)
 
     rows-stood : (k : ℕ) (input : List ℕ) → Input input → (r : Read (List (List A))) → rowsOf reader k input ≡ answered r
         → (input ≡ concatMap (concatMap write) (r .value) ++ r .rest) × Rows Range k (r .value)
@@ -97,7 +102,8 @@ module _ (Input : List ℕ → Type 0) (suffix : (xs ys : List ℕ) → Input (x
         subst (λ r. (input ≡ concatMap (concatMap write) (r .value) ++ r .rest) × Rows Range (suc k) (r .value))
         (same-answer (record { value = f .0 .value ∷ t .0 .value; rest = t .0 .rest }) r (t .2)) (
           several-codec k .stood-there input i (f .0) (f .1)
-              ∙ (ap (λ l. concatMap write (f .0 .value) ++ l) (h .0) ∙ sym (append-assoc (concatMap write (f .0 .value)) (concatMap (concatMap write) (t .0 .value)) (t .0 .rest))),
+              ∙ (ap (λ l. concatMap write (f .0 .value) ++ l) (h .0)
+              ∙ sym (append-assoc (concatMap write (f .0 .value)) (concatMap (concatMap write) (t .0 .value)) (t .0 .rest))),
           (several-codec k .in-range input i (f .0) (f .1) .0, several-codec k .in-range input i (f .0) (f .1) .1, h .1),
         )
 
@@ -136,7 +142,8 @@ field-codec early width =
       reads-back = λ v h rest.
           ap (λ t. unless t early (record { value = number 0 (take width (digits width v ++ rest)); rest = drop width (digits width v ++ rest) }))
           (le-ltb (length (digits width v ++ rest)) width (omega (arith, length-append (digits width v) rest, length-digits width v)))
-          ∙ (ap (λ l. answered (record { value = number 0 l; rest = drop width (digits width v ++ rest) })) (take-at (digits width v) rest width (length-digits width v))
+          ∙ (ap (λ l. answered (record { value = number 0 l; rest = drop width (digits width v ++ rest) }))
+          (take-at (digits width v) rest width (length-digits width v))
           ∙ (ap (λ n. answered (record { value = n; rest = drop width (digits width v ++ rest) })) (number-of-digits width v h)
           ∙ ap (λ l. answered (record { value = v; rest = l })) (drop-at (digits width v) rest width (length-digits width v))));
       stood-there = λ input i r e.

@@ -48,7 +48,8 @@ module _ (image : List ℕ) (at size width : ℕ) where
       unfolding second last
       after-first = after-offset ∙ ap (λ o. o >>= second offset) (x .read 4 5)
 
-      pub second-refused : (n : ℕ) → letterField 4 5 size (from image (at + 15 + width)) ≡ refused n unplaced → entryField size (from image at) ≡ refused n unplaced
+      pub second-refused : (n : ℕ) → letterField 4 5 size (from image (at + 15 + width)) ≡ refused n unplaced
+          → entryField size (from image at) ≡ refused n unplaced
       second-refused n e = after-first ∙ ap (λ o. o >>= last offset a) e
 
       pub entry-read : (b : ℕ) → LetterAt image (at + 15 + width) size width b → EntryAt image at size width (record { offset = offset; a = a; b = b })
@@ -76,5 +77,6 @@ module _ (image : List ℕ) (size i : ℕ) (p : HasEntry image size i) where
       let there = entry-placed size (p .few) image es e i l none in
       let codec = entry-codec size (p .few) in
       let same =
-      reads (getD es i none) (r .rest) (codec .in-range (from image (entryPosition size i)) bits r there) (codec .stood-there (from image (entryPosition size i)) bits r there) in
+      reads (getD es i none) (r .rest) (codec .in-range (from image (entryPosition size i)) bits r there)
+      (codec .stood-there (from image (entryPosition size i)) bits r there) in
       λ j. record { offset = same .offset j; a = same .a j; b = same .b j }

@@ -51,7 +51,8 @@ module _ (image : List ℕ) (size : ℕ) where
     back-read f = read-is ∙ ap (λ t. unless (not t) 7 (forwards (p .word))) f
 
     -- with its weight
-    forward-measured : (cells : List ℕ) (weight : ℕ) → weight ≡ cellsWeigh cells (p .word) → isForward (p .word) ≡ true → ForwardMeasured image cells size count weight
+    forward-measured : (cells : List ℕ) (weight : ℕ) → weight ≡ cellsWeigh cells (p .word) → isForward (p .word) ≡ true
+        → ForwardMeasured image cells size count weight
     unfolding forward-read
     forward-measured cells weight e f = record { forward = forward-read f; weight-is = e ∙ ap (cellsWeigh cells) (positive-forwards (p .word) f) }
 

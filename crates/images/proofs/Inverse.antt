@@ -13,7 +13,8 @@ use Rattle.model.specs.Equivalence.{Entry}
 use Rattle.model.specs.Enumeration.{concatMap}
 use Rattle.model.specs.Outcome.{Outcome, answered, _>>=_, unless}
 use Rattle.model.specs.Bits.{Read, field, digits, letterWidth}
-use Rattle.model.specs.Images.{several, letterField, letterBits, wordField, wordBits, pairField, pairBits, definedField, signed, signedField, signedBits, entryField, entryBits}
+use Rattle.model.specs.Images.{several, letterField, letterBits, wordField, wordBits, pairField, pairBits, definedField, signed, signedField, signedBits}
+use Rattle.model.specs.Images.{entryField, entryBits}
 use Rattle.bits.proofs.Digits.{AreBits}
 use Rattle.bits.proofs.Width.{letter-fits}
 use Rattle.model.specs.Range.{All, InRange, LetterInRange, WordInRange, PairInRange, EntryInRange}
@@ -21,41 +22,43 @@ use Rattle.model.proofs.Impossible.{answer-of, same-answer, not-refused}
 use Rattle.images.proofs.Codec.{Codec, then, field-codec, several-codec, input-rest, bits-suffix}
 
 -- a count, then as many of one kind
-module _ {A : Type 0} (early width : ℕ) (reader : List ℕ → Outcome (Read A)) (write : A → List ℕ) (Range : A → Type 0) (one : Codec AreBits reader write Range) where
-  abbrev pub counted : List ℕ → Outcome (Read (List A))
-  counted input = field early width input >>= λ k. several reader (k .value) (k .rest)
+module _ {A : Type 0} (early width : ℕ) (reader : List ℕ → Outcome (Read A)) (write : A → List ℕ) (Range : A → Type 0) (one : Codec AreBits reader write Range)
+  where
+    abbrev pub counted : List ℕ → Outcome (Read (List A))
+    counted input = field early width input >>= λ k. several reader (k .value) (k .rest)
 
-  abbrev pub countedBits : List A → List ℕ
-  countedBits xs = digits width (length xs) ++ concatMap write xs
+    abbrev pub countedBits : List A → List ℕ
+    countedBits xs = digits width (length xs) ++ concatMap write xs
 
-  abbrev pub CountedRange : List A → Type 0
-  CountedRange xs = (length xs < 2 ^ width) × All Range xs
+    abbrev pub CountedRange : List A → Type 0
+    CountedRange xs = (length xs < 2 ^ width) × All Range xs
 
-  many : (k : ℕ) → Codec AreBits (several reader k) (concatMap write) (λ xs. (length xs ≡ k) × All Range xs)
-  many k = several-codec AreBits bits-suffix reader write Range one k
+    many : (k : ℕ) → Codec AreBits (several reader k) (concatMap write) (λ xs. (length xs ≡ k) × All Range xs)
+    many k = several-codec AreBits bits-suffix reader write Range one k
 
-  pub counted-codec : Codec AreBits counted countedBits CountedRange
-  counted-codec =
-      record {
-        reads-back = λ xs h rest.
-            ap counted (append-assoc (digits width (length xs)) (concatMap write xs) rest)
-            ∙ then (field early width (digits width (length xs) ++ (concatMap write xs ++ rest))) _ (record { value = length xs; rest = concatMap write xs ++ rest }) _
-            (field-codec early width .reads-back (length xs) (h .0) (concatMap write xs ++ rest))
-            (many (length xs) .reads-back xs (refl, h .1) rest);
-        stood-there = λ input i r e.
-            let f = answer-of (field early width input) (λ k. several reader (k .value) (k .rest)) r e in
-            let j = input-rest AreBits bits-suffix (field-codec early width) input i (f .0) (f .1) in
-            let c = many (f .0 .value) .in-range (f .0 .rest) j r (f .2) in
-            field-codec early width .stood-there input i (f .0) (f .1)
-            ∙ (ap (λ l. digits width (f .0 .value) ++ l) (many (f .0 .value) .stood-there (f .0 .rest) j r (f .2))
-            ∙ (ap (λ n. digits width n ++ (concatMap write (r .value) ++ r .rest)) (sym (c .0))
-            ∙ sym (append-assoc (digits width (length (r .value))) (concatMap write (r .value)) (r .rest))));
-        in-range = λ input i r e.
-            let f = answer-of (field early width input) (λ k. several reader (k .value) (k .rest)) r e in
-            let j = input-rest AreBits bits-suffix (field-codec early width) input i (f .0) (f .1) in
-            let c = many (f .0 .value) .in-range (f .0 .rest) j r (f .2) in
-            (subst (λ n. n < 2 ^ width) (sym (c .0)) (field-codec early width .in-range input i (f .0) (f .1)), c .1);
-      }
+    pub counted-codec : Codec AreBits counted countedBits CountedRange
+    counted-codec =
+        record {
+          reads-back = λ xs h rest.
+              ap counted (append-assoc (digits width (length xs)) (concatMap write xs) rest)
+              ∙ then (field early width (digits width (length xs) ++ (concatMap write xs ++ rest))) _
+              (record { value = length xs; rest = concatMap write xs ++ rest }) _
+              (field-codec early width .reads-back (length xs) (h .0) (concatMap write xs ++ rest))
+              (many (length xs) .reads-back xs (refl, h .1) rest);
+          stood-there = λ input i r e.
+              let f = answer-of (field early width input) (λ k. several reader (k .value) (k .rest)) r e in
+              let j = input-rest AreBits bits-suffix (field-codec early width) input i (f .0) (f .1) in
+              let c = many (f .0 .value) .in-range (f .0 .rest) j r (f .2) in
+              field-codec early width .stood-there input i (f .0) (f .1)
+              ∙ (ap (λ l. digits width (f .0 .value) ++ l) (many (f .0 .value) .stood-there (f .0 .rest) j r (f .2))
+              ∙ (ap (λ n. digits width n ++ (concatMap write (r .value) ++ r .rest)) (sym (c .0))
+              ∙ sym (append-assoc (digits width (length (r .value))) (concatMap write (r .value)) (r .rest))));
+          in-range = λ input i r e.
+              let f = answer-of (field early width input) (λ k. several reader (k .value) (k .rest)) r e in
+              let j = input-rest AreBits bits-suffix (field-codec early width) input i (f .0) (f .1) in
+              let c = many (f .0 .value) .in-range (f .0 .rest) j r (f .2) in
+              (subst (λ n. n < 2 ^ width) (sym (c .0)) (field-codec early width .in-range input i (f .0) (f .1)), c .1);
+        }
 
 module _ (n : ℕ) (few : n ≤ 16) where
   module _ (early wrong : ℕ) where
@@ -108,7 +111,8 @@ module _ (n : ℕ) (few : n ≤ 16) where
   signed-back v a h g rest =
       then (field 4 1 (digits 1 v ++ (letterBits n a ++ rest))) _ (record { value = v; rest = letterBits n a ++ rest }) _
       (field-codec 4 1 .reads-back v h (letterBits n a ++ rest))
-      (then (letterField 4 5 n (letterBits n a ++ rest)) (λ a. answered (record { value = signed v (a .value); rest = a .rest })) (record { value = a; rest = rest }) _
+      (then (letterField 4 5 n (letterBits n a ++ rest)) (λ a. answered (record { value = signed v (a .value); rest = a .rest }))
+      (record { value = a; rest = rest }) _
       (letter-codec 4 5 .reads-back a g rest) refl)
 
   signed-reads : (x : Letter) → LetterInRange n x → (rest : List ℕ) → signedField n (signedBits n x ++ rest) ≡ answered (record { value = x; rest = rest })
@@ -160,7 +164,8 @@ module _ (n : ℕ) (few : n ≤ 16) where
       ap (definedField n) (append-assoc (wordBits n x) (wordBits n y) rest)
       ∙ then (wordField n (wordBits n x ++ (wordBits n y ++ rest))) _ (record { value = x; rest = wordBits n y ++ rest }) _
       (word-codec .reads-back x hx (wordBits n y ++ rest))
-      (then (wordField n (wordBits n y ++ rest)) (λ y. answered (record { value = complement x (y .value); rest = y .rest })) (record { value = y; rest = rest }) _
+      (then (wordField n (wordBits n y ++ rest)) (λ y. answered (record { value = complement x (y .value); rest = y .rest }))
+      (record { value = y; rest = rest }) _
       (word-codec .reads-back y hy rest) refl)
 
   both-parts : (input : List ℕ) → AreBits input → (r : Read Complement) → definedField n input ≡ answered r
@@ -193,7 +198,8 @@ module _ (n : ℕ) (few : n ≤ 16) where
       → (digits 1 v ++ rest ≡ pairBits n (r .value) ++ r .rest) × PairInRange n (r .value)
   unfolding pairOf
   pair-of-parts zero rest h i r e =
-      subst (λ r. (0 ∷ rest ≡ pairBits n (r .value) ++ r .rest) × PairInRange n (r .value)) (same-answer (record { value = undefined; rest = rest }) r e) (refl, tt)
+      subst (λ r. (0 ∷ rest ≡ pairBits n (r .value) ++ r .rest) × PairInRange n (r .value)) (same-answer (record { value = undefined; rest = rest }) r e)
+      (refl, tt)
   pair-of-parts (suc zero) rest h i r e = both-parts rest i r e
   pair-of-parts (suc (suc v)) rest h i r e = absurd (omega arith)
 
@@ -224,12 +230,15 @@ module _ (n : ℕ) (few : n ≤ 16) where
 
   entry-reads : (e : Entry) → EntryInRange n e → (rest : List ℕ) → entryField n (entryBits n e ++ rest) ≡ answered (record { value = e; rest = rest })
   entry-reads e h rest =
-      ap (entryField n) (append-assoc (digits 15 (e .offset)) (letterBits n (e .a) ++ letterBits n (e .b)) rest ∙ ap (λ l. digits 15 (e .offset) ++ l) (append-assoc (letterBits n (e .a)) (letterBits n (e .b)) rest))
-      ∙ then (field 4 15 (digits 15 (e .offset) ++ (letterBits n (e .a) ++ (letterBits n (e .b) ++ rest)))) _ (record { value = e .offset; rest = letterBits n (e .a) ++ (letterBits n (e .b) ++ rest) }) _
+      ap (entryField n) (append-assoc (digits 15 (e .offset)) (letterBits n (e .a) ++ letterBits n (e .b)) rest
+      ∙ ap (λ l. digits 15 (e .offset) ++ l) (append-assoc (letterBits n (e .a)) (letterBits n (e .b)) rest))
+      ∙ then (field 4 15 (digits 15 (e .offset) ++ (letterBits n (e .a) ++ (letterBits n (e .b) ++ rest)))) _
+      (record { value = e .offset; rest = letterBits n (e .a) ++ (letterBits n (e .b) ++ rest) }) _
       (field-codec 4 15 .reads-back (e .offset) (h .offset-small) (letterBits n (e .a) ++ (letterBits n (e .b) ++ rest)))
       (then (letterField 4 5 n (letterBits n (e .a) ++ (letterBits n (e .b) ++ rest))) _ (record { value = e .a; rest = letterBits n (e .b) ++ rest }) _
       (letter-codec 4 5 .reads-back (e .a) (h .a-names) (letterBits n (e .b) ++ rest))
-      (then (letterField 4 5 n (letterBits n (e .b) ++ rest)) (λ b. answered (record { value = record { offset = e .offset; a = e .a; b = b .value }; rest = b .rest })) (record { value = e .b; rest = rest }) _
+      (then (letterField 4 5 n (letterBits n (e .b) ++ rest))
+      (λ b. answered (record { value = record { offset = e .offset; a = e .a; b = b .value }; rest = b .rest })) (record { value = e .b; rest = rest }) _
       (letter-codec 4 5 .reads-back (e .b) (h .b-names) rest) refl))
 
   entry-parts : (input : List ℕ) → AreBits input → (r : Read Entry) → entryField n input ≡ answered r
@@ -240,7 +249,8 @@ module _ (n : ℕ) (few : n ≤ 16) where
       let j = input-rest AreBits bits-suffix (field-codec 4 15) input i (s .0) (s .1) in
       let a = answer-of (letterField 4 5 n (s .0 .rest)) (secondLetter (s .0 .value)) r (s .2) in
       let k = input-rest AreBits bits-suffix (letter-codec 4 5) (s .0 .rest) j (a .0) (a .1) in
-      let b = answer-of (letterField 4 5 n (a .0 .rest)) (λ b. answered (record { value = record { offset = s .0 .value; a = a .0 .value; b = b .value }; rest = b .rest })) r (a .2) in
+      let b = answer-of (letterField 4 5 n (a .0 .rest))
+      (λ b. answered (record { value = record { offset = s .0 .value; a = a .0 .value; b = b .value }; rest = b .rest })) r (a .2) in
       subst (λ r. (input ≡ entryBits n (r .value) ++ r .rest) × EntryInRange n (r .value))
       (same-answer (record { value = record { offset = s .0 .value; a = a .0 .value; b = b .0 .value }; rest = b .0 .rest }) r (b .2)) (
         field-codec 4 15 .stood-there input i (s .0) (s .1)

@@ -34,19 +34,23 @@ module _ (image : List ℕ) (size width i : ℕ) (p : HasLetter image size width
   index-small = omega (arith, p .inside, program-in-range size (p .few) image (p .word) (p .read) .short)
 
   stands : (w : Word) → readProgram size image ≡ answered w
-      → signedField size (from image (12 + i * (1 + width))) ≡ answered (record { value = getD w i (forward 0); rest = from image (12 + i * (1 + width) + (1 + width)) })
+      → signedField size (from image (12 + i * (1 + width))) ≡ answered
+      (record { value = getD w i (forward 0); rest = from image (12 + i * (1 + width) + (1 + width)) })
   stands w e =
       let l : i < length w = subst (λ w. i < length w) (same-answer (p .word) w (sym (p .read) ∙ e)) (p .inside) in
-      subst (λ k. signedField size (from image (12 + i * (1 + k))) ≡ answered (record { value = getD w i (forward 0); rest = from image (12 + i * (1 + k) + (1 + k)) }))
+      subst (λ k. signedField size (from image (12 + i * (1 + k))) ≡ answered
+      (record { value = getD w i (forward 0); rest = from image (12 + i * (1 + k) + (1 + k)) }))
       (sym (p .width-is)) (letter-placed size (p .few) image w e i l (forward 0))
 
   pub ends-inside : 12 + i * (1 + width) + (1 + width) ≤ 8 * length image
   ends-inside =
       subst (λ k. 12 + i * (1 + k) + (1 + k) ≤ 8 * length image) (sym (p .width-is)) (letter-inside size (p .few) image (p .word) (p .read) i (p .inside))
 
-  pub letter-answer : (x : ℕ) → SignedAt image (12 + i * (1 + width)) size width x → (w : Word) → readProgram size image ≡ answered w → x ≡ byte (getD w i (forward 0))
+  pub letter-answer : (x : ℕ) → SignedAt image (12 + i * (1 + width)) size width x → (w : Word) → readProgram size image ≡ answered w
+      → x ≡ byte (getD w i (forward 0))
   letter-answer x s w e =
-      sym (s .written) ∙ ap (λ r. byte (r .value)) (same-answer _ (record { value = getD w i (forward 0); rest = from image (12 + i * (1 + width) + (1 + width)) }) (sym (s .read) ∙ stands w e))
+      sym (s .written) ∙ ap (λ r. byte (r .value))
+      (same-answer _ (record { value = getD w i (forward 0); rest = from image (12 + i * (1 + width) + (1 + width)) }) (sym (s .read) ∙ stands w e))
 
   pub letter-stands : (n : ℕ) → signedField size (from image (12 + i * (1 + width))) ≡ refused n unplaced → ⊥
   letter-stands n e =

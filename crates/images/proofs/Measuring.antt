@@ -66,7 +66,15 @@ unfolding validated-none
 passed-none image cells size count reader first here reads =
     let v : Validated (program size) image count 12 0 = validated-none (program size) image count first in
     record {
-      validated = record { some-left = v .some-left; inside = omega (arith, v .inside); near = omega arith; done = []; done-length = refl; resumed = rw here (v .resumed) };
+      validated = record {
+        some-left = v .some-left;
+        inside = omega (arith, v .inside);
+        near = omega arith;
+        done = [];
+        done-length = refl;
+        resumed =
+            rw here (v .resumed);
+      };
       reads = reads;
       signs = refl;
       weighed = refl;

@@ -25,14 +25,16 @@ use Rattle.images.proofs.Reading.{length-from}
 
 -- a reader whose values all have the same size goes on by that size
 steady : {A : Type 0} {reader : List ℕ → Outcome (Read A)} {write : A → List ℕ} {Range : A → Type 0} → Codec AreBits reader write Range
-    → (size : ℕ) → ((x : A) → length (write x) ≡ size) → (image : List ℕ) (at : ℕ) (r : Read A) → reader (from image at) ≡ answered r → r .rest ≡ from image (at + size)
+    → (size : ℕ) → ((x : A) → length (write x) ≡ size) → (image : List ℕ) (at : ℕ) (r : Read A) → reader (from image at) ≡ answered r
+    → r .rest ≡ from image (at + size)
 steady {write = write} c size l image at r e =
     let s = c .stood-there (from image at) (bits-drop at (bitsOf image) (bits-are-bits image)) r e in
     sym (ap (drop size) s ∙ drop-at (write (r .value)) (r .rest) size (l (r .value))) ∙ drop-drop size at (bitsOf image)
 
 -- there are bits enough
 enough : {A : Type 0} {reader : List ℕ → Outcome (Read A)} {write : A → List ℕ} {Range : A → Type 0} → Codec AreBits reader write Range
-    → (size : ℕ) → ((x : A) → length (write x) ≡ size) → (image : List ℕ) (at : ℕ) (r : Read A) → reader (from image at) ≡ answered r → size ≤ 8 * length image - at
+    → (size : ℕ) → ((x : A) → length (write x) ≡ size) → (image : List ℕ) (at : ℕ) (r : Read A) → reader (from image at) ≡ answered r
+    → size ≤ 8 * length image - at
 enough {write = write} c size l image at r e =
     let s = c .stood-there (from image at) (bits-drop at (bitsOf image) (bits-are-bits image)) r e in
     omega (arith, length-from image at, ap length s, length-append (write (r .value)) (r .rest), l (r .value))
@@ -53,7 +55,8 @@ module _ {A : Type 0} (width tail early size : ℕ) (reader : List ℕ → Outco
     letters =
         let k = answer-of (field early width (bitsOf image)) body xs read in
         let r = answer-of (several reader (k .0 .value) (k .0 .rest)) (finish tail) xs (k .2) in
-        let rest : k .0 .rest ≡ from image width = steady (field-codec early width) width (length-digits width) image 0 (k .0) (k .1) ∙ ap (from image) {x = 0 + width} {y = width} (omega arith) in
+        let rest : k .0 .rest ≡ from image width = steady (field-codec early width) width (length-digits width) image 0 (k .0) (k .1)
+        ∙ ap (from image) {x = 0 + width} {y = width} (omega arith) in
         let n : length (r .0 .value) ≡ k .0 .value = several-length reader (k .0 .value) (k .0 .rest) (r .0) (r .1) in (
           r .0,
           ap (λ m. several reader m (from image width)) n ∙ (ap (several reader (k .0 .value)) (sym rest) ∙ r .1),
@@ -76,7 +79,8 @@ module _ {A : Type 0} (width tail early size : ℕ) (reader : List ℕ → Outco
         ∙ ap (λ v. answered (record { value = getD v i d; rest = from image (width + i * size + size) })) (p .2)
 
     pub placed-inside : (i : ℕ) → i < length xs → (d : A) → size ≤ 8 * length image - (width + i * size)
-    placed-inside i h d = enough one size sized image (width + i * size) (record { value = getD xs i d; rest = from image (width + i * size + size) }) (placed i h d)
+    placed-inside i h d = enough one size sized image (width + i * size) (record { value = getD xs i d; rest = from image (width + i * size + size) })
+        (placed i h d)
 
 pub length-signed : (n : ℕ) (x : Letter) → length (signedBits n x) ≡ 1 + letterWidth n
 length-signed n (forward a) = ap suc (length-digits (letterWidth n) (a - 1)) ∙ omega arith
@@ -84,13 +88,16 @@ length-signed n (back a) = ap suc (length-digits (letterWidth n) (a - 1)) ∙ om
 
 module _ (n : ℕ) (few : n ≤ 16) (image : List ℕ) where
   pub letter-placed : (w : Word) → readProgram n image ≡ answered w → (i : ℕ) → i < length w → (d : Letter)
-      → signedField n (from image (12 + i * (1 + letterWidth n))) ≡ answered (record { value = getD w i d; rest = from image (12 + i * (1 + letterWidth n) + (1 + letterWidth n)) })
+      → signedField n (from image (12 + i * (1 + letterWidth n))) ≡ answered
+      (record { value = getD w i d; rest = from image (12 + i * (1 + letterWidth n) + (1 + letterWidth n)) })
   unfolding readProgram
   letter-placed w e i h d = placed 12 6 4 (1 + letterWidth n) (signedField n) (signedBits n) _ (signed-codec n few) (length-signed n) image w e i h d
 
-  pub letter-inside : (w : Word) → readProgram n image ≡ answered w → (i : ℕ) → i < length w → 12 + i * (1 + letterWidth n) + (1 + letterWidth n) ≤ 8 * length image
+  pub letter-inside : (w : Word) → readProgram n image ≡ answered w → (i : ℕ) → i < length w
+      → 12 + i * (1 + letterWidth n) + (1 + letterWidth n) ≤ 8 * length image
   unfolding readProgram
-  letter-inside w e i h = omega (arith, placed-inside 12 6 4 (1 + letterWidth n) (signedField n) (signedBits n) _ (signed-codec n few) (length-signed n) image w e i h (forward 0))
+  letter-inside w e i h = omega
+      (arith, placed-inside 12 6 4 (1 + letterWidth n) (signedField n) (signedBits n) _ (signed-codec n few) (length-signed n) image w e i h (forward 0))
 
   pub count-inside : (w : Word) → readProgram n image ≡ answered w → 12 ≤ 8 * length image
   unfolding readProgram
@@ -103,4 +110,8 @@ module _ (n : ℕ) (few : n ≤ 16) (image : List ℕ) where
 
   pub entry-inside : (es : List Entry) → readChain n image ≡ answered es → (i : ℕ) → i < length es → entryPosition n i + entryWidth n ≤ 8 * length image
   unfolding readChain
-  entry-inside es e i h = omega (arith, placed-inside 16 6 4 (entryWidth n) (entryField n) (entryBits n) _ (entry-codec n few) (length-entry n) image es e i h (record { offset = 0; a = 0; b = 0 }))
+  entry-inside es e i h = omega (
+    arith,
+    placed-inside 16 6 4 (entryWidth n) (entryField n) (entryBits n) _ (entry-codec n few) (length-entry n) image es e i h
+        (record { offset = 0; a = 0; b = 0 }),
+  )

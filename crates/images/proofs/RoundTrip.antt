@@ -12,7 +12,8 @@ use Rattle.model.specs.Equivalence.{Entry}
 use Rattle.model.specs.Enumeration.{concatMap}
 use Rattle.model.specs.Outcome.{unplaced, Outcome, answered, refused, _>>=_}
 use Rattle.model.specs.Bits.{Read, field, finish, filling, digits, bitsOf, bytesFor, pack, letterWidth}
-use Rattle.model.specs.Images.{weightWidth, several, rowsOf, letterBits, wordBits, pairField, pairBits, signedField, signedBits, entryField, entryBits, readTable, tableImage, readProgram, programImage, readChain, chainImage}
+use Rattle.model.specs.Images.{weightWidth, several, rowsOf, letterBits, wordBits, pairField, pairBits, signedField, signedBits, entryField, entryBits}
+use Rattle.model.specs.Images.{readTable, tableImage, readProgram, programImage, readChain, chainImage}
 use Rattle.bits.proofs.Digits.{AreBits, digits-are-bits, bits-append}
 use Rattle.bits.proofs.Bytes.{bits-are-bits}
 use Rattle.model.specs.Range.{AreBytes, All, Rows, LetterInRange, PairInRange, EntryInRange, ProgramInRange, TableInRange, ChainInRange}
@@ -62,7 +63,8 @@ letter-are-bits : (n a : ℕ) → AreBits (letterBits n a)
 letter-are-bits n a = digits-are-bits (letterWidth n) (a - 1)
 
 pub word-are-bits : (n : ℕ) (x : Positive) → AreBits (wordBits n x)
-word-are-bits n x = bits-append (digits 4 (length x)) (concatMap (letterBits n) x) (digits-are-bits 4 (length x)) (concat-bits (letterBits n) (letter-are-bits n) x)
+word-are-bits n x = bits-append (digits 4 (length x)) (concatMap (letterBits n) x) (digits-are-bits 4 (length x))
+    (concat-bits (letterBits n) (letter-are-bits n) x)
 
 pub pair-are-bits : (n : ℕ) (c : Complement) → AreBits (pairBits n c)
 pair-are-bits n undefined = (omega arith, tt)
@@ -73,17 +75,21 @@ signed-are-bits n (forward a) = (omega arith, letter-are-bits n a)
 signed-are-bits n (back a) = (omega arith, letter-are-bits n a)
 
 entry-are-bits : (n : ℕ) (e : Entry) → AreBits (entryBits n e)
-entry-are-bits n e = bits-append (digits 15 (e .offset)) (letterBits n (e .a) ++ letterBits n (e .b)) (digits-are-bits 15 (e .offset)) (bits-append (letterBits n (e .a)) (letterBits n (e .b)) (letter-are-bits n (e .a)) (letter-are-bits n (e .b)))
+entry-are-bits n e = bits-append (digits 15 (e .offset)) (letterBits n (e .a) ++ letterBits n (e .b)) (digits-are-bits 15 (e .offset))
+    (bits-append (letterBits n (e .a)) (letterBits n (e .b)) (letter-are-bits n (e .a)) (letter-are-bits n (e .b)))
 
 -- PROGRAMS
 module _ (n : ℕ) (few : n ≤ 16) where
-  program-codec : Codec AreBits (counted 4 12 (signedField n) (signedBits n) (LetterInRange n) (signed-codec n few)) (λ w. digits 12 (length w) ++ concatMap (signedBits n) w) (λ w. (length w < 2 ^ 12) × All (LetterInRange n) w)
+  program-codec : Codec AreBits (counted 4 12 (signedField n) (signedBits n) (LetterInRange n) (signed-codec n few))
+      (λ w. digits 12 (length w) ++ concatMap (signedBits n) w) (λ w. (length w < 2 ^ 12) × All (LetterInRange n) w)
   program-codec = counted-codec 4 12 (signedField n) (signedBits n) (LetterInRange n) (signed-codec n few)
 
   program-bits : (w : Word) → AreBits (digits 12 (length w) ++ concatMap (signedBits n) w)
-  program-bits w = bits-append (digits 12 (length w)) (concatMap (signedBits n) w) (digits-are-bits 12 (length w)) (concat-bits (signedBits n) (signed-are-bits n) w)
+  program-bits w = bits-append (digits 12 (length w)) (concatMap (signedBits n) w) (digits-are-bits 12 (length w))
+      (concat-bits (signedBits n) (signed-are-bits n) w)
 
-  program-is : (bytes : List ℕ) → readProgram n bytes ≡ (counted 4 12 (signedField n) (signedBits n) (LetterInRange n) (signed-codec n few) (bitsOf bytes) >>= finish 6)
+  program-is : (bytes : List ℕ)
+      → readProgram n bytes ≡ (counted 4 12 (signedField n) (signedBits n) (LetterInRange n) (signed-codec n few) (bitsOf bytes) >>= finish 6)
   unfolding readProgram
   program-is bytes = sym (bind-assoc (field 4 12 (bitsOf bytes)) (λ k. several (signedField n) (k .value) (k .rest)) (finish 6))
 
@@ -104,11 +110,13 @@ module _ (n : ℕ) (few : n ≤ 16) where
       record { short = p .0; letters = p .1 }
 
   -- CHAINS
-  chain-codec : Codec AreBits (counted 4 16 (entryField n) (entryBits n) (EntryInRange n) (entry-codec n few)) (λ es. digits 16 (length es) ++ concatMap (entryBits n) es) (λ es. (length es < 2 ^ 16) × All (EntryInRange n) es)
+  chain-codec : Codec AreBits (counted 4 16 (entryField n) (entryBits n) (EntryInRange n) (entry-codec n few))
+      (λ es. digits 16 (length es) ++ concatMap (entryBits n) es) (λ es. (length es < 2 ^ 16) × All (EntryInRange n) es)
   chain-codec = counted-codec 4 16 (entryField n) (entryBits n) (EntryInRange n) (entry-codec n few)
 
   chain-bits : (es : List Entry) → AreBits (digits 16 (length es) ++ concatMap (entryBits n) es)
-  chain-bits es = bits-append (digits 16 (length es)) (concatMap (entryBits n) es) (digits-are-bits 16 (length es)) (concat-bits (entryBits n) (entry-are-bits n) es)
+  chain-bits es = bits-append (digits 16 (length es)) (concatMap (entryBits n) es) (digits-are-bits 16 (length es))
+      (concat-bits (entryBits n) (entry-are-bits n) es)
 
   chain-is : (bytes : List ℕ) → readChain n bytes ≡ (counted 4 16 (entryField n) (entryBits n) (EntryInRange n) (entry-codec n few) (bitsOf bytes) >>= finish 6)
   unfolding readChain
@@ -134,7 +142,8 @@ module _ (n : ℕ) (few : n ≤ 16) where
 rows-of : (n : ℕ) → n ≤ 16 → Codec AreBits (rowsOf (pairField n) n) (concatMap (concatMap (pairBits n))) (Rows (PairInRange n) n)
 rows-of n few = rows-codec AreBits bits-suffix (pairField n) (pairBits n) (PairInRange n) (pair-codec n few) n
 
-weights-of : (n : ℕ) → Codec AreBits (several (field 1 weightWidth) n) (concatMap (digits weightWidth)) (λ ws. (length ws ≡ n) × All (λ w. w < 2 ^ weightWidth) ws)
+weights-of : (n : ℕ) → Codec AreBits (several (field 1 weightWidth) n) (concatMap (digits weightWidth))
+    (λ ws. (length ws ≡ n) × All (λ w. w < 2 ^ weightWidth) ws)
 weights-of n = several-codec AreBits bits-suffix (field 1 weightWidth) (digits weightWidth) (λ w. w < 2 ^ weightWidth) (field-codec 1 weightWidth) n
 
 -- what comes after the number of letters: the weights, then the rows
@@ -163,18 +172,21 @@ module _ (n : ℕ) (few : n ≤ 16) where
   body-back T h rest =
       let rows = concatMap (concatMap (pairBits n)) (T .rows) in
       ap (λ l. several (field 1 weightWidth) n l >>= afterWeights n) (append-assoc (concatMap (digits weightWidth) (T .excess)) rows rest)
-      ∙ then (several (field 1 weightWidth) n (concatMap (digits weightWidth) (T .excess) ++ (rows ++ rest))) (afterWeights n) (record { value = T .excess; rest = rows ++ rest }) _
+      ∙ then (several (field 1 weightWidth) n (concatMap (digits weightWidth) (T .excess) ++ (rows ++ rest))) (afterWeights n)
+      (record { value = T .excess; rest = rows ++ rest }) _
       (weights-of n .reads-back (T .excess) (h .weighed, h .light) (rows ++ rest))
       (then (rowsOf (pairField n) n (rows ++ rest)) _ (record { value = T .rows; rest = rest }) _
       (rows-of n few .reads-back (T .rows) (h .pairs) rest)
       (ap (λ k. answered (record { value = record { size = k; excess = T .excess; rows = T .rows }; rest = rest })) (sym (h .sized))))
 
-  body-parts : (input : List ℕ) → AreBits input → (r : Read Presentation) → body n input ≡ answered r → (input ≡ bodyBits n (r .value) ++ r .rest) × BodyInRange n (r .value)
+  body-parts : (input : List ℕ) → AreBits input → (r : Read Presentation) → body n input ≡ answered r → (input ≡ bodyBits n (r .value) ++ r .rest)
+      × BodyInRange n (r .value)
   unfolding body afterWeights bodyBits
   body-parts input i r e =
       let w = answer-of (several (field 1 weightWidth) n input) (afterWeights n) r e in
       let j = input-rest AreBits bits-suffix (weights-of n) input i (w .0) (w .1) in
-      let t = answer-of (rowsOf (pairField n) n (w .0 .rest)) (λ rs. answered (record { value = record { size = n; excess = w .0 .value; rows = rs .value }; rest = rs .rest })) r (w .2) in
+      let t = answer-of (rowsOf (pairField n) n (w .0 .rest))
+      (λ rs. answered (record { value = record { size = n; excess = w .0 .value; rows = rs .value }; rest = rs .rest })) r (w .2) in
       subst (λ r. (input ≡ bodyBits n (r .value) ++ r .rest) × BodyInRange n (r .value))
       (same-answer (record { value = record { size = n; excess = w .0 .value; rows = t .0 .value }; rest = t .0 .rest }) r (t .2)) (
         weights-of n .stood-there input i (w .0) (w .1)
@@ -204,7 +216,8 @@ table-are-bits T =
     (concat-bits (digits weightWidth) (digits-are-bits weightWidth) (T .excess))
     (concat-bits (concatMap (pairBits (T .size))) (concat-bits (pairBits (T .size)) (pair-are-bits (T .size))) (T .rows)))
 
-table-parts : (input : List ℕ) → AreBits input → (r : Read Presentation) → tableBody input ≡ answered r → (input ≡ tableBits (r .value) ++ r .rest) × TableInRange (r .value)
+table-parts : (input : List ℕ) → AreBits input → (r : Read Presentation) → tableBody input ≡ answered r → (input ≡ tableBits (r .value) ++ r .rest)
+    × TableInRange (r .value)
 unfolding tableBody tableBits
 table-parts input i r e =
     let h = answer-of (field 1 4 input) (λ head. body (head .value + 1) (head .rest)) r e in
@@ -234,7 +247,8 @@ table-codec =
     record {
       reads-back = λ T h rest.
           ap tableBody (append-assoc (digits 4 (T .size - 1)) (bodyBits (T .size) T) rest)
-          ∙ then (field 1 4 (digits 4 (T .size - 1) ++ (bodyBits (T .size) T ++ rest))) (λ head. body (head .value + 1) (head .rest)) (record { value = T .size - 1; rest = bodyBits (T .size) T ++ rest }) _
+          ∙ then (field 1 4 (digits 4 (T .size - 1) ++ (bodyBits (T .size) T ++ rest))) (λ head. body (head .value + 1) (head .rest))
+          (record { value = T .size - 1; rest = bodyBits (T .size) T ++ rest }) _
           (field-codec 1 4 .reads-back (T .size - 1) (omega (arith, h .few)) (bodyBits (T .size) T ++ rest))
           (ap (λ k. body k (bodyBits (T .size) T ++ rest)) {x = T .size - 1 + 1} {y = T .size} (omega (arith, h .some))
           ∙ body-back (T .size) (h .few) T (record { sized = refl; weighed = h .weighed; light = h .light; pairs = h .pairs }) rest);
@@ -247,13 +261,16 @@ unfolding readTable tableBody body afterWeights
 table-is bytes = sym (bind-assoc (field 1 4 (bitsOf bytes)) (λ head. body (head .value + 1) (head .rest)) (finish 3) ∙ at-head (field 1 4 (bitsOf bytes)))
   where
     at-rows : (n : ℕ) (o : Outcome (Read (List ℕ))) → (o >>= λ ws. afterWeights n ws >>= finish 3)
-        ≡ (o >>= λ ws. rowsOf (pairField n) n (ws .rest) >>= λ rs. finish 3 (record { value = record { size = n; excess = ws .value; rows = rs .value }; rest = rs .rest }))
+        ≡ (o >>= λ ws. rowsOf (pairField n) n (ws .rest) >>= λ rs. finish 3
+        (record { value = record { size = n; excess = ws .value; rows = rs .value }; rest = rs .rest }))
     at-rows n (answered ws) = bind-assoc (rowsOf (pairField n) n (ws .rest)) _ (finish 3)
     at-rows n (refused k ps) = refl
 
     at-head : (o : Outcome (Read ℕ)) → (o >>= λ head. body (head .value + 1) (head .rest) >>= finish 3)
-        ≡ (o >>= λ head. several (field 1 weightWidth) (head .value + 1) (head .rest) >>= λ ws. rowsOf (pairField (head .value + 1)) (head .value + 1) (ws .rest) >>= λ rs. finish 3 (record { value = record { size = head .value + 1; excess = ws .value; rows = rs .value }; rest = rs .rest }))
-    at-head (answered head) = bind-assoc (several (field 1 weightWidth) (head .value + 1) (head .rest)) (afterWeights (head .value + 1)) (finish 3) ∙ at-rows (head .value + 1) (several (field 1 weightWidth) (head .value + 1) (head .rest))
+        ≡ (o >>= λ head. several (field 1 weightWidth) (head .value + 1) (head .rest) >>= λ ws. rowsOf (pairField (head .value + 1)) (head .value + 1)
+        (ws .rest) >>= λ rs. finish 3 (record { value = record { size = head .value + 1; excess = ws .value; rows = rs .value }; rest = rs .rest }))
+    at-head (answered head) = bind-assoc (several (field 1 weightWidth) (head .value + 1) (head .rest)) (afterWeights (head .value + 1)) (finish 3)
+        ∙ at-rows (head .value + 1) (several (field 1 weightWidth) (head .value + 1) (head .rest))
     at-head (refused n ps) = refl
 
 pub table-reads-back : (T : Presentation) → TableInRange T → readTable (tableImage T) ≡ answered T

@@ -42,7 +42,8 @@ one-more P xs x d old new j h =
     subst (λ j. P j (getD (xs ++ (x ∷ [])) j d)) e (subst (P (length xs)) (sym (getD-at xs x [] d (length xs) refl)) new))
     (below-or j (length xs))
 
-pub holds-pair-kept : (size : ℕ) (before after : List ℕ) (a b : ℕ) (c : Complement) → SameCell before after a b → SameCell before after b a → HoldsPair size before a b c → HoldsPair size after a b c
+pub holds-pair-kept : (size : ℕ) (before after : List ℕ) (a b : ℕ) (c : Complement) → SameCell before after a b → SameCell before after b a
+    → HoldsPair size before a b c → HoldsPair size after a b c
 holds-pair-kept size before after a b c there back h =
     record { there = holds-kept size before after a b c there (h .there); back = holds-kept size before after b a (swapped c) back (h .back) }
 
@@ -112,7 +113,8 @@ module _ (reader : List ℕ → Outcome (Read Complement)) (begin : List ℕ) (s
               (λ e. ⊎-elim (λ (x : u < a). let y = e .0 in omega (arith, f .above)) (λ (x : v < a). let y = e .1 in omega arith) o));
           diagonal = λ u l.
               same-cell-after before cells cells' u u (f .diagonal u l)
-              (p .kept u u (l, l) (λ e. let x = e .0 in let y = e .1 in omega (arith, f .above)) (λ e. let x = e .0 in let y = e .1 in omega (arith, f .above)));
+              (p .kept u u (l, l) (λ e. let x = e .0 in let y = e .1 in omega (arith, f .above))
+              (λ e. let x = e .0 in let y = e .1 in omega (arith, f .above)));
         }
 
     pub pair-refused : (n : ℕ) → b ≤ size → reader rest ≡ refused n unplaced → several reader (size - a) begin ≡ refused n unplaced
@@ -175,7 +177,8 @@ module _ (cells : List ℕ) (size : ℕ) (rows : List (List Complement)) (few : 
       let j : b - a - 1 < length (getD rows (a - 1) []) = omega (arith, widths (a - 1) i) in
       let ea : 1 + (a - 1) ≡ a = omega arith in
       let eb : a + 1 + (b - a - 1) ≡ b = omega arith in
-      let raw : HoldsPair size cells (1 + (a - 1)) (1 + (a - 1) + 1 + (b - a - 1)) (getD (getD rows (a - 1) []) (b - a - 1) undefined) = holds (a - 1) i (b - a - 1) j in
+      let raw : HoldsPair size cells (1 + (a - 1)) (1 + (a - 1) + 1 + (b - a - 1)) (getD (getD rows (a - 1) []) (b - a - 1) undefined) =
+      holds (a - 1) i (b - a - 1) j in
       subst (HoldsPair size cells a b) (sym (listed-is a b ha hb))
       (subst (λ q. HoldsPair size cells a q (getD (getD rows (a - 1) []) (b - a - 1) undefined)) eb
       (subst (λ p. HoldsPair size cells p (p + 1 + (b - a - 1)) (getD (getD rows (a - 1) []) (b - a - 1) undefined)) ea raw))
@@ -185,8 +188,10 @@ module _ (cells : List ℕ) (size : ℕ) (rows : List (List Complement)) (few : 
   complete-holds a b ha la hb lb d =
       subst (λ t. HoldsFirst size cells (cellAt a b) (cond t (complement [] []) (cond (ltb a b) (listed T a b) (swapped (listed T b a))))) (sym (ne-eqb a b d))
       (⊎-elim
-      (λ (h : a < b). subst (λ t. HoldsFirst size cells (cellAt a b) (cond t (listed T a b) (swapped (listed T b a)))) (sym (lt-ltb a b h)) (listed-holds a b ha h lb .there))
-      (λ (h : b ≤ a). subst (λ t. HoldsFirst size cells (cellAt a b) (cond t (listed T a b) (swapped (listed T b a)))) (sym (le-ltb a b h)) (listed-holds b a hb (differ h) la .back))
+      (λ (h : a < b). subst (λ t. HoldsFirst size cells (cellAt a b) (cond t (listed T a b) (swapped (listed T b a)))) (sym (lt-ltb a b h))
+      (listed-holds a b ha h lb .there))
+      (λ (h : b ≤ a). subst (λ t. HoldsFirst size cells (cellAt a b) (cond t (listed T a b) (swapped (listed T b a)))) (sym (le-ltb a b h))
+      (listed-holds b a hb (differ h) la .back))
       (below-or a b))
     where
       differ : b ≤ a → b < a
@@ -239,7 +244,8 @@ module _ (reader : List ℕ → Outcome (Read Complement)) (begin : List ℕ) (s
               one-more (λ i row. HoldsRow size cells' (1 + i) row) (f .done) (r .row) []
               (λ i l j k.
               let w : length (getD (f .done) i []) ≡ size - (1 + i) = f .widths i l in
-              let letters : Letters (1 + i) (1 + i + 1 + j) = (record { low = omega arith; high = omega arith }, record { low = omega arith; high = omega arith }) in
+              let letters : Letters (1 + i) (1 + i + 1 + j) =
+              (record { low = omega arith; high = omega arith }, record { low = omega arith; high = omega arith }) in
               holds-pair-kept size cells cells' (1 + i) (1 + i + 1 + j) (getD (getD (f .done) i []) j undefined)
               (r .kept (1 + i) (1 + i + 1 + j) letters (inl (omega arith)))
               (r .kept (1 + i + 1 + j) (1 + i) (swap-letters (1 + i) (1 + i + 1 + j) letters) (inr (omega arith)))
@@ -285,7 +291,8 @@ module _ (reader : List ℕ → Outcome (Read Complement)) (begin : List ℕ) (s
               in-range = record { short = omega arith; letters = tt };
             })
         by-letters a b ra rb (no e) =
-            complete-holds cells size (f .done) few (f .holds) (omega (arith, f .done-length, f .some-left)) (f .widths) excess a b (ra .low) (ra .high) (rb .low) (rb .high) e
+            complete-holds cells size (f .done) few (f .holds) (omega (arith, f .done-length, f .some-left)) (f .widths) excess a b (ra .low) (ra .high)
+            (rb .low) (rb .high) e
 
 -- WITH THE END, in a form
 

@@ -79,20 +79,24 @@ module _ {A : Type 0} (reader : List ℕ → Outcome (Read A)) where
         → reader (drop (at + i * size) bits) ≡ answered (record { value = getD (r .value) i d; rest = drop (at + i * size + size) bits })
     value-at zero at r e i h d = absurd (omega arith)
     value-at (suc k) at r e zero h d =
-        let f = answer-of (reader (drop at bits)) (λ r. several reader k (r .rest) >>= λ rs. answered (record { value = r .value ∷ rs .value; rest = rs .rest })) r e in
+        let f = answer-of (reader (drop at bits))
+        (λ r. several reader k (r .rest) >>= λ rs. answered (record { value = r .value ∷ rs .value; rest = rs .rest })) r e in
         let t = answer-of (several reader k (f .0 .rest)) (λ rs. answered (record { value = f .0 .value ∷ rs .value; rest = rs .rest })) r (f .2) in
         let z : at + 0 * size ≡ at = omega (arith, zero-mul size) in
         ap (λ n. reader (drop n bits)) z
         ∙ (f .1
         ∙ (ap (λ rest. answered (record { value = f .0 .value; rest = rest })) (steady at (f .0) (f .1))
         ∙ (ap (λ n. answered (record { value = f .0 .value; rest = drop (n + size) bits })) (sym z)
-        ∙ ap (λ r. answered (record { value = getD (r .value) 0 d; rest = drop (at + 0 * size + size) bits })) (same-answer (record { value = f .0 .value ∷ t .0 .value; rest = t .0 .rest }) r (t .2)))))
+        ∙ ap (λ r. answered (record { value = getD (r .value) 0 d; rest = drop (at + 0 * size + size) bits }))
+        (same-answer (record { value = f .0 .value ∷ t .0 .value; rest = t .0 .rest }) r (t .2)))))
     value-at (suc k) at r e (suc i) h d =
-        let f = answer-of (reader (drop at bits)) (λ r. several reader k (r .rest) >>= λ rs. answered (record { value = r .value ∷ rs .value; rest = rs .rest })) r e in
+        let f = answer-of (reader (drop at bits))
+        (λ r. several reader k (r .rest) >>= λ rs. answered (record { value = r .value ∷ rs .value; rest = rs .rest })) r e in
         let t = answer-of (several reader k (f .0 .rest)) (λ rs. answered (record { value = f .0 .value ∷ rs .value; rest = rs .rest })) r (f .2) in
         let z : at + suc i * size ≡ at + size + i * size = omega (arith, suc-mul i size) in
         let u : several reader k (drop (at + size) bits) ≡ answered (t .0) = ap (several reader k) (sym (steady at (f .0) (f .1))) ∙ t .1 in
         ap (λ n. reader (drop n bits)) z
         ∙ (value-at k (at + size) (t .0) u i (omega arith) d
         ∙ (ap (λ n. answered (record { value = getD (t .0 .value) i d; rest = drop (n + size) bits })) (sym z)
-        ∙ ap (λ r. answered (record { value = getD (r .value) (suc i) d; rest = drop (at + suc i * size + size) bits })) (same-answer (record { value = f .0 .value ∷ t .0 .value; rest = t .0 .rest }) r (t .2))))
+        ∙ ap (λ r. answered (record { value = getD (r .value) (suc i) d; rest = drop (at + suc i * size + size) bits }))
+        (same-answer (record { value = f .0 .value ∷ t .0 .value; rest = t .0 .rest }) r (t .2))))

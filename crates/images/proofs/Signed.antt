@@ -109,13 +109,16 @@ module _ (image : List ℕ) (at size width : ℕ) (of : WidthOf size width) wher
           signed =
               ⊎-elim
               (λ (none : v / 2 ^ width < 1).
-              subst (SignedAt image at size width) (omega arith) (signed-forward image at size width (v / 2 ^ width) sign-at (v % 2 ^ width + 1) l (omega arith)))
+              subst (SignedAt image at size width) (omega arith)
+              (signed-forward image at size width (v / 2 ^ width) sign-at (v % 2 ^ width + 1) l (omega arith)))
               (λ (some : 1 ≤ v / 2 ^ width).
-              subst (SignedAt image at size width) (omega (arith, sign-small)) (signed-back image at size width (v / 2 ^ width) sign-at (v % 2 ^ width + 1) l (λ z. omega arith)))
+              subst (SignedAt image at size width) (omega (arith, sign-small))
+              (signed-back image at size width (v / 2 ^ width) sign-at (v % 2 ^ width + 1) l (λ z. omega arith)))
               (below-or (v / 2 ^ width) 1);
           after = subst (λ n. ReadsFrom image n r) (omega arith) (t .after);
         }
 
     -- where no field of a wrong letter can stand
     pub signed-known : (signedField size (from image at) ≡ refused 5 unplaced → ⊥) → v % 2 ^ width < size
-    signed-known never = ⊎-elim (λ (below : v % 2 ^ width < size). below) (λ (above : size ≤ v % 2 ^ width). absurd (never (signed-wrong above))) (below-or (v % 2 ^ width) size)
+    signed-known never = ⊎-elim (λ (below : v % 2 ^ width < size). below) (λ (above : size ≤ v % 2 ^ width). absurd (never (signed-wrong above)))
+        (below-or (v % 2 ^ width) size)

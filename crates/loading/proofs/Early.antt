@@ -11,7 +11,8 @@ use lib.ListN.{length, take, drop, replicate}
 use Rattle.model.specs.Word.{forwards}
 use Rattle.model.specs.Outcome.{unplaced, Outcome, answered, refused, _>>=_, unless}
 use Rattle.model.specs.Bits.{Read, bitsOf, field, finish, filling, letterWidth, number}
-use Rattle.model.specs.Images.{weightWidth, offsetWidth, letterField, several, rowsOf, wordField, definedField, pairField, signedField, entryField, readTable, readProgram, readChain}
+use Rattle.model.specs.Images.{weightWidth, offsetWidth, letterField, several, rowsOf, wordField, definedField, pairField, signedField, entryField, readTable}
+use Rattle.model.specs.Images.{readProgram, readChain}
 use Rattle.model.specs.Services.{isForward, readForward}
 use Rattle.model.specs.Areas.{workspaceAfter}
 use Rattle.model.specs.Stated.{numbered, refusal}
@@ -50,15 +51,18 @@ module _ (k : ℕ) where
       (field-early early (letterWidth n) bits h)
       (λ r. test k (leb n (r .value)) wrong (record { value = r .value + 1; rest = r .rest }) i)
 
-  several-early : {A : Type 0} (reader : List ℕ → Outcome (Read A)) → ((bits : List ℕ) → Early k (reader bits)) → (j : ℕ) (bits : List ℕ) → Early k (several reader j bits)
+  several-early : {A : Type 0} (reader : List ℕ → Outcome (Read A)) → ((bits : List ℕ) → Early k (reader bits)) → (j : ℕ) (bits : List ℕ)
+      → Early k (several reader j bits)
   several-early reader h zero bits = tt
   several-early reader h (suc j) bits =
       early-then k (reader bits) _ (h bits) (λ r. early-then k (several reader j (r .rest)) _ (several-early reader h j (r .rest)) (λ rs. tt))
 
-  rows-early : {A : Type 0} (reader : List ℕ → Outcome (Read A)) → ((bits : List ℕ) → Early k (reader bits)) → (j : ℕ) (bits : List ℕ) → Early k (rowsOf reader j bits)
+  rows-early : {A : Type 0} (reader : List ℕ → Outcome (Read A)) → ((bits : List ℕ) → Early k (reader bits)) → (j : ℕ) (bits : List ℕ)
+      → Early k (rowsOf reader j bits)
   rows-early reader h zero bits = tt
   rows-early reader h (suc j) bits =
-      early-then k (several reader j bits) _ (several-early reader h j bits) (λ r. early-then k (rowsOf reader j (r .rest)) _ (rows-early reader h j (r .rest)) (λ rs. tt))
+      early-then k (several reader j bits) _ (several-early reader h j bits)
+      (λ r. early-then k (rowsOf reader j (r .rest)) _ (rows-early reader h j (r .rest)) (λ rs. tt))
 
 word-early : (n : ℕ) (bits : List ℕ) → Early 3 (wordField n bits)
 word-early n bits =
@@ -122,4 +126,5 @@ pub refusal-workspace : {A : Type 0} (B : Type 0) (r : Refusal) (o : Outcome A) 
     → workspaceAfter {A = B} (refusal r) area ≡ area
 refusal-workspace B r o k e h few area =
     let small : numbered r .0 ≤ k = subst (Early k) e h in
-    ap (λ b. cond (b || (eqb (numbered r .0) 16 || (eqb (numbered r .0) 23 || eqb (numbered r .0) 24))) area (replicate (length area) 0)) (le-leb (numbered r .0) 8 (omega arith))
+    ap (λ b. cond (b || (eqb (numbered r .0) 16 || (eqb (numbered r .0) 23 || eqb (numbered r .0) 24))) area (replicate (length area) 0))
+    (le-leb (numbered r .0) 8 (omega arith))

@@ -26,7 +26,8 @@ use Rattle.cells.proofs.Rules.{of-few}
 use Rattle.loading.specs.Reversing.{LoadedPrograms}
 use Rattle.loading.proofs.Programs.{byte-letters, written-end, too-long}
 
-module _ (cells : List ℕ) (size : ℕ) (T : Presentation) (o : Of cells size T) (u v : Positive) (pu : ProgramInRange size (positive u)) (pv : ProgramInRange size (positive v))
+module _ (cells : List ℕ) (size : ℕ) (T : Presentation) (o : Of cells size T) (u v : Positive) (pu : ProgramInRange size (positive u))
+    (pv : ProgramInRange size (positive v))
     (start turned : List ℕ) (m n : ℕ) (um : length u ≡ m) (vn : length v ≡ n) (fit : m + n ≤ length start)
     (i : Inverted (written start 0 (plainProgram (positive u))) m turned) where
   abbrev unpacked : List ℕ
@@ -80,7 +81,8 @@ module _ (cells : List ℕ) (size : ℕ) (T : Presentation) (o : Of cells size T
         word = loaded both m (length start - n) u v (omega (arith, fit)) (omega (arith, both-length)) left-word right-word;
         searched = load-searched both m (length start - n) u v (omega (arith, fit)) (omega (arith, both-length)) left-word right-word;
         serves =
-            load-serves both m (length start - n) u v (omega (arith, fit)) (omega (arith, both-length)) left-word right-word (o .stands) (named u pu) (named v pv);
+            load-serves both m (length start - n) u v (omega (arith, fit)) (omega (arith, both-length)) left-word right-word (o .stands) (named u pu)
+            (named v pv);
       }
 
 -- programs that do not fit together

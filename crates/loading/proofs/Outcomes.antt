@@ -26,7 +26,8 @@ pub record AsFound {A : Type 0} (o : Outcome A) (r : Refusal) : Type 0 where
   pub workspace : (area : List ℕ) → area ≡ workspaceAfter o area
 
 -- a service that begins with a reading
-pub reading-refused : {A B : Type 0} (o : Outcome B) (reading : Outcome A) (rest : A → Outcome B) → o ≡ (reading >>= rest) → (r : Refusal) → reading ≡ refusal r → (k : ℕ)
+pub reading-refused : {A B : Type 0} (o : Outcome B) (reading : Outcome A) (rest : A → Outcome B) → o ≡ (reading >>= rest) → (r : Refusal) → reading ≡ refusal r
+    → (k : ℕ)
     → Early k reading → k ≤ 8 → AsFound o r
 reading-refused o reading rest begins r e k early few =
     let q = begins ∙ still-refused reading r e rest in

@@ -26,7 +26,8 @@ use Rattle.loading.proofs.Outcomes.{AsFound, reading-refused}
 use Rattle.loading.proofs.Weights.{measured-weighs}
 
 -- A TABLE ALONE, as clear and mirror_clear begin
-pub table-refused : {A : Type 0} (table : List ℕ) (rest : Presentation → Outcome A) (r : Refusal) → readTable table ≡ refusal r → AsFound (readTable table >>= rest) r
+pub table-refused : {A : Type 0} (table : List ℕ) (rest : Presentation → Outcome A) (r : Refusal) → readTable table ≡ refusal r
+    → AsFound (readTable table >>= rest) r
 table-refused table rest r e = reading-refused (readTable table >>= rest) (readTable table) rest refl r e 3 (table-early table) (omega arith)
 
 -- ONE PROGRAM
@@ -95,7 +96,8 @@ module _ {W : Type 0} (read : ℕ → List ℕ → Outcome W) (table first secon
   pub no-first : (r : Refusal) → readTableWith read table first ≡ refusal r → readImages read table first second ≡ refusal r
   no-first r e = still-refused (readTableWith read table first) r e _
 
-  pub no-second : (T : Presentation) (u : W) → readTable table ≡ answered T → read (T .size) first ≡ answered u → (r : Refusal) → read (T .size) second ≡ refusal r
+  pub no-second : (T : Presentation) (u : W) → readTable table ≡ answered T → read (T .size) first ≡ answered u → (r : Refusal)
+      → read (T .size) second ≡ refusal r
       → readImages read table first second ≡ refusal r
   no-second T u e f r g =
       goes-on (readTableWith read table first) _ (reads-both read table first T u e f) _ ∙ still-refused (read (T .size) second) r g _
@@ -110,7 +112,8 @@ module _ {W : Type 0} (read : ℕ → List ℕ → Outcome W) (table first secon
     abbrev service : Outcome A
     service = readImages read table first second >>= rest
 
-    pub images-refused : ((n : ℕ) (bytes : List ℕ) → Early 7 (read n bytes)) → (r : Refusal) → readImages read table first second ≡ refusal r → AsFound service r
+    pub images-refused : ((n : ℕ) (bytes : List ℕ) → Early 7 (read n bytes)) → (r : Refusal) → readImages read table first second ≡ refusal r
+        → AsFound service r
     images-refused early r e = reading-refused service (readImages read table first second) rest refl r e 7 (images-early early) (omega arith)
 
     pub images-run : (T : Presentation) (u v : W) → readTable table ≡ answered T → read (T .size) first ≡ answered u → read (T .size) second ≡ answered v
@@ -136,19 +139,26 @@ module _ (table first second : List ℕ) where
   signed-loaded l f =
       let r = l .runs in
       record {
-        runs = record { table = r .table; of = r .of; programs = record { one = r .accepted; two = record { some = r .accepted .some; few = r .accepted .few; program = f .program } } };
+        runs = record {
+          table = r .table;
+          of = r .of;
+          programs =
+              record { one = r .accepted; two = record { some = r .accepted .some; few = r .accepted .few; program = f .program } };
+        };
         first-weighs = l .weighs;
         second-weighs = f .weight-is;
         table-read = l .table-read;
       }
 
-  pub both-as : (s : Signs) (cells : List ℕ) (size m n one two : ℕ) (all : Bool) → LoadedAs s table first cells size m one → MeasuredAs s second cells size n all two
+  pub both-as : (s : Signs) (cells : List ℕ) (size m n one two : ℕ) (all : Bool) → LoadedAs s table first cells size m one
+      → MeasuredAs s second cells size n all two
       → BothAs s table first second cells size m n one two
   both-as Any cells size m n one two all l f = signed-loaded l f
   both-as ForwardAlone cells size m n one two all l f = programs-loaded l f
 
   -- the second program is refused
-  pub second-refused : (s : Signs) (cells : List ℕ) (size m one : ℕ) → LoadedAs s table first cells size m one → (r : Refusal) → readAs s size second ≡ refusal r
+  pub second-refused : (s : Signs) (cells : List ℕ) (size m one : ℕ) → LoadedAs s table first cells size m one → (r : Refusal)
+      → readAs s size second ≡ refusal r
       → readImages (readAs s) table first second ≡ refusal r
   second-refused Any cells size m one l r e =
       no-second readProgram table first second (l .runs .table) (l .runs .accepted .program .word) (l .table-read) (l .program-read) r
@@ -169,5 +179,6 @@ module _ (table first second : List ℕ) where
     pub programs-refused : (r : Refusal) → readImages readForward table first second ≡ refusal r → AsFound forward-service r
     programs-refused = images-refused readForward table first second rest forward-early
 
-    pub programs-run : (T : Presentation) (u v : Positive) → Compares table first second T u v → forward-service ≡ rest (record { table = T; first = u; second = v })
+    pub programs-run : (T : Presentation) (u v : Positive) → Compares table first second T u v
+        → forward-service ≡ rest (record { table = T; first = u; second = v })
     programs-run T u v c = images-run readForward table first second rest T u v (c .table-read) (c .first-read) (c .second-read)

@@ -12,9 +12,11 @@ use Rattle.images.proofs.RoundTrip.{program-in-range}
 use Rattle.images.proofs.Measuring.{cells-weigh}
 use Rattle.loading.specs.Weighing.{Weighs}
 
-pub measured-weighs : (cells : List ℕ) (size : ℕ) (program : List ℕ) (count weight : ℕ) → ForwardMeasured program cells size count weight → Weighs cells size program weight
+pub measured-weighs : (cells : List ℕ) (size : ℕ) (program : List ℕ) (count weight : ℕ) → ForwardMeasured program cells size count weight
+    → Weighs cells size program weight
 measured-weighs cells size program count weight m T o u e =
     let w = m .forward .word in
     let same : w ≡ u = same-answer w u (sym (m .forward .read) ∙ e) in
     m .weight-is
-    ∙ (cells-weigh program cells size T o w (program-in-range size (of-few o) program (positive w) (m .forward .read-signed) .letters) ∙ ap (Rattle.model.specs.Presentation.weigh T) same)
+    ∙ (cells-weigh program cells size T o w (program-in-range size (of-few o) program (positive w) (m .forward .read-signed) .letters)
+    ∙ ap (Rattle.model.specs.Presentation.weigh T) same)

@@ -13,7 +13,8 @@ use Rattle.model.specs.Enumeration.{concatMap}
 use Rattle.model.specs.Outcome.{Outcome, answered, _>>=_, unless}
 use Rattle.model.specs.Bits.{Read}
 use Rattle.model.specs.Images.{weightWidth, several, rowsOf}
-use Rattle.model.specs.Plain.{plainWord, plainPair, plainTable, plainProgram, nextByte, plainLetter, plainWeight, plainLetters, plainDefined, plainPairAt, readPlainTable, namesLetter, plainLettersSigned, readPlainProgram}
+use Rattle.model.specs.Plain.{plainWord, plainPair, plainTable, plainProgram, nextByte, plainLetter, plainWeight, plainLetters, plainDefined, plainPairAt}
+use Rattle.model.specs.Plain.{readPlainTable, namesLetter, plainLettersSigned, readPlainProgram}
 use Rattle.model.specs.Range.{AreBytes, All, Rows, InRange, LetterInRange, WordInRange, PairInRange, ProgramInRange, TableInRange}
 use Rattle.model.proofs.Booleans.{both}
 use Rattle.model.proofs.Impossible.{answer-of, same-answer, not-refused}
@@ -78,7 +79,8 @@ module _ (n : ℕ) where
   letter-codec : Codec Any (plainLetter n) one (InRange n)
   letter-codec =
       record {
-        reads-back = λ a h rest. ap (λ t. unless t 2 (record { value = a; rest = rest })) (or-neither (ltb a 1) (ltb n a) (le-ltb a 1 (h .low)) (le-ltb n a (h .high)));
+        reads-back = λ a h rest. ap (λ t. unless t 2 (record { value = a; rest = rest }))
+            (or-neither (ltb a 1) (ltb n a) (le-ltb a 1 (h .low)) (le-ltb n a (h .high)));
         stood-there = λ input i r e. letter-parts input r e .0;
         in-range = λ input i r e. letter-parts input r e .1;
       }
@@ -92,7 +94,8 @@ module _ (n : ℕ) where
       ap (λ t. unless t 2 (length x) >>= λ k. several (plainLetter n) k (x ++ rest)) (le-ltb 15 (length x) (omega (arith, h .short)))
       ∙ (ap (λ l. several (plainLetter n) (length x) (l ++ rest)) (sym (concat-ones x)) ∙ many (length x) .reads-back x (refl, h .letters) rest)
 
-  letters-parts : (k : ℕ) (input : List ℕ) (r : Read Positive) → plainLetters n k input ≡ answered r → (k ∷ input ≡ plainWord (r .value) ++ r .rest) × WordInRange n (r .value)
+  letters-parts : (k : ℕ) (input : List ℕ) (r : Read Positive) → plainLetters n k input ≡ answered r → (k ∷ input ≡ plainWord (r .value) ++ r .rest)
+      × WordInRange n (r .value)
   letters-parts k input r e =
       let f = answer-of (unless (ltb 15 k) 2 k) (λ k. several (plainLetter n) k input) r e in
       let p = not-refused (ltb 15 k) 2 k (f .0) (f .1) in
@@ -114,15 +117,19 @@ module _ (n : ℕ) where
       → plainDefined n (length x) ((x ++ plainWord y) ++ rest) ≡ answered (record { value = complement x y; rest = rest })
   both-back x y hx hy rest =
       ap (plainDefined n (length x)) (append-assoc x (plainWord y) rest)
-      ∙ then (plainLetters n (length x) (x ++ (length y ∷ (y ++ rest)))) _ (record { value = x; rest = length y ∷ (y ++ rest) }) _ (letters-back x hx (length y ∷ (y ++ rest)))
-      (then (plainLetters n (length y) (y ++ rest)) (λ y. answered (record { value = complement x (y .value); rest = y .rest })) (record { value = y; rest = rest }) _ (letters-back y hy rest) refl)
+      ∙ then (plainLetters n (length x) (x ++ (length y ∷ (y ++ rest)))) _ (record { value = x; rest = length y ∷ (y ++ rest) }) _
+      (letters-back x hx (length y ∷ (y ++ rest)))
+      (then (plainLetters n (length y) (y ++ rest)) (λ y. answered (record { value = complement x (y .value); rest = y .rest }))
+      (record { value = y; rest = rest }) _ (letters-back y hy rest) refl)
 
-  both-parts : (k : ℕ) (input : List ℕ) (r : Read Complement) → plainDefined n k input ≡ answered r → (k ∷ input ≡ plainPair (r .value) ++ r .rest) × PairInRange n (r .value)
+  both-parts : (k : ℕ) (input : List ℕ) (r : Read Complement) → plainDefined n k input ≡ answered r → (k ∷ input ≡ plainPair (r .value) ++ r .rest)
+      × PairInRange n (r .value)
   unfolding first second
   both-parts k input r e =
       let x = answer-of (plainLetters n k input) first r e in
       let j = answer-of (nextByte (x .0 .rest)) (second (x .0 .value)) r (x .2) in
-      let y = answer-of (plainLetters n (j .0 .value) (j .0 .rest)) (λ y. answered (record { value = complement (x .0 .value) (y .value); rest = y .rest })) r (j .2) in
+      let y = answer-of (plainLetters n (j .0 .value) (j .0 .rest)) (λ y. answered (record { value = complement (x .0 .value) (y .value); rest = y .rest })) r
+      (j .2) in
       let p = letters-parts k input (x .0) (x .1) in
       let q = letters-parts (j .0 .value) (j .0 .rest) (y .0) (y .1) in
       subst (λ r. (k ∷ input ≡ plainPair (r .value) ++ r .rest) × PairInRange n (r .value))
@@ -143,7 +150,8 @@ module _ (n : ℕ) where
       (ne-eqb (length x) 255 (λ e. omega (arith, h .0 .short)))
       ∙ both-back x y (h .0) (h .1) rest
 
-  pair-at : (t : Bool) (k : ℕ) (rest : List ℕ) (r : Read Complement) → eqb k 255 ≡ t → cond t (answered (record { value = undefined; rest = rest })) (plainDefined n k rest) ≡ answered r
+  pair-at : (t : Bool) (k : ℕ) (rest : List ℕ) (r : Read Complement) → eqb k 255 ≡ t → cond t (answered (record { value = undefined; rest = rest }))
+      (plainDefined n k rest) ≡ answered r
       → (k ∷ rest ≡ plainPair (r .value) ++ r .rest) × PairInRange n (r .value)
   pair-at true k rest r s e =
       subst (λ r. (k ∷ rest ≡ plainPair (r .value) ++ r .rest) × PairInRange n (r .value)) (same-answer (record { value = undefined; rest = rest }) r e)
@@ -175,7 +183,8 @@ weight-parts input r e =
     let f = answer-of (plainLetter 8 input) (λ r. answered (record { value = r .value - 1; rest = r .rest })) r e in
     let p = letter-parts 8 input (f .0) (f .1) in
     let whole : f .0 .value ≡ suc (f .0 .value - 1) = omega (arith, p .1 .low) in
-    subst (λ r. (input ≡ weightByte (r .value) ++ r .rest) × (r .value < 2 ^ weightWidth)) (same-answer (record { value = f .0 .value - 1; rest = f .0 .rest }) r (f .2))
+    subst (λ r. (input ≡ weightByte (r .value) ++ r .rest) × (r .value < 2 ^ weightWidth))
+    (same-answer (record { value = f .0 .value - 1; rest = f .0 .rest }) r (f .2))
     (p .0 ∙ ap (λ v. v ∷ f .0 .rest) whole, omega (arith, p .1 .low, p .1 .high))
 
 weight-codec : Codec Any plainWeight weightByte (λ w. w < 2 ^ weightWidth)
@@ -214,7 +223,8 @@ unfolding readPlainTable plainTable tableWeights tableRows tableEnd
 plain-table-reads-back T h =
     let rows = concatMap (concatMap plainPair) (T .rows) in
     let weights = map suc (T .excess) in
-    ap (λ t. unless t 2 (record { value = T .size; rest = weights ++ rows }) >>= tableWeights) (or-neither (ltb (T .size) 1) (ltb 16 (T .size)) (le-ltb (T .size) 1 (h .some)) (le-ltb 16 (T .size) (h .few)))
+    ap (λ t. unless t 2 (record { value = T .size; rest = weights ++ rows }) >>= tableWeights)
+    (or-neither (ltb (T .size) 1) (ltb 16 (T .size)) (le-ltb (T .size) 1 (h .some)) (le-ltb 16 (T .size) (h .few)))
     ∙ (ap (λ l. several plainWeight (T .size) (l ++ rows) >>= tableRows (T .size)) (sym (weight-bytes (T .excess)))
     ∙ then (several plainWeight (T .size) (concatMap weightByte (T .excess) ++ rows)) (tableRows (T .size)) (record { value = T .excess; rest = rows }) _
     (plain-weights (T .size) .reads-back (T .excess) (h .weighed, h .light) rows)
@@ -294,7 +304,8 @@ named-letter n x h e = by-sign (ltb x 128) refl
         let l : 128 ≤ x = ltb-false x 128 s in
         (omega arith, record { low = omega (arith, named-positive n x e); high = omega (arith, named-small n x e) })
 
-program-parts : (n : ℕ) (bytes : List ℕ) (w : Word) → AreBytes bytes → plainLettersSigned n bytes ≡ answered w → (bytes ≡ plainProgram w) × All (LetterInRange n) w
+program-parts : (n : ℕ) (bytes : List ℕ) (w : Word) → AreBytes bytes → plainLettersSigned n bytes ≡ answered w → (bytes ≡ plainProgram w)
+    × All (LetterInRange n) w
 program-parts n [] w bs e = subst (λ w. ([] ≡ plainProgram w) × All (LetterInRange n) w) (same-answer [] w e) (refl, tt)
 program-parts n (x ∷ bytes) w bs e =
     let f = answer-of (unless (not (namesLetter n x)) 5 (letter x)) (λ a. plainLettersSigned n bytes >>= λ w. answered (a ∷ w)) w e in
@@ -308,7 +319,8 @@ program-parts n (x ∷ bytes) w bs e =
       (t .1, r .1),
     )
 
-pub plain-program-of : (n : ℕ) (bytes : List ℕ) → AreBytes bytes → (w : Word) → readPlainProgram n bytes ≡ answered w → (bytes ≡ plainProgram w) × ProgramInRange n w
+pub plain-program-of : (n : ℕ) (bytes : List ℕ) → AreBytes bytes → (w : Word) → readPlainProgram n bytes ≡ answered w → (bytes ≡ plainProgram w)
+    × ProgramInRange n w
 unfolding readPlainProgram
 plain-program-of n bytes bs w e =
     let f = answer-of (unless (ltb 4095 (length bytes)) 4 bytes) (plainLettersSigned n) w e in

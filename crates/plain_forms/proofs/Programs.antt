@@ -38,7 +38,8 @@ unfolding rest
 first-unnamed n x xs e = ap (λ t. unless (not t) 5 (letter x) >>= rest n xs) e
 
 -- a fault behind a letter, whatever the letter is
-behind : (n x : ℕ) (xs : List ℕ) → plainLettersSigned n xs ≡ refused 5 unplaced → (t : Bool) → namesLetter n x ≡ t → plainLettersSigned n (x ∷ xs) ≡ refused 5 unplaced
+behind : (n x : ℕ) (xs : List ℕ) → plainLettersSigned n xs ≡ refused 5 unplaced → (t : Bool) → namesLetter n x ≡ t
+    → plainLettersSigned n (x ∷ xs) ≡ refused 5 unplaced
 behind n x xs r true f = first-named n x xs f ∙ ap (λ o. o >>= λ w. answered (letter x ∷ w)) r
 behind n x xs r false f = first-unnamed n x xs f
 
@@ -57,7 +58,8 @@ pub record Counted (plain : List ℕ) (size faults i : ℕ) : Type 0 where
 pub counted-none : (plain : List ℕ) (size : ℕ) → Counted plain size 0 0
 counted-none plain size = record { inside = omega arith; few = omega arith; named = λ e j h. absurd (omega arith); unnamed = λ h. absurd (omega arith) }
 
-pub counted-more : (plain : List ℕ) (size faults i : ℕ) → Counted plain size faults i → i < length plain → Counted plain size (faults + cond (namesLetter size (getD plain i 0)) 0 1) (i + 1)
+pub counted-more : (plain : List ℕ) (size faults i : ℕ) → Counted plain size faults i → i < length plain
+    → Counted plain size (faults + cond (namesLetter size (getD plain i 0)) 0 1) (i + 1)
 counted-more plain size faults i c h = by-name (namesLetter size (getD plain i 0)) refl
   where
     by-name : (t : Bool) → namesLetter size (getD plain i 0) ≡ t → Counted plain size (faults + cond t 0 1) (i + 1)

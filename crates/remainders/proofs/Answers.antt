@@ -100,5 +100,6 @@ remainder-late area (finished n (x ∷ d) k r) = late-answer
 remainder-late area (open-pair a b k) = late-answer
 remainder-late area (stopped s) = late-stop s
 
-pub remainder-zero : (area : ℕ) (e : Ending) (workspace : List ℕ) → workspaceAfter (mapped counted (remainderOf area e)) workspace ≡ replicate (length workspace) 0
+pub remainder-zero : (area : ℕ) (e : Ending) (workspace : List ℕ) → workspaceAfter (mapped counted (remainderOf area e)) workspace ≡ replicate
+    (length workspace) 0
 remainder-zero area e = late-mapped counted _ (remainder-late area e) .zero

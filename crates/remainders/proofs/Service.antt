@@ -68,7 +68,8 @@ module _ (table done pattern : List ℕ) (steps width area : ℕ) where
   remainder-runs = programs-run table done pattern concludes
 
   pub remainder-says : (told : Outcome (Remainder ℕ)) (before after : List ℕ) → told ≡ mapped counted (remainder table done pattern steps width area)
-      → after ≡ outputAfter remainderBytes (remainder table done pattern steps width area) before → RemainderMeaning table done pattern steps width area told after
+      → after ≡ outputAfter remainderBytes (remainder table done pattern steps width area) before
+      → RemainderMeaning table done pattern steps width area told after
   remainder-says told before after t a T u v c =
       let left = ap₂ (λ x y. mapped (movesLeft x) y) a t ∙ (left-outcome (remainder table done pattern steps width area) before ∙ remainder-runs T u v c) in
       subst (QuotientMeaning T u v steps width area) (sym left) (quotient-meaning T u v steps width area)

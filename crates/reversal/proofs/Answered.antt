@@ -56,7 +56,8 @@ made-late (Commit h) area e = committed-late (handed h) area e
 
 -- a wiped workspace, and what an ending comes to
 pub answered-states : (asked : Asked) (e : Ending) (o : Outcome Fraction) {workspace workspace′ before after : List ℕ} {r : Reversed}
-    → o ≡ madeOf asked (length before) e → workspace′ ≡ replicate (length workspace) 0 → Answers (madeOf asked (length before) e) before after r → States o workspace workspace′ before after r
+    → o ≡ madeOf asked (length before) e → workspace′ ≡ replicate (length workspace) 0 → Answers (madeOf asked (length before) e) before after r
+    → States o workspace workspace′ before after r
 answered-states asked e o {workspace} {workspace′} {before} is z a =
     record {
       result = a .result ∙ sym (ap (mapped sizes) is);

@@ -61,7 +61,8 @@ module _ (T : Presentation) (w : Word) (steps : ℕ) (workspace before : List �
 -- THE ANSWER READ BACKWARD AGAIN
 
 module _ (area : ℕ) where
-  turned-unless : (short short′ : Bool) → short ≡ short′ → (f g : Fraction) → turnedFraction f ≡ g → mapped turnedFraction (unless short 13 f) ≡ unless short′ 13 g
+  turned-unless : (short short′ : Bool) → short ≡ short′ → (f g : Fraction) → turnedFraction f ≡ g
+      → mapped turnedFraction (unless short 13 f) ≡ unless short′ 13 g
   turned-unless true true e f g h = refl
   turned-unless true false e f g h = impossible (cc)
   turned-unless false true e f g h = impossible (cc)
@@ -97,7 +98,8 @@ module _ (table program : List ℕ) (steps : ℕ) (workspace before : List ℕ) 
           let written-is = a ∙ ap (λ q. outputAfter fractionBytes q before) o in
           let right = reversing (mirror T) steps (length workspace) (reverse w) in
           let left : mapped turnedFraction (mapped (fractionLeft after) told) ≡ fractionOf (length before) right =
-          ap (mapped turnedFraction) (ap₂ (λ x y. mapped (fractionLeft x) y) written-is told-is ∙ left-outcome (fractionOf (length before) (readBackward right)) before)
+          ap (mapped turnedFraction)
+          (ap₂ (λ x y. mapped (fractionLeft x) y) written-is told-is ∙ left-outcome (fractionOf (length before) (readBackward right)) before)
           ∙ turned-ending (length before) right in
           record {
             told-is = told-is;

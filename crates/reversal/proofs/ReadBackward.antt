@@ -32,7 +32,8 @@ use Rattle.reversal.specs.Backward.{WordsTurned}
 
 -- a word read backward has the same letters
 pub backward-in-range : (n : ℕ) (w : Word) → ProgramInRange n w → ProgramInRange n (reverse w)
-backward-in-range n w p = record { short = subst (λ k. k < 2 ^ countWidth) (sym (length-reverse w)) (p .short); letters = all-reverse (LetterInRange n) w (p .letters) }
+backward-in-range n w p =
+    record { short = subst (λ k. k < 2 ^ countWidth) (sym (length-reverse w)) (p .short); letters = all-reverse (LetterInRange n) w (p .letters) }
 
 -- the bytes of a word at the area's end, turned around, are those of the word read backward
 module _ (area : List ℕ) (w : Word) (right : ℕ) (fit : right + length w ≡ length area) where
@@ -55,7 +56,8 @@ module _ (area : List ℕ) (w : Word) (right : ℕ) (fit : right + length w ≡ 
       → take right loaded ++ part ≡ written area right (plainProgram (reverse w))
   loaded-backward part e =
       let same : length w ≡ length (plainProgram w) = sym (length-map w byte) in
-      let first : take (length w) (drop right loaded) ≡ plainProgram w = ap (take (length w)) at-end ∙ take-all (length w) (plainProgram w) (omega (arith, same)) in
+      let first : take (length w) (drop right loaded) ≡ plainProgram w =
+      ap (take (length w)) at-end ∙ take-all (length w) (plainProgram w) (omega (arith, same)) in
       let none : drop (length w) (drop right loaded) ≡ [] = ap₂ drop same at-end ∙ drop-length (plainProgram w) in
       let turned : part ≡ plainProgram (reverse w) ++ [] = e ∙ ap₂ (λ l r. reverse l ++ r) first none ∙ ap (λ l. l ++ []) (sym (map-reverse byte w)) in
       ap₂ (λ l r. l ++ r) in-front (turned ∙ ap (λ r. plainProgram (reverse w) ++ r) (sym (nothing-after (reverse w) (length-reverse w))))
@@ -66,9 +68,12 @@ pub backward-word : (area mid part : List ℕ) (w : Word) (right count : ℕ) �
     → part ≡ reverse (take count (take (length mid - right) (drop right mid))) ++ drop count (take (length mid - right) (drop right mid))
     → putMid right (length mid - right) mid part ≡ written area right (plainProgram (reverse w))
 backward-word area mid part w right count fit n long e p =
-    let whole : take (length mid - right) (drop right mid) ≡ drop right mid = take-all (length mid - right) (drop right mid) (omega (arith, length-drop right mid)) in
-    let whole-part : part ≡ reverse (take (length w) (drop right (written area right (plainProgram w)))) ++ drop (length w) (drop right (written area right (plainProgram w))) =
-    p ∙ (ap (λ l. reverse (take count l) ++ drop count l) (whole ∙ ap (drop right) e) ∙ ap (λ k. reverse (take k (drop right (written area right (plainProgram w)))) ++ drop k (drop right (written area right (plainProgram w)))) (sym n)) in
+    let whole : take (length mid - right) (drop right mid) ≡ drop right mid =
+    take-all (length mid - right) (drop right mid) (omega (arith, length-drop right mid)) in
+    let whole-part : part ≡ reverse (take (length w) (drop right (written area right (plainProgram w))))
+    ++ drop (length w) (drop right (written area right (plainProgram w))) =
+    p ∙ (ap (λ l. reverse (take count l) ++ drop count l) (whole ∙ ap (drop right) e)
+    ∙ ap (λ k. reverse (take k (drop right (written area right (plainProgram w)))) ++ drop k (drop right (written area right (plainProgram w)))) (sym n)) in
     part-back right mid part (omega (arith, fit, long))
     ∙ (ap (λ l. take right l ++ part) e ∙ loaded-backward area w right (omega (arith, fit, n)) part whole-part)
 
@@ -100,7 +105,8 @@ unless-turned false f = refl
 
 fraction-turned : (area : ℕ) (e : Ending) → fractionOf area (readBackward e) ≡ mapped turnedFraction (fractionOf area e)
 fraction-turned area (finished n d k r) =
-    ap (λ i. unless (ltb area i) 13 (record { numerator = reverse n; denominator = reverse d; steps = k })) (ap₂ (λ i j. i + j) (length-reverse n) (length-reverse d))
+    ap (λ i. unless (ltb area i) 13 (record { numerator = reverse n; denominator = reverse d; steps = k }))
+    (ap₂ (λ i j. i + j) (length-reverse n) (length-reverse d))
     ∙ unless-turned (ltb area (length n + length d)) (record { numerator = n; denominator = d; steps = k })
 fraction-turned area (open-pair a b k) = refl
 fraction-turned area (stopped s) = refl

@@ -32,10 +32,12 @@ module _ (cells before : List ℕ) (numerator denominator : ℕ) (T : Presentati
   front-long = length-take-le numerator before (omega (arith, l .inside))
 
   both : letters (take numerator before) ++ letters (take denominator (drop numerator before)) ≡ positive n ++ negative d
-  both = sym (letters-append (take numerator before) (take denominator (drop numerator before))) ∙ ap letters (sym (take-add numerator denominator before)) ∙ l .word
+  both = sym (letters-append (take numerator before) (take denominator (drop numerator before))) ∙ ap letters (sym (take-add numerator denominator before))
+      ∙ l .word
 
   parts : (letters (take numerator before) ≡ positive n) × (letters (take denominator (drop numerator before)) ≡ negative d)
-  parts = split (letters (take numerator before)) (letters (take denominator (drop numerator before))) (positive n) (negative d) both (length-letters (take numerator before) ∙ front-long ∙ sym (length-positive n ∙ l .n-long))
+  parts = split (letters (take numerator before)) (letters (take denominator (drop numerator before))) (positive n) (negative d) both
+      (length-letters (take numerator before) ∙ front-long ∙ sym (length-positive n ∙ l .n-long))
 
   first-bytes : take numerator before ≡ n
   first-bytes = letters-forward (take numerator before) n (parts .0)
@@ -62,7 +64,8 @@ module _ (cells before : List ℕ) (numerator denominator : ℕ) (T : Presentati
   n-lettered = all-first (LetterInRange (T .size)) (positive n) (negative d) (l .named)
 
   d-lettered : Lettered (T .size) (positive d)
-  d-lettered = subst (Lettered (T .size)) (inverse-inverse (positive d)) (inverse-lettered (T .size) (negative d) (all-second (LetterInRange (T .size)) (positive n) (negative d) (l .named)))
+  d-lettered = subst (Lettered (T .size)) (inverse-inverse (positive d))
+      (inverse-lettered (T .size) (negative d) (all-second (LetterInRange (T .size)) (positive n) (negative d) (l .named)))
 
   pub two-words : Stand cells after numerator (numerator + denominator) T n d
   two-words = record {

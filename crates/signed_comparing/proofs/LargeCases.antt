@@ -38,5 +38,6 @@ largeSets =
     gives answered (same-after-both 6 2)) ∷ []
 
 pub large-sets-hold : All largeSets
-unfolding complete mirrorCheck cleared reversing run next under side against cubeAt readTable readProgram tableImage programImage field finish grownFrom grownSet signedComparison compareSigned
+unfolding complete mirrorCheck cleared reversing run next under side against cubeAt readTable readProgram tableImage programImage field finish grownFrom
+    grownSet signedComparison compareSigned
 large-sets-hold = (refl, (refl, (refl, (refl, tt))))

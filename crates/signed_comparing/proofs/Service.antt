@@ -48,7 +48,8 @@ after-stated k (Refused r) = refl
 
 module _ (cells : List ℕ) (T : Presentation) (s : Stands cells T) (word : Word) (steps : ℕ) (workspace : List ℕ) where
   -- what a finished reversing left
-  pub left-of : (n d k r : ℕ) (p : Reverses T word steps workspace (Finished n d k r)) → Left cells workspace n d T (done T word steps workspace n d k r p .N) (done T word steps workspace n d k r p .D)
+  pub left-of : (n d k r : ℕ) (p : Reverses T word steps workspace (Finished n d k r)) → Left cells workspace n d T (done T word steps workspace n d k r p .N)
+      (done T word steps workspace n d k r p .D)
   left-of n d k r p =
       let q = done T word steps workspace n d k r p in
       record {
@@ -68,13 +69,16 @@ module _ (T : Presentation) (word : Word) (steps : ℕ) (workspace : List ℕ) w
       let q = done T word steps workspace n d k r p in
       after-stated k c ∙ ap (mapped (afterFirst k)) e ∙ ap (signedOf T steps (length workspace)) (sym (q .is))
 
-  pub settled-open : (p : Pair) (k : ℕ) → Reverses T word steps workspace (Undefined p k) → comparedSigned (SignedRefused (OpenPair p)) ≡ signedOf T steps (length workspace) (reversing T steps (length workspace) word)
+  pub settled-open : (p : Pair) (k : ℕ) → Reverses T word steps workspace (Undefined p k) → comparedSigned (SignedRefused (OpenPair p)) ≡ signedOf T steps
+      (length workspace) (reversing T steps (length workspace) word)
   settled-open p k q = sym (ap (signedOf T steps (length workspace)) (met T word steps workspace p k q))
 
-  pub settled-stopped : (s : StopAnswer) → Reverses T word steps workspace (Stopped s) → comparedSigned (SignedRefused (stopRefusal s)) ≡ signedOf T steps (length workspace) (reversing T steps (length workspace) word)
+  pub settled-stopped : (s : StopAnswer) → Reverses T word steps workspace (Stopped s) → comparedSigned (SignedRefused (stopRefusal s)) ≡ signedOf T steps
+      (length workspace) (reversing T steps (length workspace) word)
   settled-stopped s q =
       let h = halted T word steps workspace s q in
-      ap (λ x. comparedSigned (SignedRefused (stopRefusal x))) (sym (h .told)) ∙ stop-numbered (h .stop) ∙ ap (signedOf T steps (length workspace)) (sym (h .is))
+      ap (λ x. comparedSigned (SignedRefused (stopRefusal x))) (sym (h .told)) ∙ stop-numbered (h .stop) ∙ ap (signedOf T steps (length workspace))
+      (sym (h .is))
 
 -- THE WORKSPACE
 
@@ -101,7 +105,8 @@ module _ (T : Presentation) (w v : Word) (steps width : ℕ) where
 
   begins-prepared : signedComparison T w v steps width ≡ (prepared T steps width >>= λ ok. rest)
   unfolding signedComparison prepared
-  begins-prepared = sym (regrouped (mirrorCheck T) (cleared T steps width) (ofMirror (cubeCheck (mirror T) steps width (triples (T .size)))) (grownSet T steps width) rest)
+  begins-prepared = sym (regrouped (mirrorCheck T) (cleared T steps width) (ofMirror (cubeCheck (mirror T) steps width (triples (T .size))))
+      (grownSet T steps width) rest)
 
   pub signed-refused : (r : Refusal) → refusal r ≡ prepared T steps width → refusal r ≡ signedComparison T w v steps width
   signed-refused r e = sym (begins-prepared ∙ still-refused (prepared T steps width) r (sym e) (λ ok. rest))
@@ -119,7 +124,8 @@ module _ (table first second : List ℕ) (steps width : ℕ) where
   unfolding compareSigned
   read-refused = images-refused readProgram table first second judges program-early
 
-  pub compare-runs : (T : Presentation) (w v : Word) → readTable table ≡ answered T → readProgram (T .size) first ≡ answered w → readProgram (T .size) second ≡ answered v
+  pub compare-runs : (T : Presentation) (w v : Word) → readTable table ≡ answered T → readProgram (T .size) first ≡ answered w
+      → readProgram (T .size) second ≡ answered v
       → compareSigned table first second steps width ≡ signedComparison T w v steps width
   unfolding compareSigned
   compare-runs = images-run readProgram table first second judges
@@ -129,4 +135,5 @@ module _ (table first second : List ℕ) (steps width : ℕ) where
   says o e T t w v ew ev =
       let r = table-in-range table T t in
       subst (ComparisonSigned T w v steps width) (sym (e ∙ compare-runs T w v t ew ev))
-      (comparison-signed T r steps width w v (program-in-range (T .size) (r .few) first w ew .letters) (program-in-range (T .size) (r .few) second v ev .letters))
+      (comparison-signed T r steps width w v (program-in-range (T .size) (r .few) first w ew .letters)
+      (program-in-range (T .size) (r .few) second v ev .letters))

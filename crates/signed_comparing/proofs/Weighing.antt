@@ -30,7 +30,8 @@ part-less : (T : Presentation) (u : Positive) (i : ℕ) → i < length u → wei
 part-less T u i h = omega (arith, total-more (weightOf T) u i h, part-lighter T u (i + 1))
 
 -- a letter of a word that stands in bytes, in any part of them
-module _ (cells : List ℕ) (T : Presentation) (s : Stands cells T) (u : Positive) (named : All (InRange (T .size)) u) (i x : ℕ) (h : i < length u) (is : x ≡ getD u i 0) where
+module _ (cells : List ℕ) (T : Presentation) (s : Stands cells T) (u : Positive) (named : All (InRange (T .size)) u) (i x : ℕ) (h : i < length u)
+    (is : x ≡ getD u i 0) where
   in-table : InRange (T .size) x
   in-table = subst (InRange (T .size)) (sym is) (all-at (InRange (T .size)) u i 0 named h)
 
@@ -63,7 +64,14 @@ module _ (cells bytes : List ℕ) (middle end : ℕ) (T : Presentation) (u v : P
     -- the first word is through, and as heavy as what was gone through of the second, which is through too
     pub weights-same : middle ≤ i → end ≤ j → lead ≡ 16 → true ≡ eqb (weigh T u) (weigh T v)
     weights-same all both even =
-        sym (eq-eqb (weigh T u) (weigh T v) (omega (arith, passed, even, ap (weigh T) (take-all i u (omega (arith, all, first-long))), ap (weigh T) (take-all (j - middle) v (omega (arith, both, second-long, s .ordered))))))
+        sym (eq-eqb (weigh T u) (weigh T v)
+        (omega (
+          arith,
+          passed,
+          even,
+          ap (weigh T) (take-all i u (omega (arith, all, first-long))),
+          ap (weigh T) (take-all (j - middle) v (omega (arith, both, second-long, s .ordered))),
+        )))
 
     -- the first word is through, and lighter than what was gone through of the second, or the second goes on
     pub first-lighter : middle ≤ i → (lead < 16) → false ≡ eqb (weigh T u) (weigh T v)
@@ -76,7 +84,14 @@ module _ (cells bytes : List ℕ) (middle end : ℕ) (T : Presentation) (u v : P
     second-goes-on all even low more = sym (ne-eqb (weigh T u) (weigh T v) (λ e. below e))
       where
         below : weigh T u ≡ weigh T v → ⊥
-        below e = omega (arith, e, passed, even, ap (weigh T) (take-all i u (omega (arith, all, first-long))), part-less T v (j - middle) (omega (arith, second-long, low, more)))
+        below e = omega (
+          arith,
+          e,
+          passed,
+          even,
+          ap (weigh T) (take-all i u (omega (arith, all, first-long))),
+          part-less T v (j - middle) (omega (arith, second-long, low, more)),
+        )
 
     -- the second word is through, and lighter than what was gone through of the first
     pub second-lighter : end ≤ j → 16 < lead → false ≡ eqb (weigh T u) (weigh T v)

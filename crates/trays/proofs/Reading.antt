@@ -92,7 +92,8 @@ module _ (tray : List ℕ) (logs : ℕ) where
         record {
           inside = i;
           done = p .done ++ (imageAt tray at ∷ []);
-          so-far = more h ∙ several-step readLog (p .done) (left - 1) (drop at tray) (record { value = imageAt tray at; rest = drop (endAt tray at) tray }) (log-read tray at i);
+          so-far = more h ∙ several-step readLog (p .done) (left - 1) (drop at tray) (record { value = imageAt tray at; rest = drop (endAt tray at) tray })
+              (log-read tray at i);
         }
 
     pub ends-early : 0 < left → readLog (drop at tray) ≡ refused 24 unplaced → LogsDecided tray logs false
@@ -102,7 +103,11 @@ module _ (tray : List ℕ) (logs : ℕ) where
     all-read z = p .so-far ∙ ap (λ k. after (p .done) (several readLog k (drop at tray))) z ∙ several-done readLog (p .done) (drop at tray)
 
     fills : left ≡ 0 → at ≡ length tray → LogsDecided tray logs true
-    fills z e = record { images = p .done; filled = all-read z ∙ ap (λ l. answered (record { value = p .done; rest = l })) (ap (λ k. drop k tray) e ∙ drop-length tray) }
+    fills z e = record {
+      images = p .done;
+      filled = all-read z ∙ ap (λ l. answered (record { value = p .done; rest = l }))
+          (ap (λ k. drop k tray) e ∙ drop-length tray);
+    }
 
     goes-past : left ≡ 0 → (at ≡ length tray → ⊥) → LogsDecided tray logs false
     goes-past z n =

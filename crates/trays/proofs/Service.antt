@@ -29,7 +29,8 @@ use Rattle.loading.proofs.Early.{Early}
 use Rattle.loading.proofs.Outcomes.{refused-stated, refused-output, refused-workspace}
 use Rattle.loading.proofs.Reading.{program-still-refused, program-runs}
 use Rattle.trays.specs.Tray.{logVerdict, trayVerdicts, States}
-use Rattle.trays.specs.Meaning.{Told, told-same, told-different, by-allowance as stopped-by-allowance, by-memory as stopped-by-memory, LogSays, LogMeans, TraySays, TrayPromise}
+use Rattle.trays.specs.Meaning.{Told, told-same, told-different, by-allowance as stopped-by-allowance, by-memory as stopped-by-memory, LogSays, LogMeans}
+use Rattle.trays.specs.Meaning.{TraySays, TrayPromise}
 use Rattle.trays.proofs.Answering.{log-bytes-long, answers-long, answers-append}
 
 -- the area begins with what is written at its start
@@ -94,7 +95,8 @@ module _ (table logs pattern : List ℕ) (steps width area : ℕ) where
 
     module _ (T : Presentation) (table-read : readTable table ≡ answered T) (v : Positive) (pattern-read : readForward (T .size) pattern ≡ answered v) where
       -- a log is compared as by itself
-      as-compared : cleared T steps width ≡ answered tt → (image : List ℕ) → compare table image pattern steps width ≡ logVerdict (T .size) T v steps width image
+      as-compared : cleared T steps width ≡ answered tt → (image : List ℕ) → compare table image pattern steps width ≡ logVerdict
+          (T .size) T v steps width image
       unfolding compare comparison
       as-compared clear image =
           ap (λ o. (o >>= then-pattern) >>= judges) (goes-on (readTable table) T table-read _) ∙ by-log (readForward (T .size) image)
@@ -145,7 +147,8 @@ module _ (table logs pattern : List ℕ) (steps : ℕ) (workspace before : List 
       }
 
   pub logs-too-many : whole ≡ refused 23 unplaced → States whole workspace workspace before before (Refused TooManyLogs)
-  logs-too-many e = subst (λ o. States o workspace workspace before before (Refused TooManyLogs)) (sym e) (record { result = refl; answer = refl; workspace = refl })
+  logs-too-many e = subst (λ o. States o workspace workspace before before (Refused TooManyLogs)) (sym e)
+      (record { result = refl; answer = refl; workspace = refl })
 
   pub tray-broken : whole ≡ refused 24 unplaced → States whole workspace workspace before before (Refused NotTray)
   tray-broken e = subst (λ o. States o workspace workspace before before (Refused NotTray)) (sym e) (record { result = refl; answer = refl; workspace = refl })
@@ -183,7 +186,8 @@ module _ (T : Presentation) (u v : Positive) (steps width : ℕ) (o : Outcome Ve
     answers-same = λ joined k run s r. ap logBytes (d .answers-same clear joined k run s r);
   }
 
-forward-compared : (T : Presentation) (u v : Positive) (steps width : ℕ) → cleared T steps width ≡ answered tt → forwardVerdict T u v steps width ≡ comparison T u v steps width
+forward-compared : (T : Presentation) (u v : Positive) (steps width : ℕ) → cleared T steps width ≡ answered tt
+    → forwardVerdict T u v steps width ≡ comparison T u v steps width
 unfolding comparison
 forward-compared T u v steps width clear = sym (goes-on (cleared T steps width) tt clear _)
 
@@ -237,15 +241,19 @@ module _ (table logs pattern : List ℕ) (steps width area : ℕ) (vs : List (Ou
         verdicts-are = sym (not-refused (ltb area (3 * length images)) 13 (map f images) vs (h .2) .1);
       }
 
-module _ (table logs pattern : List ℕ) (steps width : ℕ) (before : List ℕ) (vs : List (Outcome Verdict)) (e : tray table logs pattern steps width (length before) ≡ answered vs)
-    (after : List ℕ) (a : after ≡ begins (trayBytes vs) before) (earlier later : List (List ℕ)) (log : List ℕ) (read : readTray logs ≡ answered (earlier ++ (log ∷ later))) where
+module _ (table logs pattern : List ℕ) (steps width : ℕ) (before : List ℕ) (vs : List (Outcome Verdict))
+    (e : tray table logs pattern steps width (length before) ≡ answered vs)
+    (after : List ℕ) (a : after ≡ begins (trayBytes vs) before) (earlier later : List (List ℕ)) (log : List ℕ)
+    (read : readTray logs ≡ answered (earlier ++ (log ∷ later))) where
   abbrev bytes-here : List ℕ
   bytes-here = take 3 (drop (3 * length earlier) after)
 
   -- the bytes at the log's place are those of its own verdict
-  told-here : (T : Presentation) (v : Positive) → vs ≡ map (logVerdict (T .size) T v steps width) (earlier ++ (log ∷ later)) → bytes-here ≡ logBytes (logVerdict (T .size) T v steps width log)
+  told-here : (T : Presentation) (v : Positive) → vs ≡ map (logVerdict (T .size) T v steps width) (earlier ++ (log ∷ later))
+      → bytes-here ≡ logBytes (logVerdict (T .size) T v steps width log)
   told-here T v q =
-      ap (λ l. take 3 (drop (3 * length earlier) l)) (a ∙ ap (λ l. begins (trayBytes l) before) q) ∙ answer-of-log (logVerdict (T .size) T v steps width) earlier later log before
+      ap (λ l. take 3 (drop (3 * length earlier) l)) (a ∙ ap (λ l. begins (trayBytes l) before) q)
+      ∙ answer-of-log (logVerdict (T .size) T v steps width) earlier later log before
 
   log-means : LogMeans table log pattern steps width bytes-here
   log-means = record {
@@ -256,12 +264,14 @@ module _ (table logs pattern : List ℕ) (steps width : ℕ) (before : List ℕ)
         let p = answer-shows table logs pattern steps width (length before) vs e (earlier ++ (log ∷ later)) read T (c .table-read) in
         let same : p .word ≡ v = same-answer (p .word) v (sym (p .pattern-read) ∙ c .second-read) in
         let here : logVerdict (T .size) T (p .word) steps width log ≡ comparison T u v steps width =
-        ap (λ w. logVerdict (T .size) T w steps width log) same ∙ goes-on (readForward (T .size) log) u (c .first-read) _ ∙ forward-compared T u v steps width (p .clear) in
+        ap (λ w. logVerdict (T .size) T w steps width log) same ∙ goes-on (readForward (T .size) log) u (c .first-read) _
+        ∙ forward-compared T u v steps width (p .clear) in
         subst (LogSays T u v steps width) (sym (told-here T (p .word) (p .verdicts-are) ∙ ap logBytes here))
         (log-says T u v steps width (comparison T u v steps width) (demand-three T u v steps width) (p .clear));
   }
 
-pub tray-says : (table logs pattern : List ℕ) (steps width : ℕ) (before : List ℕ) (o : Outcome (List (Outcome Verdict))) → tray table logs pattern steps width (length before) ≡ o → (after : List ℕ)
+pub tray-says : (table logs pattern : List ℕ) (steps width : ℕ) (before : List ℕ) (o : Outcome (List (Outcome Verdict)))
+    → tray table logs pattern steps width (length before) ≡ o → (after : List ℕ)
     → after ≡ outputAfter trayBytes o before → TraySays table logs pattern steps width (mapped length o) after
 tray-says table logs pattern steps width before (refused n place) e after a = tt
 tray-says table logs pattern steps width before (answered vs) e after a = log-means table logs pattern steps width before vs e after a

@@ -1,7 +1,8 @@
 -- One more word among those found: what holds of them goes on to hold, or the listing is longer than the area.
 use mathlib.Core.Path.{_≡_, refl, sym, ap, ap₂, subst, _∙_}
 use mathlib.Core.Logic.{_⊎_, inl, inr}
-use mathlib.Core.List.{List, [], _∷_, _++_, append-assoc, List·Memᴰ, List·Memᴰ·head, List·Memᴰ·tail, List·Memᴰ·cases-cons, List·Memᴰ·append-cases, Memᴰ·append-left, Memᴰ·append-right, Memᴰ·map, Memᴰ·of-map, Memᴰ·cast}
+use mathlib.Core.List.{List, [], _∷_, _++_, append-assoc, List·Memᴰ, List·Memᴰ·head, List·Memᴰ·tail, List·Memᴰ·cases-cons, List·Memᴰ·append-cases}
+use mathlib.Core.List.{Memᴰ·append-left, Memᴰ·append-right, Memᴰ·map, Memᴰ·of-map, Memᴰ·cast}
 use mathlib.Core.Bool.{true, cond}
 use mathlib.Core.Option.{some}
 use Prim.Native.Nat.{ℕ, suc, _+_, _%_, _≤_, _<_}
@@ -120,7 +121,8 @@ module _ (T : Presentation) (u : Positive) (weighed : Weighed T u) (before area 
   -- where the words do not fit with the new one, the listing does not
   pub too-long : length area < used + (length v + 1) → length before < length (listingBytes (listing T u))
   too-long h =
-      let within = finding-within T u weighed (words (xs ++ (current v ∷ cs))) (λ w n. let t = marked-member (xs ++ (current v ∷ cs)) w n in subst (Joined T u) (t .2) (joined (t .0) (t .1))) in
+      let within = finding-within T u weighed (words (xs ++ (current v ∷ cs))) (λ w n. let t = marked-member (xs ++ (current v ∷ cs)) w n in
+      subst (Joined T u) (t .2) (joined (t .0) (t .1))) in
       let shorter = within-shorter (words (xs ++ (current v ∷ cs))) (listing T u) ordered (listing-lists T u weighed .ordered) within in
       omega (arith, shorter, spelled-bytes (xs ++ (current v ∷ cs)), long, s .same-length)
 
@@ -164,7 +166,8 @@ module _ (T : Presentation) (u : Positive) (weighed : Weighed T u) (before area 
         record {
           spells = record {
             fits = omega (arith, room, o .same-length);
-            bytes = ap (take (used + (length v + 1))) after-is ∙ take-at (spelled (xs ++ (current v ∷ cs))) (drop (length v + 1) (drop used area)) (used + (length v + 1)) long;
+            bytes = ap (take (used + (length v + 1))) after-is ∙ take-at (spelled (xs ++ (current v ∷ cs))) (drop (length v + 1) (drop used area))
+                (used + (length v + 1)) long;
             legible = λ m n. readable m (more-member xs cs (current v) m n);
             ordered = ordered;
           };
@@ -230,8 +233,14 @@ place xs cs ys m zs n (behind ws p q) =
       second = zs;
       whole = ap (λ l. xs ++ (n ∷ l)) q ∙ sym (append-assoc xs (n ∷ ws) (m ∷ zs));
       at-is =
-          omega
-          (arith, spelled-both xs (n ∷ ws), spelled-more n ws, far, moved-after (length (spelled ys)) (length (spelled xs)) (length (n .word) + 1) (omega (arith, far)));
+          omega (
+            arith,
+            spelled-both xs (n ∷ ws),
+            spelled-more n ws,
+            far,
+            moved-after (length (spelled ys)) (length (spelled xs)) (length (n .word) + 1)
+                (omega (arith, far)),
+          );
     }
 place xs cs ys m zs n (ahead ws p q) =
     let far : length (spelled xs) ≡ length (spelled ys) + (length (m .word) + 1 + length (spelled ws)) =
@@ -257,8 +266,14 @@ module _ {cells : List ℕ} {size : ℕ} (g : Work cells size) (area : List ℕ)
 
   pub busy-inside : h .word + h .letters + 1 ≤ h .used
   busy-inside =
-      omega
-      (arith, b .word-is, b .letters-is, spells-length area (h .used) (b .earlier-words ++ (current (g .word) ∷ b .later-words)) (b .sound .spells), spelled-both (b .earlier-words) (current (g .word) ∷ b .later-words), spelled-more (current (g .word)) (b .later-words))
+      omega (
+        arith,
+        b .word-is,
+        b .letters-is,
+        spells-length area (h .used) (b .earlier-words ++ (current (g .word) ∷ b .later-words)) (b .sound .spells),
+        spelled-both (b .earlier-words) (current (g .word) ∷ b .later-words),
+        spelled-more (current (g .word)) (b .later-words),
+      )
 
   pub word-joined : Joined (g .table) (g .program) (g .word)
   word-joined = b .sound .joined (current (g .word)) (Memᴰ·append-right (b .earlier-words) (List·Memᴰ·head refl))
@@ -274,8 +289,16 @@ module _ {cells : List ℕ} {size : ℕ} (g : Work cells size) (area : List ℕ)
           place = omega (arith, f .at-is, used-long);
           inside = omega (arith, busy-inside, sw .word-is, sw .letters-is);
           before = λ l.
-              omega
-              (arith, f .at-is, b .word-is, b .letters-is, sw .word-is, sw .letters-is, ends-before (f .before) (f .after) (b .earlier-words) (current (g .word)) (b .later-words) split (omega (arith, l, f .at-is, b .word-is, sw .word-is)));
+              omega (
+                arith,
+                f .at-is,
+                b .word-is,
+                b .letters-is,
+                sw .word-is,
+                sw .letters-is,
+                ends-before (f .before) (f .after) (b .earlier-words)
+                    (current (g .word)) (b .later-words) split (omega (arith, l, f .at-is, b .word-is, sw .word-is)),
+              );
         }
       where
         used-long : h .used ≡ length (spelled (f .before)) + length (spelled (f .after))
@@ -294,7 +317,8 @@ module _ {cells : List ℕ} {size : ℕ} (g : Work cells size) (area : List ℕ)
 
       pub add-full : length area < h .used + (newLength s + 1) → TooLong g
       add-full l =
-          too-long (g .table) (g .program) (g .weighed) (g .before) area (h .used) (g .count) (f .before) (f .after) parted (newWord area cells s) new-joined (f .earlier-all) (f .later-all)
+          too-long (g .table) (g .program) (g .weighed) (g .before) area (h .used) (g .count) (f .before) (f .after) parted (newWord area cells s) new-joined
+          (f .earlier-all) (f .later-all)
           (omega (arith, l, new-length area cells s (sw .readable)))
 
       pub add-grown : (after : List ℕ) → h .used + (newLength s + 1) ≤ length area → Opened area at (h .used) (newWord area cells s ++ (untried ∷ [])) after
@@ -303,18 +327,22 @@ module _ {cells : List ℕ} {size : ℕ} (g : Work cells size) (area : List ℕ)
       add-grown after room o =
           let long = new-length area cells s (sw .readable) in
           let sound =
-          grown-sound (g .table) (g .program) (g .weighed) (g .before) area (h .used) (g .count) (f .before) (f .after) parted (newWord area cells s) new-joined (f .earlier-all) (f .later-all) after
+          grown-sound (g .table) (g .program) (g .weighed) (g .before) area (h .used) (g .count) (f .before) (f .after) parted (newWord area cells s) new-joined
+          (f .earlier-all) (f .later-all) after
           (omega (arith, room, long)) (subst (λ k. Opened area k (h .used) (newWord area cells s ++ (untried ∷ [])) after) (f .at-is) o) in
           let t = place (f .before) (f .after) (b .earlier-words) (current (g .word)) (b .later-words) (current (newWord area cells s)) split in
           let used-is : h .used + (length (newWord area cells s) + 1) ≡ h .used + (newLength s + 1) = omega (arith, long) in
           finish after (t .first) (t .second) (t .whole)
           (sym (t .at-is ∙ (ap (λ k. movedOn (length (spelled (b .earlier-words))) (length (spelled (f .before))) (k + 1)) long
-          ∙ (ap (λ k. movedOn k (length (spelled (f .before))) (newLength s + 1)) (sym (b .word-is)) ∙ ap (λ k. movedOn (h .word) k (newLength s + 1)) (sym (f .at-is))))))
+          ∙ (ap (λ k. movedOn k (length (spelled (f .before))) (newLength s + 1)) (sym (b .word-is)) ∙ ap (λ k. movedOn (h .word) k (newLength s + 1))
+          (sym (f .at-is))))))
           (subst (λ k. Sound (g .table) (g .program) (g .before) after k (f .before ++ (current (newWord area cells s) ∷ f .after)) (g .count)) used-is sound)
         where
-          finish : (after : List ℕ) (first second : List Marked) → f .before ++ (current (newWord area cells s) ∷ f .after) ≡ first ++ (current (g .word) ∷ second)
+          finish : (after : List ℕ) (first second : List Marked) → f .before ++ (current (newWord area cells s) ∷ f .after) ≡ first
+              ++ (current (g .word) ∷ second)
               → movedOn (h .word) at (newLength s + 1) ≡ length (spelled first)
-              → Sound (g .table) (g .program) (g .before) after (h .used + (newLength s + 1)) (f .before ++ (current (newWord area cells s) ∷ f .after)) (g .count)
+              → Sound (g .table) (g .program) (g .before) after (h .used + (newLength s + 1)) (f .before ++ (current (newWord area cells s) ∷ f .after))
+              (g .count)
               → Progress g (listOf b) (λ d. d ≡ e) after
               (record { word = movedOn (h .word) at (newLength s + 1); letters = h .letters; used = h .used + (newLength s + 1) })
           finish after first second whole word-is sound =
@@ -339,11 +367,13 @@ module _ {cells : List ℕ} {size : ℕ} (g : Work cells size) (area : List ℕ)
   pub add-there : (v : Positive) → Listed (b .earlier-words ++ (current (g .word) ∷ b .later-words)) v → (e : Entry) → applied (g .table) (g .word) e ≡ some v
       → Progress g (listOf b) (λ d. d ≡ e) area h
   add-there v t e ok =
-      let joined : Joined (g .table) (g .program) v = joined-transitive (g .table) (g .program) (g .word) v word-joined (applied-joined (g .table) (g .word) v e ok) in
+      let joined : Joined (g .table) (g .program) v =
+      joined-transitive (g .table) (g .program) (g .word) v word-joined (applied-joined (g .table) (g .word) v e ok) in
       let weighs : (x : Positive) → Joined (g .table) (g .program) x → weigh (g .table) (g .program) ≡ weigh (g .table) x =
       λ x i. joined-weight (g .table) (weightOf (g .table)) (checked-homogeneous (g .table) (g .weighed .even)) (g .program) x i in
       let same : v ≡ t .one .word =
-      same-weight-same (weightOf (g .table)) (λ a. omega arith) v (t .one .word) (sym (weighs v joined) ∙ weighs (t .one .word) (b .sound .joined (t .one) (t .among))) (t .not-before) (t .not-after) in
+      same-weight-same (weightOf (g .table)) (λ a. omega arith) v (t .one .word)
+      (sym (weighs v joined) ∙ weighs (t .one .word) (b .sound .joined (t .one) (t .among))) (t .not-before) (t .not-after) in
       record {
         busy = b;
         kept = λ x n. n;

@@ -194,9 +194,11 @@ module _ (area₀ cells : List ℕ) (s : Swap) (at used : ℕ) (r : Readable are
       → Opened area₀ at used (newWord area₀ cells s ++ (untried ∷ [])) area₂
   insert-opened area₂ p = both (newWord area₁ cells (atWord s (movedOn (s .word) at (newLength s + 1)))) insert-same p
     where
-      both : (w : Positive) → w ≡ newWord area₀ cells s → Put area₁ at (w ++ (untried ∷ [])) area₂ → Opened area₀ at used (newWord area₀ cells s ++ (untried ∷ [])) area₂
+      both : (w : Positive) → w ≡ newWord area₀ cells s → Put area₁ at (w ++ (untried ∷ [])) area₂
+          → Opened area₀ at used (newWord area₀ cells s ++ (untried ∷ [])) area₂
       both w e p =
-          let long : length (newWord area₀ cells s ++ (untried ∷ [])) ≡ newLength s + 1 = omega (arith, length-append (newWord area₀ cells s) (untried ∷ []), new-length area₀ cells s r) in
+          let long : length (newWord area₀ cells s ++ (untried ∷ [])) ≡ newLength s + 1 =
+          omega (arith, length-append (newWord area₀ cells s) (untried ∷ []), new-length area₀ cells s r) in
           let long′ : length (w ++ (untried ∷ [])) ≡ newLength s + 1 = ap (λ l. length (l ++ (untried ∷ []))) e ∙ long in
           record {
             same-length = p .same-length ∙ sh .same-length;
@@ -210,7 +212,8 @@ module _ (area₀ cells : List ℕ) (s : Swap) (at used : ℕ) (r : Readable are
 pub opened-list : (before after : List ℕ) (bytes xs cs rest : List ℕ) → before ≡ xs ++ (cs ++ rest) → length bytes ≤ length rest
     → Opened before (length xs) (length xs + length cs) bytes after → after ≡ xs ++ (bytes ++ (cs ++ drop (length bytes) rest))
 opened-list before after bytes xs cs rest e room o =
-    ext-getD 0 after (xs ++ (bytes ++ (cs ++ drop (length bytes) rest))) (o .same-length ∙ (long ∙ sym long′)) (λ i h. at-index i (omega (arith, o .same-length, long)))
+    ext-getD 0 after (xs ++ (bytes ++ (cs ++ drop (length bytes) rest))) (o .same-length ∙ (long ∙ sym long′))
+    (λ i h. at-index i (omega (arith, o .same-length, long)))
   where
     long : length before ≡ length xs + (length cs + length rest)
     long = ap length e ∙ (length-append xs (cs ++ rest) ∙ ap (λ k. length xs + k) (length-append cs rest))
@@ -231,11 +234,13 @@ opened-list before after bytes xs cs rest e room o =
     old-third i =
         ap (λ l. getD l (length xs + (length cs + i)) 0) e ∙ (getD-append-add xs (cs ++ rest) (length cs + i) 0 ∙ getD-append-add cs rest i 0)
 
-    further : (i j : ℕ) → i ≡ length xs + j → getD (xs ++ (bytes ++ (cs ++ drop (length bytes) rest))) i 0 ≡ getD (bytes ++ (cs ++ drop (length bytes) rest)) j 0
+    further : (i j : ℕ) → i ≡ length xs + j → getD (xs ++ (bytes ++ (cs ++ drop (length bytes) rest))) i 0 ≡ getD (bytes ++ (cs ++ drop (length bytes) rest)) j
+        0
     further i j p =
         ap (λ k. getD (xs ++ (bytes ++ (cs ++ drop (length bytes) rest))) k 0) p ∙ getD-append-add xs (bytes ++ (cs ++ drop (length bytes) rest)) j 0
 
-    second : (i j : ℕ) → i ≡ length xs + (length bytes + j) → getD (xs ++ (bytes ++ (cs ++ drop (length bytes) rest))) i 0 ≡ getD (cs ++ drop (length bytes) rest) j 0
+    second : (i j : ℕ) → i ≡ length xs + (length bytes + j) → getD (xs ++ (bytes ++ (cs ++ drop (length bytes) rest))) i 0 ≡ getD
+        (cs ++ drop (length bytes) rest) j 0
     second i j p = further i (length bytes + j) p ∙ getD-append-add bytes (cs ++ drop (length bytes) rest) j 0
 
     at-index : (i : ℕ) → i < length xs + (length cs + length rest) → getD after i 0 ≡ getD (xs ++ (bytes ++ (cs ++ drop (length bytes) rest))) i 0

@@ -80,7 +80,8 @@ module _ (area cells : List ℕ) (s : Swap) (r : Readable area cells s) where
   unfolding after
   new-after i h k =
       let some = r .some in
-      let at : s .word + (s .offset + s .taken) + (i - s .offset - 1 - length (putLetters cells s)) ≡ s .word + s .taken + (i - s .put) = omega (arith, put-length) in
+      let at : s .word + (s .offset + s .taken) + (i - s .offset - 1 - length (putLetters cells s)) ≡ s .word + s .taken + (i - s .put) =
+      omega (arith, put-length) in
       beyond i (omega arith)
       ∙ (getD-past (putLetters cells s) after (i - s .offset - 1) (omega (arith, put-length))
       ∙ (part-at area (s .word + (s .offset + s .taken)) (s .rest) (i - s .offset - 1 - length (putLetters cells s)) (omega (arith, put-length))

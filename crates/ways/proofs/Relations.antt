@@ -109,16 +109,23 @@ module _ {cells : List ℕ} {size : ℕ} (g : Work cells size) (area : List ℕ)
       from-count = ap (λ i. getD cells i 0) ef ∙ rule .from .count
 
       pub side-held : (to + 1 + getD cells to 0 ≤ length cells) × (getD cells to 0 ≤ 15)
-      side-held = (omega (arith, to-count, rule .to .short, et, st .full, st .few, ra .high, rb .high, ra .low, rb .low), omega (arith, to-count, rule .to .short))
+      side-held = (
+        omega (arith, to-count, rule .to .short, et, st .full, st .few, ra .high, rb .high, ra .low, rb .low),
+        omega (arith, to-count, rule .to .short),
+      )
 
       pub other-held : (from + (1 + getD cells from 0) ≤ length cells) × (getD cells from 0 ≤ 15)
-      other-held = (omega (arith, from-count, rule .from .short, ef, st .full, st .few, ra .high, rb .high, ra .low, rb .low), omega (arith, from-count, rule .from .short))
+      other-held = (
+        omega (arith, from-count, rule .from .short, ef, st .full, st .few, ra .high, rb .high, ra .low, rb .low),
+        omega (arith, from-count, rule .from .short),
+      )
 
       side-is : take (getD cells to 0) (drop (to + 1) cells) ≡ rule .x
       side-is = ap (λ i. take (getD cells i 0) (drop (i + 1) cells)) et ∙ (ap (λ n. take n (drop (cellAt a b + 1) cells)) (rule .to .count) ∙ rule .to .word)
 
       other-is : take (getD cells from 0) (drop (from + 1) cells) ≡ rule .y
-      other-is = ap (λ i. take (getD cells i 0) (drop (i + 1) cells)) ef ∙ (ap (λ n. take n (drop (cellAt b a + 1) cells)) (rule .from .count) ∙ rule .from .word)
+      other-is = ap (λ i. take (getD cells i 0) (drop (i + 1) cells)) ef
+          ∙ (ap (λ n. take n (drop (cellAt b a + 1) cells)) (rule .from .count) ∙ rule .from .word)
 
       tested : applied (g .table) (g .word) (entryAt o a b)
           ≡ cond (equal (take (suc (length (rule .x))) (drop o (g .word))) (a ∷ rule .x))
@@ -188,12 +195,14 @@ module _ {cells : List ℕ} {size : ℕ} (g : Work cells size) (area : List ℕ)
             let few : (1 + getD cells from 0) - 1 ≡ getD cells from 0 = omega arith in
             let put : take ((1 + getD cells from 0) - 1) (drop (from + 1) cells) ≡ rule .y = ap (λ k. take k (drop (from + 1) cells)) few ∙ other-is in
             let many : o + (1 + getD cells to 0) ≡ o + suc (length (rule .x)) = omega (arith, to-count) in
-            let back : take (h .letters - (o + (1 + getD cells to 0))) (drop (h .word + (o + (1 + getD cells to 0))) area) ≡ drop (o + suc (length (rule .x))) (g .word) =
+            let back : take (h .letters - (o + (1 + getD cells to 0))) (drop (h .word + (o + (1 + getD cells to 0))) area) ≡ drop (o + suc (length (rule .x)))
+            (g .word) =
             part-same (g .word) area (o + (1 + getD cells to 0)) (h .word + (o + (1 + getD cells to 0))) (h .letters - (o + (1 + getD cells to 0)))
             (omega (arith, t .letters-is)) (omega (arith, t .letters-is, busy-word .inside))
             (λ i k. let place : h .word + (o + (1 + getD cells to 0)) + i ≡ h .word + (o + (1 + getD cells to 0) + i) = omega arith in
             ap (λ j. getD area j 0) place ∙ busy-word .letters (o + (1 + getD cells to 0) + i) (omega (arith, t .letters-is)))
-            ∙ (take-all (h .letters - (o + (1 + getD cells to 0))) (drop (o + (1 + getD cells to 0)) (g .word)) (omega (arith, length-drop (o + (1 + getD cells to 0)) (g .word), t .letters-is))
+            ∙ (take-all (h .letters - (o + (1 + getD cells to 0))) (drop (o + (1 + getD cells to 0)) (g .word))
+            (omega (arith, length-drop (o + (1 + getD cells to 0)) (g .word), t .letters-is))
             ∙ ap (λ k. drop k (g .word)) many) in
             ap₂ (λ l r. l ++ r) front (ap₂ (λ y r. (b ∷ y) ++ r) put back)
 

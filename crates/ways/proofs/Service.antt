@@ -69,7 +69,8 @@ module _ (cells : List ℕ) (size : ℕ) (program : List ℕ) (count : ℕ) (f :
       record {
         in-range = p .in-range;
         letters = subst (λ n. All (InRange n) u) (sym (p .of .sized))
-            (lettered-positive size u (subst (λ w. Lettered size (positive w)) same-word (program-in-range size few program (positive (f .word)) (f .read-signed) .letters)));
+            (lettered-positive size u
+            (subst (λ w. Lettered size (positive w)) same-word (program-in-range size few program (positive (f .word)) (f .read-signed) .letters)));
         even = p .even;
       }
 
@@ -84,7 +85,8 @@ module _ (cells : List ℕ) (size : ℕ) (program : List ℕ) (count : ℕ) (f :
       omega (arith, shorter, bytes-more u [], word-length, h)
 
   -- the area once the program stands in it, with its mark
-  module _ (before loaded : List ℕ) (room : count < length before) (l : ((w : Word) → readProgram size program ≡ answered w → loaded ≡ written before 0 (plainProgram w))) where
+  module _ (before loaded : List ℕ) (room : count < length before)
+      (l : ((w : Word) → readProgram size program ≡ answered w → loaded ≡ written before 0 (plainProgram w))) where
     loaded-is : loaded ≡ u ++ (getD before count 0 ∷ drop (suc count) before)
     loaded-is =
         let bytes : plainProgram (positive (f .word)) ≡ u = plain-positive (f .word) ∙ same-word in
@@ -102,7 +104,8 @@ module _ (cells : List ℕ) (size : ℕ) (program : List ℕ) (count : ℕ) (f :
     front-length = omega (arith, length-append u (untried ∷ []), word-length)
 
     pub loaded-length : length loaded ≡ length before
-    loaded-length = ap length loaded-is ∙ (length-append u (getD before count 0 ∷ drop (suc count) before) ∙ omega (arith, length-drop (suc count) before, word-length, room))
+    loaded-length = ap length loaded-is
+        ∙ (length-append u (getD before count 0 ∷ drop (suc count) before) ∙ omega (arith, length-drop (suc count) before, word-length, room))
 
     pub begun : State (task before) (set loaded count untried) (count + 1) 0
     begun = (
@@ -143,7 +146,8 @@ module _ (cells : List ℕ) (size : ℕ) (program : List ℕ) (count : ℕ) (f :
   pub long-answers : (before area : List ℕ) → length before < length (listingBytes (listing T u)) → length area ≡ length before
       → Answers (fittedListing (length before) (listing T u)) before (replicate (length area) 0) (Refused AnswerShort)
   long-answers before area h e =
-      let o : fittedListing (length before) (listing T u) ≡ refusal AnswerShort = ap (λ t. unless t 13 (listing T u)) (lt-ltb (length before) (length (listingBytes (listing T u))) h) in
+      let o : fittedListing (length before) (listing T u) ≡ refusal AnswerShort =
+      ap (λ t. unless t 13 (listing T u)) (lt-ltb (length before) (length (listingBytes (listing T u))) h) in
       record {
         result = sym (ap (mapped counts) o);
         area = ap (λ k. replicate k 0) e ∙ sym (ap (λ x. waysArea x before) o);
@@ -153,9 +157,11 @@ module _ (cells : List ℕ) (size : ℕ) (program : List ℕ) (count : ℕ) (f :
       → Answers (fittedListing (length before) (listing T u)) before area (Listed n k)
   whole-answers before area n k e t =
       let long : length area ≡ length (listingBytes (listing T u)) + (length before - length (listingBytes (listing T u))) =
-      ap length (t .area-is) ∙ (length-append (listingBytes (listing T u)) (drop (length (listingBytes (listing T u))) before) ∙ ap (λ j. length (listingBytes (listing T u)) + j) (length-drop (length (listingBytes (listing T u))) before)) in
+      ap length (t .area-is) ∙ (length-append (listingBytes (listing T u)) (drop (length (listingBytes (listing T u))) before)
+      ∙ ap (λ j. length (listingBytes (listing T u)) + j) (length-drop (length (listingBytes (listing T u))) before)) in
       let fits : length (listingBytes (listing T u)) ≤ length before = omega (arith, long, e) in
-      let o : fittedListing (length before) (listing T u) ≡ answered (listing T u) = ap (λ s. unless s 13 (listing T u)) (le-ltb (length before) (length (listingBytes (listing T u))) fits) in
+      let o : fittedListing (length before) (listing T u) ≡ answered (listing T u) =
+      ap (λ s. unless s 13 (listing T u)) (le-ltb (length before) (length (listingBytes (listing T u))) fits) in
       record {
         result = ap₂ (λ i j. answered (record { words = i; bytes = j })) (t .words-are) (t .bytes-are) ∙ sym (ap (mapped counts) o);
         area = t .area-is ∙ sym (ap (λ x. waysArea x before) o);
@@ -164,7 +170,8 @@ module _ (cells : List ℕ) (size : ℕ) (program : List ℕ) (count : ℕ) (f :
 -- THE OUTCOME
 
 -- a refusal other than 13 leaves the area as it was
-pub refused-answers : (outcome : Outcome (List Positive)) (before : List ℕ) (r : Refusal) → outcome ≡ refusal r → (numbered r .0 ≡ 13 → ⊥) → Answers outcome before before (Refused r)
+pub refused-answers : (outcome : Outcome (List Positive)) (before : List ℕ) (r : Refusal) → outcome ≡ refusal r → (numbered r .0 ≡ 13 → ⊥)
+    → Answers outcome before before (Refused r)
 refused-answers outcome before r e other =
     record {
       result = ap (mapped counts) (sym e);
@@ -195,7 +202,8 @@ module _ (table program : List ℕ) (area : ℕ) where
     ways-lists w = ways-weighs ∙ goes-on (weightCheck T (pairs (T .size))) tt w _
 
 -- what the weight check's answer says of the table
-pub weights-told : (cells : List ℕ) (size : ℕ) (T : Presentation) → Of cells size T → (r : Weights) → WeightsMean cells size r → weightCheck T (pairs (T .size)) ≡ weightsAs r
+pub weights-told : (cells : List ℕ) (size : ℕ) (T : Presentation) → Of cells size T → (r : Weights) → WeightsMean cells size r
+    → weightCheck T (pairs (T .size)) ≡ weightsAs r
 weights-told cells size T o r m = ap (λ n. weightCheck T (pairs n)) (o .sized) ∙ sym (m T o)
 
 -- THE MEANING
@@ -249,13 +257,15 @@ module _ (table program before after : List ℕ) (r : Ways) (a : Answers (ways t
           let told : c ≡ counts (listing T u) = sym n ∙ ap counts same in
           let start : after ≡ begins (listingBytes (listing T u)) before = a .area ∙ ap (λ x. waysArea x before) (o ∙ ap answered same) in
           record {
-            bytes = ap₂ (λ d l. take (d .bytes) l) told start ∙ take-at (listingBytes (listing T u)) (drop (length (listingBytes (listing T u))) before) (length (listingBytes (listing T u))) refl;
+            bytes = ap₂ (λ d l. take (d .bytes) l) told start ∙ take-at (listingBytes (listing T u)) (drop (length (listingBytes (listing T u))) before)
+                (length (listingBytes (listing T u))) refl;
             words = ap (λ d. d .words) told;
             lists = listing-meaning T u (record { in-range = table-in-range table T e; letters = read-letters (T .size) few program u p; even = w });
             in-order = words-in-order T w;
           }
 
-      by : (o : Outcome (Unit {0})) → weightCheck T (pairs (T .size)) ≡ o → (vs : List Positive) → ways table program (length before) ≡ answered vs → counts vs ≡ c
+      by : (o : Outcome (Unit {0})) → weightCheck T (pairs (T .size)) ≡ o → (vs : List Positive) → ways table program (length before) ≡ answered vs
+          → counts vs ≡ c
           → WaysMeaning T u c after
       by (answered x) w vs o n = means w vs o n
       by (refused i ps) w vs o n =

@@ -1,7 +1,8 @@
 -- Words spelled one after the other: where each begins and ends, and how it is found by any of its bytes.
 use mathlib.Core.Path.{_≡_, refl, sym, ap, subst, _∙_}
 use mathlib.Core.Logic.{_⊎_, inl, inr}
-use mathlib.Core.List.{List, [], _∷_, _++_, append-assoc, append-nil, List·Memᴰ, List·Memᴰ·not-nil, List·Memᴰ·eq-of-singleton, List·Memᴰ·head, List·Memᴰ·tail, List·Memᴰ·cases-cons, List·Memᴰ·append-cases, Memᴰ·append-left, Memᴰ·append-right, Memᴰ·map}
+use mathlib.Core.List.{List, [], _∷_, _++_, append-assoc, append-nil, List·Memᴰ, List·Memᴰ·not-nil, List·Memᴰ·eq-of-singleton, List·Memᴰ·head, List·Memᴰ·tail}
+use mathlib.Core.List.{List·Memᴰ·cases-cons, List·Memᴰ·append-cases, Memᴰ·append-left, Memᴰ·append-right, Memᴰ·map}
 use mathlib.Core.Bool.{true, false}
 use Prim.Native.Nat.{ℕ, _+_, _-_, _≤_, _<_}
 use native.Mathlib.Omega.{arith}
@@ -136,10 +137,12 @@ ordered-tail : (pre ms : List Marked) → Ordered (words (pre ++ ms)) → Ordere
 ordered-tail [] ms o = o
 ordered-tail (p ∷ pre) ms o = ordered-tail pre ms (ordered-rest (p .word) (words (pre ++ ms)) o)
 
-pub all-after : (pre : List Marked) (m : Marked) (post : List Marked) → Ordered (words (pre ++ (m ∷ post))) → (x : Marked) → List·Memᴰ x post → earlier (m .word) (x .word) ≡ true
+pub all-after : (pre : List Marked) (m : Marked) (post : List Marked) → Ordered (words (pre ++ (m ∷ post))) → (x : Marked) → List·Memᴰ x post
+    → earlier (m .word) (x .word) ≡ true
 all-after pre m post o x n = ordered-after (m .word) (words post) (ordered-tail pre (m ∷ post) o) (x .word) (Memᴰ·map (λ m. m .word) n)
 
-pub all-before : (pre : List Marked) (m : Marked) (post : List Marked) → Ordered (words (pre ++ (m ∷ post))) → (x : Marked) → List·Memᴰ x pre → earlier (x .word) (m .word) ≡ true
+pub all-before : (pre : List Marked) (m : Marked) (post : List Marked) → Ordered (words (pre ++ (m ∷ post))) → (x : Marked) → List·Memᴰ x pre
+    → earlier (x .word) (m .word) ≡ true
 all-before [] m post o x n = absurd (List·Memᴰ·not-nil n)
 all-before (p ∷ pre) m post o x n = go (List·Memᴰ·cases-cons n) (all-before pre m post (ordered-rest (p .word) (words (pre ++ (m ∷ post))) o) x)
   where
@@ -203,7 +206,8 @@ module _ (area : List ℕ) (used : ℕ) (ms : List Marked) (s : Spells area used
       let from = t .from in
       let to = t .to in
       let place : length (spelled (b .before ++ t .pre)) ≡ low + length (spelled (t .pre)) = omega (arith, spelled-both (b .before) (t .pre), b .low-is) in
-      let spells : Spells area used ((b .before ++ t .pre) ++ (t .one ∷ (t .post ++ b .after))) = subst (Spells area used) (whole low high b (t .pre) (t .post) (t .one) (t .parts)) s in
+      let spells : Spells area used ((b .before ++ t .pre) ++ (t .one ∷ (t .post ++ b .after))) =
+      subst (Spells area used) (whole low high b (t .pre) (t .post) (t .one) (t .parts)) s in
       record {
         pre = t .pre;
         one = t .one;
@@ -228,7 +232,8 @@ module _ (area : List ℕ) (used : ℕ) (ms : List Marked) (s : Spells area used
     halve-same p q =
         record {
           one = t .one;
-          among = subst (List·Memᴰ (t .one)) (sym (whole low high b (t .pre) (t .post) (t .one) (t .parts))) (Memᴰ·append-right (b .before ++ t .pre) (List·Memᴰ·head refl));
+          among = subst (List·Memᴰ (t .one)) (sym (whole low high b (t .pre) (t .post) (t .one) (t .parts)))
+              (Memᴰ·append-right (b .before ++ t .pre) (List·Memᴰ·head refl));
           not-before = p;
           not-after = q;
         }
@@ -257,8 +262,22 @@ module _ (area : List ℕ) (used : ℕ) (ms : List Marked) (s : Spells area used
           middle = t .post;
           after = b .after;
           parts = whole low high b (t .pre) (t .post) (t .one) (t .parts) ∙ sym (append-assoc (b .before ++ t .pre) (t .one ∷ []) (t .post ++ b .after));
-          low-is = omega (arith, spelled-both (b .before ++ t .pre) (t .one ∷ []), spelled-more (t .one) [], spelled-both (b .before) (t .pre), b .low-is, t .start-is);
-          high-is = omega (arith, b .high-is, ap (λ l. length (spelled l)) (t .parts), spelled-both (t .pre) (t .one ∷ t .post), spelled-more (t .one) (t .post), t .start-is);
+          low-is = omega (
+            arith,
+            spelled-both (b .before ++ t .pre) (t .one ∷ []),
+            spelled-more (t .one) [],
+            spelled-both (b .before) (t .pre),
+            b .low-is,
+            t .start-is,
+          );
+          high-is = omega (
+            arith,
+            b .high-is,
+            ap (λ l. length (spelled l)) (t .parts),
+            spelled-both (t .pre) (t .one ∷ t .post),
+            spelled-more (t .one) (t .post),
+            t .start-is,
+          );
           earlier-all = λ m n. go m (List·Memᴰ·append-cases (b .before ++ t .pre) n);
           later-all = b .later-all;
         }
@@ -285,7 +304,8 @@ module _ (area : List ℕ) (used : ℕ) (ms : List Marked) (s : Spells area used
 
 -- ONE STEP OF THE SEARCH
 
-module _ (area : List ℕ) (used : ℕ) (ms : List Marked) (s : Spells area used ms) (v : Positive) (low high at : ℕ) (b : Between ms v low high) (l : low ≤ at) (h : at < high) where
+module _ (area : List ℕ) (used : ℕ) (ms : List Marked) (s : Spells area used ms) (v : Positive) (low high at : ℕ) (b : Between ms v low high) (l : low ≤ at)
+    (h : at < high) where
   half : Halving area used ms s v low high at b
   half = halve area used ms s v low high at b l h
 

@@ -85,10 +85,16 @@ module _ {cells : List ℕ} {size : ℕ} (k : Task cells size) (area : List ℕ)
           byte i h =
               let room = length-append (t .one .word) (t .one .mark ∷ []) in
               spelled-at (length (spelled (t .pre)) + i)
-              (omega (arith, spells-length area used (t .pre ++ (t .one ∷ t .post)) parted, spelled-both (t .pre) (t .one ∷ t .post), spelled-more (t .one) (t .post)))
+              (omega (
+                arith,
+                spells-length area used (t .pre ++ (t .one ∷ t .post)) parted,
+                spelled-both (t .pre) (t .one ∷ t .post),
+                spelled-more (t .one) (t .post),
+              ))
               ∙ (ap (λ l. getD (spelled l) (length (spelled (t .pre)) + i) 0) (t .parts)
               ∙ (ap (λ l. getD l (length (spelled (t .pre)) + i) 0) (spelled-append (t .pre) (t .one ∷ t .post))
-              ∙ (getD-append-add (spelled (t .pre)) (spelled (t .one ∷ t .post)) i 0 ∙ List·getD-append (entryBytes (t .one)) (spelled (t .post)) 0 i (omega (arith, room)))))
+              ∙ (getD-append-add (spelled (t .pre)) (spelled (t .one ∷ t .post)) i 0 ∙ List·getD-append (entryBytes (t .one)) (spelled (t .post)) 0 i
+              (omega (arith, room)))))
 
           by : Dec (end < length (spelled (t .pre)) + length (t .one .word)) → Untried ms end
           by (yes p) =
@@ -104,7 +110,8 @@ module _ {cells : List ℕ} {size : ℕ} (k : Task cells size) (area : List ℕ)
               let place : end ≡ length (spelled (t .pre)) + length (t .one .word) = omega arith in
               let zero-more : length (t .one .word) ≡ length (t .one .word) + 0 = omega arith in
               let mark : t .one .mark ≡ untried =
-              sym (byte (length (t .one .word)) (omega arith) ∙ (ap (λ i. getD (entryBytes (t .one)) i 0) zero-more ∙ getD-append-add (t .one .word) (t .one .mark ∷ []) 0 0))
+              sym (byte (length (t .one .word)) (omega arith)
+              ∙ (ap (λ i. getD (entryBytes (t .one)) i 0) zero-more ∙ getD-append-add (t .one .word) (t .one .mark ∷ []) 0 0))
               ∙ (ap (λ j. getD area j 0) (sym place) ∙ e) in
               record {
                 pre = t .pre;
@@ -133,8 +140,15 @@ module _ {cells : List ℕ} {size : ℕ} (k : Task cells size) (area : List ℕ)
 
   pub count-less : (end : ℕ) → Untried ms end → count < length area
   count-less end t =
-      omega
-      (arith, s .counted, ap triedCount (t .parts), tried-fewer (t .pre) (current (t .word)) (t .post) refl, ap (λ l. length (spelled l)) (t .parts), spells-length area used ms (s .spells), s .spells .fits)
+      omega (
+        arith,
+        s .counted,
+        ap triedCount (t .parts),
+        tried-fewer (t .pre) (current (t .word)) (t .post) refl,
+        ap (λ l. length (spelled l)) (t .parts),
+        spells-length area used ms (s .spells),
+        s .spells .fits,
+      )
 
 -- MARKED AS TRIED
 
@@ -203,7 +217,8 @@ module _ {cells : List ℕ} {size : ℕ} (g : Work cells size) (old : List Posit
       here : List·Memᴰ (current (g .word)) (p .busy .earlier-words ++ (current (g .word) ∷ p .busy .later-words))
       here = Memᴰ·append-right (p .busy .earlier-words) (List·Memᴰ·head refl)
 
-      other : (m : Marked) → List·Memᴰ m (p .busy .earlier-words ++ p .busy .later-words) → List·Memᴰ m (p .busy .earlier-words ++ (current (g .word) ∷ p .busy .later-words))
+      other : (m : Marked) → List·Memᴰ m (p .busy .earlier-words ++ p .busy .later-words)
+          → List·Memᴰ m (p .busy .earlier-words ++ (current (g .word) ∷ p .busy .later-words))
       other m n = more-keeps (p .busy .earlier-words) (p .busy .later-words) (current (g .word)) m n
 
       listed : {x : Positive} → List·Memᴰ x (words (p .busy .earlier-words ++ (current (g .word) ∷ p .busy .later-words)))
@@ -245,8 +260,12 @@ mark-index (x ∷ ms) m n = go (List·Memᴰ·cases-cons n) (mark-index ms m)
           ∙ (getD-append-add (x .word) (x .mark ∷ []) 0 0 ∙ ap (λ y. y .mark) (sym e)),
     )
     go (inr k) rest =
-        let t = rest k in
-        (length (entryBytes x) + t .0, omega (arith, t .1, length-append (entryBytes x) (spelled ms)), getD-append-add (entryBytes x) (spelled ms) (t .0) 0 ∙ t .2)
+        let t = rest k in (
+          length (entryBytes x) + t .0,
+          omega (arith, t .1, length-append (entryBytes x) (spelled ms)),
+          getD-append-add (entryBytes x) (spelled ms) (t .0) 0
+              ∙ t .2,
+        )
 
 all-zero-bytes : (ms : List Marked) → ((m : Marked) → List·Memᴰ m ms → m .mark ≡ 0) → spelled ms ≡ listingBytes (words ms)
 all-zero-bytes [] h = refl

@@ -27,7 +27,8 @@ use Rattle.writers.specs.declared.bit_writer.BitWriter.{BitWriter}
 
 pub length-laid : (area : List ℕ) (w : BitWriter) → w .next ≤ length area → length (laid area w) ≡ 8 * w .next + w .held
 length-laid area w h =
-    length-append (bitsOf (take (w .next) area)) (digits (w .held) (w .bits)) ∙ omega (arith, length-bits-take area (w .next) h, length-digits (w .held) (w .bits))
+    length-append (bitsOf (take (w .next) area)) (digits (w .held) (w .bits))
+    ∙ omega (arith, length-bits-take area (w .next) h, length-digits (w .held) (w .bits))
 
 bits-of-one : (xs : List ℕ) (x : ℕ) → bitsOf (xs ++ (x ∷ [])) ≡ bitsOf xs ++ digits 8 x
 bits-of-one xs x = bits-of-append xs (x ∷ []) ∙ ap (λ bs. bitsOf xs ++ bs) (append-nil (digits 8 x))
@@ -46,7 +47,8 @@ further m n xs ys h e =
     let s : m + (n - m) ≡ n = omega arith in
     sym (drop-drop (n - m) m xs ∙ ap (λ k. drop k xs) s) ∙ (ap (drop (n - m)) e ∙ (drop-drop (n - m) m ys ∙ ap (λ k. drop k ys) s))
 
-pub puts-more : {a b c : List ℕ} {v w x : BitWriter} {new more : List ℕ} → v .next ≤ length a → Puts a v new b w → Puts b w more c x → Puts a v (new ++ more) c x
+pub puts-more : {a b c : List ℕ} {v w x : BitWriter} {new more : List ℕ} → v .next ≤ length a → Puts a v new b w → Puts b w more c x
+    → Puts a v (new ++ more) c x
 puts-more {a} {b} {c} {v} {w} {x} {new} {more} h p q =
     record {
       same-length = q .same-length ∙ p .same-length;
@@ -176,7 +178,8 @@ module _ (before mid after : List ℕ) (w : BitWriter) (bits : List ℕ) (r : Ar
       ∙ (ap bitsOf (take-suc-set mid (w .next) byte inside)
       ∙ (bits-of-one (take (w .next) mid) byte
       ∙ (ap (λ l. bitsOf (take (w .next) mid) ++ l) joined
-      ∙ (sym (append-assoc (bitsOf (take (w .next) mid)) (digits (w .held) (w .bits)) (replicate (8 - w .held) 0)) ∙ ap (λ l. l ++ replicate (8 - w .held) 0) all)))))
+      ∙ (sym (append-assoc (bitsOf (take (w .next) mid)) (digits (w .held) (w .bits)) (replicate (8 - w .held) 0))
+      ∙ ap (λ l. l ++ replicate (8 - w .held) 0) all)))))
       (ap (drop (suc (w .next))) same
       ∙ (drop-set-lt (suc (w .next)) mid (w .next) byte (omega arith) ∙ further (w .next) (suc (w .next)) mid before (omega arith) (p .rest))))
       (below-or (w .held) 1)

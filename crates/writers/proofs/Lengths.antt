@@ -64,6 +64,8 @@ module _ (f : Form) where
 
   pub table-are-bits : (size : ℕ) (excess : List ℕ) (rows : List (List Complement)) → AreBits (tableAs f size excess rows)
   table-are-bits size excess rows =
-      bits-append (digits (f .sizes) (size - f .less)) (concatMap (weightAs f) excess ++ concatMap (concatMap (pairAs f)) rows) (digits-are-bits (f .sizes) (size - f .less))
-      (bits-append (concatMap (weightAs f) excess) (concatMap (concatMap (pairAs f)) rows) (concat-bits (weightAs f) (λ e. digits-are-bits (f .weights) (e + f .more)) excess)
+      bits-append (digits (f .sizes) (size - f .less)) (concatMap (weightAs f) excess ++ concatMap (concatMap (pairAs f)) rows)
+      (digits-are-bits (f .sizes) (size - f .less))
+      (bits-append (concatMap (weightAs f) excess) (concatMap (concatMap (pairAs f)) rows)
+      (concat-bits (weightAs f) (λ e. digits-are-bits (f .weights) (e + f .more)) excess)
       (concat-bits (concatMap (pairAs f)) (concat-bits (pairAs f) pair-bits) rows))

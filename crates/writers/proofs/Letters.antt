@@ -33,10 +33,12 @@ sign-and-number size width x h e = ap (λ w. digits 1 (x / 128) ++ digits w (x %
     by-sign : (t : Bool) → ltb x 128 ≡ t → digits 1 (x / 128) ++ letterBits size (x % 128) ≡ signedBits size (cond t (forward x) (back (x - 128)))
     by-sign true s =
         let l : x < 128 = ltb-true x 128 s in
-        ap (λ v. digits 1 v ++ letterBits size (x % 128)) {x = x / 128} {y = 0} (omega arith) ∙ ap (λ v. 0 ∷ letterBits size v) {x = x % 128} {y = x} (omega arith)
+        ap (λ v. digits 1 v ++ letterBits size (x % 128)) {x = x / 128} {y = 0} (omega arith) ∙ ap (λ v. 0 ∷ letterBits size v) {x = x % 128} {y = x}
+        (omega arith)
     by-sign false s =
         let l : 128 ≤ x = borrow.Author.Tests.ltb-false x 128 s in
-        ap (λ v. digits 1 v ++ letterBits size (x % 128)) {x = x / 128} {y = 1} (omega arith) ∙ ap (λ v. 1 ∷ letterBits size v) {x = x % 128} {y = x - 128} (omega arith)
+        ap (λ v. digits 1 v ++ letterBits size (x % 128)) {x = x / 128} {y = 1} (omega arith) ∙ ap (λ v. 1 ∷ letterBits size v) {x = x % 128} {y = x - 128}
+        (omega arith)
 
 -- the sign and the number as one field; `value` is what code computes of the letter's byte, at 32 bits
 module _ (size width x : ℕ) (of : WidthOf size width) (byte : x < 256) (named : namesLetter size x ≡ true) where
@@ -80,7 +82,8 @@ module _ (size width : ℕ) (width-is : width ≡ letterWidth size) (plain : Lis
   first-more i h =
       ap (λ l. concatMap (signedBits size) (map letter (take i plain)) ++ l) (sym (append-nil (signedBits size (letter (getD plain i 0)))))
       ∙ (sym (concat-append (signedBits size) (map letter (take i plain)) (letter (getD plain i 0) ∷ []))
-      ∙ ap (concatMap (signedBits size)) (one-letter (take i plain) (getD plain i 0) ∙ ap (map letter) (sym (take-suc plain i 0 h) ∙ ap (λ k. take k plain) (sym (add-one i)))))
+      ∙ ap (concatMap (signedBits size))
+      (one-letter (take i plain) (getD plain i 0) ∙ ap (map letter) (sym (take-suc plain i 0 h) ∙ ap (λ k. take k plain) (sym (add-one i)))))
     where
       one-letter : (xs : List ℕ) (x : ℕ) → map letter xs ++ (letter x ∷ []) ≡ map letter (xs ++ (x ∷ []))
       one-letter [] x = refl
@@ -103,7 +106,8 @@ module _ (size width : ℕ) (width-is : width ≡ letterWidth size) (plain : Lis
 pub program-bits : (size : ℕ) (plain : List ℕ) → AreBits (programBits size plain)
 unfolding programBits
 program-bits size plain =
-    bits-append (digits 12 (length plain)) (concatMap (signedBits size) (map letter plain)) (digits-are-bits 12 (length plain)) (concat-bits (signedBits size) (signed-are-bits size) (map letter plain))
+    bits-append (digits 12 (length plain)) (concatMap (signedBits size) (map letter plain)) (digits-are-bits 12 (length plain))
+    (concat-bits (signedBits size) (signed-are-bits size) (map letter plain))
 
 pub program-image : (size : ℕ) (plain : List ℕ) → programImage size (map letter plain) ≡ pack (programBits size plain)
 unfolding programBits programImage

@@ -55,7 +55,8 @@ module _ (size : ℕ) (cells : List ℕ) (a : ℕ) (row : List Complement) (hold
       let e : a + 1 + (b - a - 1) ≡ b = omega arith in
       subst (λ q. HoldsPair size cells a q (getD row (b - a - 1) undefined)) e (holds (b - a - 1) (omega arith))
 
-module _ (f : Complement → List ℕ) (size : ℕ) (cells : List ℕ) (a : ℕ) (row : List Complement) (holds : HoldsRow size cells a row) (wide : length row + a ≡ size) where
+module _ (f : Complement → List ℕ) (size : ℕ) (cells : List ℕ) (a : ℕ) (row : List Complement) (holds : HoldsRow size cells a row)
+    (wide : length row + a ≡ size) where
   pub row-more : (b : ℕ) → a < b → b ≤ size → concatMap f (take (b - a - 1) row) ++ f (getD row (b - a - 1) undefined) ≡ concatMap f (take (b + 1 - a - 1) row)
   row-more b low high =
       let e : suc (b - a - 1) ≡ b + 1 - a - 1 = omega arith in
@@ -112,7 +113,8 @@ module _ (size : ℕ) (cells excess : List ℕ) (h : HoldsWeights size cells exc
   pub weight-light : (a : ℕ) → 1 ≤ a → a ≤ size → getD cells (weightAt a) 0 < 2 ^ weightWidth
   weight-light a low high = subst (λ v. v < 2 ^ weightWidth) (sym (weight-there a low high)) (h .light (a - 1) (omega (arith, h .many)))
 
-  pub weight-more : (f : ℕ → List ℕ) (a : ℕ) → 1 ≤ a → a ≤ size → concatMap f (take (a - 1) excess) ++ f (getD cells (weightAt a) 0) ≡ concatMap f (take (a + 1 - 1) excess)
+  pub weight-more : (f : ℕ → List ℕ) (a : ℕ) → 1 ≤ a → a ≤ size → concatMap f (take (a - 1) excess) ++ f (getD cells (weightAt a) 0) ≡ concatMap f
+      (take (a + 1 - 1) excess)
   weight-more f a low high =
       let e : suc (a - 1) ≡ a + 1 - 1 = omega arith in
       ap (λ v. concatMap f (take (a - 1) excess) ++ f v) (weight-there a low high)

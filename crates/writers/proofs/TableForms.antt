@@ -53,7 +53,8 @@ image-bits T size e =
     ap pack
     (ap₂ (λ l r. digits 4 (size - 1) ++ (l ++ r))
     (concat-same (weightAs (imageForm size)) (digits weightWidth) (λ e. ap (digits weightWidth) {x = e + 0} {y = e} (omega arith)) (T .excess))
-    (concat-same (concatMap (pairAs (imageForm size))) (concatMap (pairBits size)) (concat-same (pairAs (imageForm size)) (pairBits size) (pair-image size)) (T .rows)))
+    (concat-same (concatMap (pairAs (imageForm size))) (concatMap (pairBits size)) (concat-same (pairAs (imageForm size)) (pairBits size) (pair-image size))
+    (T .rows)))
     ∙ ap (λ n. pack (digits 4 (n - 1) ++ (concatMap (digits weightWidth) (T .excess) ++ concatMap (concatMap (pairBits n)) (T .rows)))) (sym e)
 
 -- THE PLAIN FORM
@@ -151,7 +152,8 @@ plain-bytes : (T : Presentation) → TableInRange T → AreBytes (plainTable T)
 unfolding plainTable
 plain-bytes T r =
     bytes-cons (T .size) (map suc (T .excess) ++ concatMap (concatMap plainPair) (T .rows)) (omega (arith, r .few))
-    (bytes-append (map suc (T .excess)) (concatMap (concatMap plainPair) (T .rows)) (weights-bytes (T .excess) (r .light)) (rows-bytes (T .size) (r .few) (T .size) (T .rows) (r .pairs)))
+    (bytes-append (map suc (T .excess)) (concatMap (concatMap plainPair) (T .rows)) (weights-bytes (T .excess) (r .light))
+    (rows-bytes (T .size) (r .few) (T .size) (T .rows) (r .pairs)))
 
 pub plain-packed : (T : Presentation) (size : ℕ) → T .size ≡ size → TableInRange T → pack (tableAs plainForm size (T .excess) (T .rows)) ≡ plainTable T
 plain-packed T size e r =

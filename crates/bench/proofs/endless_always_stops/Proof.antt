@@ -16,46 +16,10 @@ abbrev μ-loop : tie.MeasureT-loop
 loop-holds : tie.Need-loop-holds Inv-loop μ-loop
 loop-holds c = refl
 
-endless-stops-requires : tie.Need-endless-stops-requires Inv-loop μ-loop
-endless-stops-requires c κs = search needs
-
-same-length : tie.Need-same-length Inv-loop μ-loop
-same-length c = search needs
-
-returns : tie.Need-returns Inv-loop μ-loop
-returns c = search needs
-
-add-allowance : tie.Need-add-allowance Inv-loop μ-loop
-add-allowance c = omega arith
-
-loop-less : tie.Need-loop-less Inv-loop μ-loop
-loop-less c = omega arith
-
 loop-again : tie.Need-loop-again Inv-loop μ-loop
-loop-again c = c .before .before .before .endless-stops .ensures ∙ c .before .before .before .before .before .before .loop .inv
-
-endless-stops-requires-2 : tie.Need-endless-stops-requires-2 Inv-loop μ-loop
-endless-stops-requires-2 c κs = search needs
-
-same-length-2 : tie.Need-same-length-2 Inv-loop μ-loop
-same-length-2 c = search needs
-
-returns-2 : tie.Need-returns-2 Inv-loop μ-loop
-returns-2 c = search needs
+loop-again c = let k = c .before .before .before in k .endless-stops .ensures ∙ k .before .before .before .loop .inv
 
 pub endless-always-stops-spec : {M : Type 1} → statement M
 endless-always-stops-spec =
-    tie.close
-    (tie.spec
-    Inv-loop
-    μ-loop
-    loop-holds
-    endless-stops-requires
-    same-length
-    returns
-    add-allowance
-    loop-less
-    loop-again
-    endless-stops-requires-2
-    same-length-2
-    returns-2)
+    tie.close (tie.spec Inv-loop μ-loop loop-holds (λ c κs. search needs) (λ c. search needs) (λ c. search needs) (λ c. omega arith) (λ c. omega arith)
+    loop-again (λ c κs. search needs) (λ c. search needs) (λ c. search needs))

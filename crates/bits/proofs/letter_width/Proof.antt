@@ -13,6 +13,4 @@ returns : tie.Need-returns
 returns c = width-is (c .args .n) (c .pre .0) (c .pre .1)
 
 pub letter-width-spec : {M : Type 1} → statement M
-letter-width-spec =
-    tie.close
-    (tie.spec (λ c. search needs) sub-result-2 (λ c. search needs) returns)
+letter-width-spec = tie.close (tie.spec (λ c. search needs) sub-result-2 (λ c. search needs) returns)

@@ -103,6 +103,5 @@ returns c =
 
 pub read-field-spec : {M : Type 1} → statement M
 read-field-spec =
-    tie.close
-    (tie.spec Inv-loop μ-loop loop-holds add-run-length sub-run-length run-length-requires add-read-run read-run-requires cast-value shl-value add-value
-    add-i loop-less loop-again returns)
+    tie.close (tie.spec Inv-loop μ-loop loop-holds add-run-length sub-run-length run-length-requires add-read-run read-run-requires cast-value shl-value
+    add-value add-i loop-less loop-again returns)

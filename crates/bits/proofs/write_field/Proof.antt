@@ -86,6 +86,5 @@ returns c =
 
 pub write-field-spec : {M : Type 1} → statement M
 write-field-spec =
-    tie.close
-    (tie.spec Inv-loop μ-loop loop-holds sub-place add-place run-length-requires sub-rest cast-write-run shr-write-run write-run-requires loop-less
+    tie.close (tie.spec Inv-loop μ-loop loop-holds sub-place add-place run-length-requires sub-rest cast-write-run shr-write-run write-run-requires loop-less
     loop-again same-length returns)

@@ -43,7 +43,6 @@ returns c = run-written (c .before .args .bytes .now) (c .before .args .at) (c .
 
 pub write-run-spec : {M : Type 1} → statement M
 write-run-spec =
-    tie.close
-    (tie.spec (λ c. search needs) (λ c. search needs) (λ c. search needs) (λ c. search needs) (λ c. search needs) (λ c. search needs) (λ c. search needs)
-    cast-old (λ c. search needs) (λ c. search needs) mul-bytes rem-bytes add-bytes mul-bytes-2 rem-bytes-2 add-bytes-2 cast-bytes (λ c. search needs)
-    (λ c. search needs) returns)
+    tie.close (tie.spec (λ c. search needs) (λ c. search needs) (λ c. search needs) (λ c. search needs) (λ c. search needs) (λ c. search needs)
+    (λ c. search needs) cast-old (λ c. search needs) (λ c. search needs) mul-bytes rem-bytes add-bytes mul-bytes-2 rem-bytes-2 add-bytes-2 cast-bytes
+    (λ c. search needs) (λ c. search needs) returns)

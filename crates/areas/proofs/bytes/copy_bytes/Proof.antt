@@ -51,6 +51,4 @@ returns c =
     (l .loop .inv .1, l .loop .inv .2 ∙ ap (λ k. take k (s .args .from .now) ++ drop k (s .args .area .now)) e)
 
 pub copy-bytes-spec : {M : Type 1} → statement M
-copy-bytes-spec =
-    tie.close
-    (tie.spec Inv-loop μ-loop loop-holds shared-slice-read-area slice-write-area add-i loop-less loop-again same-length returns)
+copy-bytes-spec = tie.close (tie.spec Inv-loop μ-loop loop-holds shared-slice-read-area slice-write-area add-i loop-less loop-again same-length returns)

@@ -74,5 +74,4 @@ returns c =
 
 pub copy-on-spec : {M : Type 1} → statement M
 copy-on-spec =
-    tie.close
-    (tie.spec Inv-loop μ-loop loop-holds add-area slice-read-area add-area-2 slice-write-area add-i loop-less loop-again same-length returns)
+    tie.close (tie.spec Inv-loop μ-loop loop-holds add-area slice-read-area add-area-2 slice-write-area add-i loop-less loop-again same-length returns)

@@ -41,6 +41,5 @@ returns c =
 
 pub turn-around-spec : {M : Type 1} → statement M
 turn-around-spec =
-    tie.close
-    (tie.spec Inv-loop μ-loop loop-holds (λ c. omega arith) (λ c. omega arith) (λ c. omega arith) (λ c. omega arith) slice-write-area-2 (λ c. omega arith)
-    (λ c. omega arith) loop-again same-length returns)
+    tie.close (tie.spec Inv-loop μ-loop loop-holds (λ c. omega arith) (λ c. omega arith) (λ c. omega arith) (λ c. omega arith) slice-write-area-2
+    (λ c. omega arith) (λ c. omega arith) loop-again same-length returns)

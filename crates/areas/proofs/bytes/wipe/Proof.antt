@@ -37,6 +37,4 @@ returns c =
     ∙ (ap (λ i. replicate i 0 ++ drop i d) e ∙ (ap (λ t. replicate (length d) 0 ++ t) (drop-length d) ∙ append-nil (replicate (length d) 0)))
 
 pub wipe-spec : {M : Type 1} → statement M
-wipe-spec =
-    tie.close
-    (tie.spec Inv-loop μ-loop loop-holds (λ c. omega arith) (λ c. omega arith) (λ c. omega arith) loop-again same-length returns)
+wipe-spec = tie.close (tie.spec Inv-loop μ-loop loop-holds (λ c. omega arith) (λ c. omega arith) (λ c. omega arith) loop-again same-length returns)

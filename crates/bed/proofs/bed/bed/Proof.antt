@@ -14,6 +14,9 @@ use borrow.Author.Needs.{needs}
 use Rattle.bed.proofs.bed.bed.Statement.{statement}
 use Rattle.bed.proofs.bed.bed.Tie as tie
 
+abbrev after-cells2 : tie.At-match-keys1 → tie.After-cells2
+after-cells2 c = c .before
+
 abbrev start : tie.After-read-braid → tie.Start
 start c = c .before .before .before .before .before
 
@@ -41,31 +44,14 @@ program-of : (c : tie.After-known-told4)
     → ProgramOf (start (at-table (at-size (at-program c))) .args .program .now) (size (at-size (at-program c))) (c .before .accepted2 .given .0 .0)
 program-of c =
     let k = at-size (at-program c) in
-    subst (ProgramDone (start (at-table k) .args .program .now) (cells k) (size k)) (c .before .accepted2 .given .1) (at-program c .read-program .ensures) .program
-
-slice-aggregate-read-braid : tie.Need-slice-aggregate-read-braid
-slice-aggregate-read-braid c = search needs
+    subst (ProgramDone (start (at-table k) .args .program .now) (cells k) (size k)) (c .before .accepted2 .given .1)
+    (at-program c .read-program .ensures) .program
 
 read-braid-requires : tie.Need-read-braid-requires
 read-braid-requires c κs = blank-zeros
 
-enum-known-read : tie.Need-enum-known-read
-enum-known-read c = search needs
-
-enum-known-read-2 : tie.Need-enum-known-read-2
-enum-known-read-2 c = search needs
-
-slice-aggregate-read-program : tie.Need-slice-aggregate-read-program
-slice-aggregate-read-program c = search needs
-
 read-program-requires : tie.Need-read-program-requires
 read-program-requires c κs = let b = braid-of (c .before) in (b .table, b .of)
-
-enum-known-accepted : tie.Need-enum-known-accepted
-enum-known-accepted c = search needs
-
-enum-known-accepted-2 : tie.Need-enum-known-accepted-2
-enum-known-accepted-2 c = search needs
 
 show-program-requires : tie.Need-show-program-requires
 show-program-requires c κs =
@@ -74,7 +60,7 @@ show-program-requires c κs =
 
 returns : tie.Need-returns
 returns c =
-    let v = c .before .before .before .before in
+    let v = after-cells2 (c .before .before) .before in
     let s = start v in
     let r = c .before .read .given .0 .0 in
     promised (s .args .table .now) (s .args .program .now) (s .args .moves) (s .args .answer .now) (s .args .answer .now) (Refused r)
@@ -90,7 +76,8 @@ returns-2 c =
     let r = c .before .accepted .given .0 .0 in
     promised (s .args .table .now) (s .args .program .now) (s .args .moves) (s .args .answer .now) (s .args .answer .now) (Refused r)
     (refused-answers _ (s .args .answer .now) r
-    (bed-no-program (s .args .table .now) (s .args .program .now) (s .args .moves) (length (s .args .answer .now)) (braid-of k .table) (braid-of k .read) (size k) (braid-of k .of .sized) r
+    (bed-no-program (s .args .table .now) (s .args .program .now) (s .args .moves) (length (s .args .answer .now)) (braid-of k .table) (braid-of k .read)
+    (size k) (braid-of k .of .sized) r
     (subst (ProgramDone (s .args .program .now) (cells k) (size k)) (c .before .accepted .given .1) (v .read-program .ensures))))
 
 same-length : tie.Need-same-length
@@ -103,25 +90,14 @@ returns-3 c =
     let k = at-size (at-program m) in
     let s = start (at-table k) in
     let w = program-of m .word in
-    promised (s .args .table .now) (s .args .program .now) (s .args .moves) (s .args .answer .now) (g .show-program .last .1 .1 .1 .1 .0) (g .show-program .result)
+    promised (s .args .table .now) (s .args .program .now) (s .args .moves) (s .args .answer .now) (g .show-program .last .1 .1 .1 .1 .0)
+    (g .show-program .result)
     (subst (λ o. Answers o (s .args .answer .now) (g .show-program .last .1 .1 .1 .1 .0) (g .show-program .result))
-    (sym (bed-shows (s .args .table .now) (s .args .program .now) (s .args .moves) (length (s .args .answer .now)) (braid-of k .table) (braid-of k .read) (size k) (braid-of k .of .sized) w (program-of m .read)))
+    (sym (bed-shows (s .args .table .now) (s .args .program .now) (s .args .moves) (length (s .args .answer .now)) (braid-of k .table) (braid-of k .read)
+    (size k) (braid-of k .of .sized) w (program-of m .read)))
     (g .show-program .ensures w (program-of m .read)))
 
 pub bed-spec : {M : Type 1} → statement M
 bed-spec =
-    tie.close
-    (tie.spec
-    slice-aggregate-read-braid
-    read-braid-requires
-    enum-known-read
-    enum-known-read-2
-    slice-aggregate-read-program
-    read-program-requires
-    enum-known-accepted
-    enum-known-accepted-2
-    show-program-requires
-    returns
-    returns-2
-    same-length
-    returns-3)
+    tie.close (tie.spec (λ c. search needs) read-braid-requires (λ c. search needs) (λ c. search needs) (λ c. search needs) read-program-requires
+    (λ c. search needs) (λ c. search needs) show-program-requires returns returns-2 same-length returns-3)

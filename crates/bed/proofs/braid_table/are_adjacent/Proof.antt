@@ -4,17 +4,11 @@ use borrow.Author.Needs.{needs}
 use Rattle.bed.proofs.braid_table.are_adjacent.Statement.{statement}
 use Rattle.bed.proofs.braid_table.are_adjacent.Tie as tie
 
-add-result : tie.Need-add-result
-add-result c = search needs
-
 returns : tie.Need-returns
 returns c = adjacent-below (c .before .args .a) (c .before .args .b) (c .if1 .taken)
-
-add-result-2 : tie.Need-add-result-2
-add-result-2 c = search needs
 
 returns-2 : tie.Need-returns-2
 returns-2 c = adjacent-above (c .before .args .a) (c .before .args .b) (c .if1 .left)
 
 pub are-adjacent-spec : {M : Type 1} → statement M
-are-adjacent-spec = tie.close (tie.spec add-result returns add-result-2 returns-2)
+are-adjacent-spec = tie.close (tie.spec (λ c. search needs) returns (λ c. search needs) returns-2)

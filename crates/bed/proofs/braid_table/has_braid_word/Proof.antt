@@ -9,47 +9,32 @@ use borrow.Author.Needs.{needs}
 use Rattle.bed.proofs.braid_table.has_braid_word.Statement.{statement}
 use Rattle.bed.proofs.braid_table.has_braid_word.Tie as tie
 
-cell-at-requires : tie.Need-cell-at-requires
-cell-at-requires c κs = search needs
+abbrev start : tie.After-cell-at → tie.Start
+start c = c .before .before
 
-add-if1 : tie.Need-add-if1
-add-if1 c = search needs
-
-shared-slice-read-if1 : tie.Need-shared-slice-read-if1
-shared-slice-read-if1 c = search needs
+abbrev then2 : tie.Else3 → tie.Then2
+then2 c = c .before .before
 
 returns : tie.Need-returns
 returns c =
-    let s = c .before .before .before .before in
+    let s = start (c .before .before) in
     let cells = s .args .cells .now in
     λ T h ra rb. first-letter cells T h (s .args .a) (s .args .b) ra rb
     (λ e. c .if1 .taken (ap (λ i. getD cells (i + 1) 0) (c .before .before .cell-at .ensures) ∙ e))
 
-are-adjacent-requires : tie.Need-are-adjacent-requires
-are-adjacent-requires c κs = search needs
-
-add-if3 : tie.Need-add-if3
-add-if3 c = search needs
-
-shared-slice-read-if3 : tie.Need-shared-slice-read-if3
-shared-slice-read-if3 c = search needs
-
 returns-2 : tie.Need-returns-2
 returns-2 c =
     let k = c .before .before .before in
-    let s = k .before .before .before .before .before in
+    let s = start (k .before .before .before) in
     let cells = s .args .cells .now in
     let cell = k .before .before .before .cell-at in
     λ T h ra rb. near-second cells T h (s .args .a) (s .args .b) ra rb (sym (k .are-adjacent .ensures) ∙ c .before .before .if2 .taken)
     (λ e. c .if3 .taken (ap (λ i. getD cells (i + 2) 0) (cell .ensures) ∙ e))
 
-shared-slice-read-result : tie.Need-shared-slice-read-result
-shared-slice-read-result c = search needs
-
 returns-3 : tie.Need-returns-3
 returns-3 c =
-    let k = c .before .before .before .before in
-    let s = k .before .before .before .before .before in
+    let k = then2 (c .before) .before in
+    let s = start (k .before .before .before) in
     let cells = s .args .cells .now in
     let cell = k .before .before .before .cell-at in
     λ T h ra rb.
@@ -58,13 +43,10 @@ returns-3 c =
     (sym (ap (λ i. getD cells (i + 1) 0) (cell .ensures)) ∙ k .before .if1 .left)
     (sym (ap (λ i. getD cells (i + 2) 0) (cell .ensures)) ∙ c .before .if3 .left))
 
-shared-slice-read-result-2 : tie.Need-shared-slice-read-result-2
-shared-slice-read-result-2 c = search needs
-
 returns-4 : tie.Need-returns-4
 returns-4 c =
     let k = c .before .before in
-    let s = k .before .before .before .before .before in
+    let s = start (k .before .before .before) in
     let cells = s .args .cells .now in
     let cell = k .before .before .before .cell-at in
     λ T h ra rb.
@@ -74,17 +56,5 @@ returns-4 c =
 
 pub has-braid-word-spec : {M : Type 1} → statement M
 has-braid-word-spec =
-    tie.close
-    (tie.spec
-    cell-at-requires
-    add-if1
-    shared-slice-read-if1
-    returns
-    are-adjacent-requires
-    add-if3
-    shared-slice-read-if3
-    returns-2
-    shared-slice-read-result
-    returns-3
-    shared-slice-read-result-2
-    returns-4)
+    tie.close (tie.spec (λ c κs. search needs) (λ c. search needs) (λ c. search needs) returns (λ c κs. search needs) (λ c. search needs) (λ c. search needs)
+    returns-2 (λ c. search needs) returns-3 (λ c. search needs) returns-4)

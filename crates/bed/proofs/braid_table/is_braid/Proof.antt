@@ -19,6 +19,9 @@ Inv-loop cells size a₀ a =
 abbrev μ-loop : tie.MeasureT-loop
 μ-loop cells size a₀ a = size + 1 - a
 
+abbrev start : tie.At-loop Inv-loop μ-loop → tie.Start Inv-loop μ-loop
+start c = c .before .before
+
 loop-holds : tie.Need-loop-holds Inv-loop μ-loop
 loop-holds c =
     let s = c .before in
@@ -35,12 +38,6 @@ returns c =
     c .before .is-braid-row .ensures T o .fails (not-true _ (c .if1 .taken))
     (λ b h k. each (l .a) b (l .inv .0) h (omega (arith, o .sized))))
 
-add-a : tie.Need-add-a Inv-loop μ-loop
-add-a c = omega arith
-
-loop-less : tie.Need-loop-less Inv-loop μ-loop
-loop-less c = omega arith
-
 loop-again : tie.Need-loop-again Inv-loop μ-loop
 loop-again c =
     let l = c .before .before .before .loop in
@@ -49,7 +46,7 @@ loop-again c =
       omega arith,
       s .2,
       λ T o k h i.
-          one-more (BraidRow T (c .before .before .before .before .before .args .size)) (l .a) 0 (s .3 T o)
+          one-more (BraidRow T (start (c .before .before .before) .args .size)) (l .a) 0 (s .3 T o)
           (c .before .is-braid-row .ensures T o .holds (not-false _ (c .if1 .left))) k h i,
     )
 
@@ -59,15 +56,4 @@ returns-2 c =
     λ T o. sym (all-braid T λ a b low h high. l .inv .3 T o a low (omega (arith, o .sized)) b h (omega (arith, o .sized)))
 
 pub is-braid-spec : {M : Type 1} → statement M
-is-braid-spec =
-    tie.close
-    (tie.spec
-    Inv-loop
-    μ-loop
-    loop-holds
-    is-braid-row-requires
-    returns
-    add-a
-    loop-less
-    loop-again
-    returns-2)
+is-braid-spec = tie.close (tie.spec Inv-loop μ-loop loop-holds is-braid-row-requires returns (λ c. omega arith) (λ c. omega arith) loop-again returns-2)

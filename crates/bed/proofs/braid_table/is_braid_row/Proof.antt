@@ -17,6 +17,12 @@ Inv-loop cells size a b₀ b =
 abbrev μ-loop : tie.MeasureT-loop
 μ-loop cells size a b₀ b = size + 1 - b
 
+abbrev start : tie.After-has-braid-word Inv-loop μ-loop → tie.Start Inv-loop μ-loop
+start c = c .before .before .before .before
+
+abbrev after-has-braid-word : tie.Else1 Inv-loop μ-loop → tie.After-has-braid-word Inv-loop μ-loop
+after-has-braid-word c = c .before
+
 add-b : tie.Need-add-b Inv-loop μ-loop
 add-b c = let s = c .before in omega (arith, s .pre .2, of-few (s .pre .0 .1))
 
@@ -32,35 +38,33 @@ has-braid-word-requires c κs =
 
 returns : tie.Need-returns Inv-loop μ-loop
 returns c =
-    let s = c .before .before .before .before .before in
+    let s = start (c .before) in
     let l = c .before .before .before .loop in
     λ T o. decided-false λ each.
-    c .before .has-braid-word .ensures T (o .stands) (of-range o (s .args .a) (s .pre .1) (s .pre .2)) (of-range o (l .b) (omega (arith, s .pre .1)) (omega arith))
+    c .before .has-braid-word .ensures T (o .stands) (of-range o (s .args .a) (s .pre .1) (s .pre .2))
+    (of-range o (l .b) (omega (arith, s .pre .1)) (omega arith))
     .fails (not-true _ (c .if1 .taken)) (first-of-pair T (s .args .a) (l .b) (each (l .b) (omega arith) (omega arith)))
 
 has-braid-word-requires-2 : tie.Need-has-braid-word-requires-2 Inv-loop μ-loop
 has-braid-word-requires-2 c κs =
-    let s = c .before .before .before .before .before in
+    let s = start (after-has-braid-word c) in
     filled (s .pre .0) (c .before .before .before .loop .b) (s .args .a) (omega (arith, s .pre .1)) (omega arith) (s .pre .1) (s .pre .2)
 
 returns-2 : tie.Need-returns-2 Inv-loop μ-loop
 returns-2 c =
-    let s = c .before .before .before .before .before .before .before in
-    let l = c .before .before .before .before .before .loop in
+    let k = after-has-braid-word (c .before .before) in
+    let s = start k in
+    let l = k .before .before .loop in
     λ T o. decided-false λ each.
-    c .before .has-braid-word2 .ensures T (o .stands) (of-range o (l .b) (omega (arith, s .pre .1)) (omega arith)) (of-range o (s .args .a) (s .pre .1) (s .pre .2))
+    c .before .has-braid-word2 .ensures T (o .stands) (of-range o (l .b) (omega (arith, s .pre .1)) (omega arith))
+    (of-range o (s .args .a) (s .pre .1) (s .pre .2))
     .fails (not-true _ (c .if2 .taken)) (second-of-pair T (s .args .a) (l .b) (each (l .b) (omega arith) (omega arith)))
-
-add-b-2 : tie.Need-add-b-2 Inv-loop μ-loop
-add-b-2 c = omega arith
-
-loop-less : tie.Need-loop-less Inv-loop μ-loop
-loop-less c = omega arith
 
 loop-again : tie.Need-loop-again Inv-loop μ-loop
 loop-again c =
-    let s = c .before .before .before .before .before .before .before in
-    let l = c .before .before .before .before .before .loop in (
+    let j = after-has-braid-word (c .before .before) in
+    let s = start j in
+    let l = j .before .before .loop in (
       omega arith,
       omega arith,
       l .inv .2,
@@ -82,17 +86,5 @@ returns-3 c =
 
 pub is-braid-row-spec : {M : Type 1} → statement M
 is-braid-row-spec =
-    tie.close
-    (tie.spec
-    Inv-loop
-    μ-loop
-    add-b
-    loop-holds
-    has-braid-word-requires
-    returns
-    has-braid-word-requires-2
-    returns-2
-    add-b-2
-    loop-less
-    loop-again
-    returns-3)
+    tie.close (tie.spec Inv-loop μ-loop add-b loop-holds has-braid-word-requires returns has-braid-word-requires-2 returns-2 (λ c. omega arith)
+    (λ c. omega arith) loop-again returns-3)

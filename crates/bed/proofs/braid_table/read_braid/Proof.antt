@@ -8,6 +8,9 @@ use borrow.Author.Needs.{needs}
 use Rattle.bed.proofs.braid_table.read_braid.Statement.{statement}
 use Rattle.bed.proofs.braid_table.read_braid.Tie as tie
 
+abbrev at-match-keys2 : tie.After-read2 → tie.At-match-keys2
+at-match-keys2 c = c .before
+
 abbrev start : tie.After-read-table → tie.Start
 start c = c .before .before .before .before
 
@@ -16,7 +19,7 @@ abbrev read-in : tie.After-slice-known2 → tie.After-read-table
 read-in c = c .before .before
 
 abbrev at-table : tie.After-is-braid-arg → tie.After-read-table
-at-table c = read-in (c .before .before .before .before)
+at-table c = read-in (at-match-keys2 (c .before .before) .before)
 
 abbrev image : tie.After-read-table → List ℕ
 image v = start v .args .image .now
@@ -29,36 +32,18 @@ table-of c =
     let v = at-table c in
     subst (TableDone (image v) (cells v)) (c .before .before .read2 .given .1) (v .read-table .ensures .1)
 
-read-table-requires : tie.Need-read-table-requires
-read-table-requires c κs = search needs
-
-enum-known-read : tie.Need-enum-known-read
-enum-known-read c = search needs
-
-enum-known-read-2 : tie.Need-enum-known-read-2
-enum-known-read-2 c = search needs
-
 is-braid-requires : tie.Need-is-braid-requires
 is-braid-requires c κs = let t = table-of c in (t .table, t .of)
-
-same-length : tie.Need-same-length
-same-length c = search needs
 
 returns : tie.Need-returns
 returns c =
     let t = table-of (c .before .before) in
     braid-of _ _ _ t (sym (c .before .is-braid .ensures (t .table) (t .of)) ∙ c .if1 .taken)
 
-same-length-2 : tie.Need-same-length-2
-same-length-2 c = search needs
-
 returns-2 : tie.Need-returns-2
 returns-2 c =
     let v = read-in (c .before .before .before) in
     table-refused (image v) (c .before .read .given .0 .0) (subst (TableDone (image v) (cells v)) (c .before .read .given .1) (v .read-table .ensures .1))
-
-same-length-3 : tie.Need-same-length-3
-same-length-3 c = search needs
 
 returns-3 : tie.Need-returns-3
 returns-3 c =
@@ -67,15 +52,5 @@ returns-3 c =
 
 pub read-braid-spec : {M : Type 1} → statement M
 read-braid-spec =
-    tie.close
-    (tie.spec
-    read-table-requires
-    enum-known-read
-    enum-known-read-2
-    is-braid-requires
-    same-length
-    returns
-    same-length-2
-    returns-2
-    same-length-3
-    returns-3)
+    tie.close (tie.spec (λ c κs. search needs) (λ c. search needs) (λ c. search needs) is-braid-requires (λ c. search needs) returns (λ c. search needs)
+    returns-2 (λ c. search needs) returns-3)

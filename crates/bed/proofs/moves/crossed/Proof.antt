@@ -11,14 +11,8 @@ use borrow.Author.Needs.{needs}
 use Rattle.bed.proofs.moves.crossed.Statement.{statement}
 use Rattle.bed.proofs.moves.crossed.Tie as tie
 
-sub-low : tie.Need-sub-low
-sub-low c = search needs
-
-element-copy-out-x : tie.Need-element-copy-out-x
-element-copy-out-x c = search needs
-
-element-copy-out-y : tie.Need-element-copy-out-y
-element-copy-out-y c = search needs
+abbrev start : tie.After-x → tie.Start
+start c = c .before
 
 total-index-requires : tie.Need-total-index-requires
 total-index-requires c κs =
@@ -32,23 +26,11 @@ total-index-requires c κs =
       h .shown .small,
     )
 
-mul-total : tie.Need-mul-total
-mul-total c = search needs
-
-element-copy-out-total : tie.Need-element-copy-out-total
-element-copy-out-total c = search needs
-
-element-write-next : tie.Need-element-write-next
-element-write-next c = search needs
-
-element-write-next-2 : tie.Need-element-write-next-2
-element-write-next-2 c = search needs
-
 -- the total that changes is one of the bed's
-inside : (c : tie.After-total) (B : Bed) → Shown (c .before .before .before .before .args .t1) (c .before .before .before .before .args .places) B
+inside : (c : tie.After-total) (B : Bed) → Shown (start (c .before .before .before) .args .t1) (start (c .before .before .before) .args .places) B
     → c .before .total-index .result < length (B .totals)
 inside c B h =
-    let s = c .before .before .before .before in
+    let s = start (c .before .before .before) in
     let v = s .args .t1 in
     let i = s .args .i in
     let k = s .pre .0 in
@@ -58,46 +40,30 @@ inside c B h =
       arith,
       c .before .total-index .ensures .0,
       h .sound .many,
-      position-inside (s .args .places) (getD (v .bobbins) (i - 1) 0) (getD (v .bobbins) i 0) x y (bobbins-two v (s .args .places) B h (i - 1) i (omega (arith, k .low)) (k .high)),
+      position-inside (s .args .places) (getD (v .bobbins) (i - 1) 0) (getD (v .bobbins) i 0) x y
+          (bobbins-two v (s .args .places) B h (i - 1) i (omega (arith, k .low)) (k .high)),
     )
 
-within : (c : tie.After-total) → natAbs (getD (c .before .before .before .before .args .t1 .totals) (c .before .total-index .result) (pos 0)) ≤ 4095
+within : (c : tie.After-total) → natAbs (getD (start (c .before .before .before) .args .t1 .totals) (c .before .total-index .result) (pos 0)) ≤ 4095
 within c =
-    let s = c .before .before .before .before in
+    let s = start (c .before .before .before) in
     let k = s .pre .0 in
     total-within (s .args .t1) (s .args .places) (k .bed) (k .shown) (c .before .total-index .result) (inside c (k .bed) (k .shown))
 
 add-next : tie.Need-add-next
 add-next c =
-    let s = c .before .before .before .before in
+    let s = start (c .before .before .before) in
     sum-fits (getD (s .args .t1 .totals) (c .before .total-index .result) (pos 0)) (s .args .change) (within c) (s .pre .1)
-
-mul-t18 : tie.Need-mul-t18
-mul-t18 c = search needs
-
-element-set-from-next : tie.Need-element-set-from-next
-element-set-from-next c = search needs
 
 returns : tie.Need-returns
 returns c =
-    let s = c .before .before .before .before in
+    let s = start (c .before .before .before) in
     λ B h.
-    crossed-shows (s .args .t1) (s .args .places) B h (s .args .i) (c .before .total-index .result) (s .pre .0 .low) (s .pre .0 .high) (c .before .total-index .ensures .0) (inside c B h) _ (s .args .change)
+    crossed-shows (s .args .t1) (s .args .places) B h (s .args .i) (c .before .total-index .result) (s .pre .0 .low) (s .pre .0 .high)
+    (c .before .total-index .ensures .0) (inside c B h) _ (s .args .change)
     (sum-stored (getD (s .args .t1 .totals) (c .before .total-index .result) (pos 0)) (s .args .change) (within c) (s .pre .1))
 
 pub crossed-spec : {M : Type 1} → statement M
 crossed-spec =
-    tie.close
-    (tie.spec
-    sub-low
-    element-copy-out-x
-    element-copy-out-y
-    total-index-requires
-    mul-total
-    element-copy-out-total
-    element-write-next
-    element-write-next-2
-    add-next
-    mul-t18
-    element-set-from-next
-    returns)
+    tie.close (tie.spec (λ c. search needs) (λ c. search needs) (λ c. search needs) total-index-requires (λ c. search needs) (λ c. search needs)
+    (λ c. search needs) (λ c. search needs) add-next (λ c. search needs) (λ c. search needs) returns)

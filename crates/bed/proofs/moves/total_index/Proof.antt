@@ -7,17 +7,11 @@ use borrow.Author.Needs.{needs}
 use Rattle.bed.proofs.moves.total_index.Statement.{statement}
 use Rattle.bed.proofs.moves.total_index.Tie as tie
 
-pair-index-requires : tie.Need-pair-index-requires
-pair-index-requires c κs = search needs
-
 returns : tie.Need-returns
 returns c =
     let s = c .before .before in
     let e = c .pair-index .ensures in
     (e, omega (arith, e, position-few (s .args .places) (s .args .x) (s .args .y) (s .pre .0) (s .pre .1) (s .pre .2) (s .pre .3)))
-
-pair-index-requires-2 : tie.Need-pair-index-requires-2
-pair-index-requires-2 c κs = search needs
 
 returns-2 : tie.Need-returns-2
 returns-2 c =
@@ -26,4 +20,4 @@ returns-2 c =
     (e, omega (arith, e, position-few (s .args .places) (s .args .x) (s .args .y) (s .pre .0) (s .pre .1) (s .pre .2) (s .pre .3)))
 
 pub total-index-spec : {M : Type 1} → statement M
-total-index-spec = tie.close (tie.spec pair-index-requires returns pair-index-requires-2 returns-2)
+total-index-spec = tie.close (tie.spec (λ c κs. search needs) returns (λ c κs. search needs) returns-2)

@@ -29,5 +29,4 @@ returns-2 : tie.Need-returns-2
 returns-2 c = ap natAbs (level-is (c .before .args .total) (c .before .fits .total) (c .if1 .left))
 
 pub sixteen-bits-spec : {M : Type 1} → statement M
-sixteen-bits-spec =
-    tie.close (tie.spec cast-wide add-result cast-result returns cast-result-2 returns-2)
+sixteen-bits-spec = tie.close (tie.spec cast-wide add-result cast-result returns cast-result-2 returns-2)

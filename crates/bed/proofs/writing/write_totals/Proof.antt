@@ -25,50 +25,15 @@ abbrev μ-loop : tie.MeasureT-loop
 loop-holds : tie.Need-loop-holds Inv-loop μ-loop
 loop-holds c =
     let s = c .before .before in
-    let area = s .args .area .now in
-    (omega arith, refl, sym (take-append-drop (s .args .at) area) ∙ ap (λ n. take (s .args .at) area ++ drop n area) {x = s .args .at} {y = s .args .at + 0} (omega arith))
-
-mul-total : tie.Need-mul-total Inv-loop μ-loop
-mul-total c = search needs
-
-array-copy-out-total : tie.Need-array-copy-out-total Inv-loop μ-loop
-array-copy-out-total c = search needs
-
-sixteen-bits-requires : tie.Need-sixteen-bits-requires Inv-loop μ-loop
-sixteen-bits-requires c κs = search needs
-
-cast-area : tie.Need-cast-area Inv-loop μ-loop
-cast-area c = search needs
-
-mul-area : tie.Need-mul-area Inv-loop μ-loop
-mul-area c = search needs
-
-add-area : tie.Need-add-area Inv-loop μ-loop
-add-area c = search needs
-
-slice-write-area : tie.Need-slice-write-area Inv-loop μ-loop
-slice-write-area c = search needs
-
-cast-area-2 : tie.Need-cast-area-2 Inv-loop μ-loop
-cast-area-2 c = search needs
-
-mul-area-2 : tie.Need-mul-area-2 Inv-loop μ-loop
-mul-area-2 c = search needs
-
-add-area-2 : tie.Need-add-area-2 Inv-loop μ-loop
-add-area-2 c = search needs
-
-add-area-3 : tie.Need-add-area-3 Inv-loop μ-loop
-add-area-3 c = search needs
+    let area = s .args .area .now in (
+      omega arith,
+      refl,
+      sym (take-append-drop (s .args .at) area) ∙ ap (λ n. take (s .args .at) area ++ drop n area) {x = s .args .at} {y = s .args .at + 0}
+          (omega arith),
+    )
 
 slice-write-area-2 : tie.Need-slice-write-area-2 Inv-loop μ-loop
 slice-write-area-2 c = simp length-set (omega arith)
-
-add-k : tie.Need-add-k Inv-loop μ-loop
-add-k c = search needs
-
-loop-less : tie.Need-loop-less Inv-loop μ-loop
-loop-less c = search needs
 
 loop-again : tie.Need-loop-again Inv-loop μ-loop
 loop-again c =
@@ -77,8 +42,10 @@ loop-again c =
     let long : length (s .args .bed .totals) ≡ 136 = search needs in (
       omega arith,
       simp length-set (l .loop .inv .1),
-      total-written (s .args .area .now) (s .args .at) (l .loop .k) (s .args .bed .totals) (omega (arith, long, c .before .before .loop-test .taken, s .pre .0)) (omega (arith, c .before .before .loop-test .taken, s .pre .1)) (l .loop .area) _ _ (l .loop .inv .2)
-          (ap (λ x. (x / 256) ∷ (x % 256) ∷ []) (c .sixteen-bits .ensures ∙ ap sixteenBits (toZ-ofZ w16 (getD (s .args .bed .totals) (l .loop .k) (pos 0)) (search needs)))),
+      total-written (s .args .area .now) (s .args .at) (l .loop .k) (s .args .bed .totals) (omega (arith, long, c .before .before .loop-test .taken, s .pre .0))
+          (omega (arith, c .before .before .loop-test .taken, s .pre .1)) (l .loop .area) _ _ (l .loop .inv .2)
+          (ap (λ x. (x / 256) ∷ (x % 256) ∷ [])
+          (c .sixteen-bits .ensures ∙ ap sixteenBits (toZ-ofZ w16 (getD (s .args .bed .totals) (l .loop .k) (pos 0)) (search needs)))),
     )
 
 same-length : tie.Need-same-length Inv-loop μ-loop
@@ -89,30 +56,12 @@ returns c =
     let l = c .before in
     let s = l .before .before .before in (
       l .loop .inv .1,
-      l .loop .inv .2 ∙ ap (λ k. written (s .args .area .now) (s .args .at) (concatMap totalBytes (take k (s .args .bed .totals)))) {x = l .loop .k} {y = s .args .count} (omega (arith, l .loop .inv .0, c .loop-test .left)),
+      l .loop .inv .2 ∙ ap (λ k. written (s .args .area .now) (s .args .at) (concatMap totalBytes (take k (s .args .bed .totals)))) {x = l .loop .k}
+          {y = s .args .count} (omega (arith, l .loop .inv .0, c .loop-test .left)),
     )
 
 pub write-totals-spec : {M : Type 1} → statement M
 write-totals-spec =
-    tie.close
-    (tie.spec
-    Inv-loop
-    μ-loop
-    loop-holds
-    mul-total
-    array-copy-out-total
-    sixteen-bits-requires
-    cast-area
-    mul-area
-    add-area
-    slice-write-area
-    cast-area-2
-    mul-area-2
-    add-area-2
-    add-area-3
-    slice-write-area-2
-    add-k
-    loop-less
-    loop-again
-    same-length
-    returns)
+    tie.close (tie.spec Inv-loop μ-loop loop-holds (λ c. search needs) (λ c. search needs) (λ c κs. search needs) (λ c. search needs) (λ c. search needs)
+    (λ c. search needs) (λ c. search needs) (λ c. search needs) (λ c. search needs) (λ c. search needs) (λ c. search needs) slice-write-area-2
+    (λ c. search needs) (λ c. search needs) loop-again same-length returns)

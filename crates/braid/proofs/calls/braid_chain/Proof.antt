@@ -9,12 +9,6 @@ use Rattle.braid.proofs.calls.braid_chain.Tie as tie
 abbrev after-chain : tie.After-of-chained → tie.After-chain
 after-chain c = c .before .before .before .before .before
 
-same-length : tie.Need-same-length
-same-length c = after-chain (c .before .before) .chain .kept .1 .1 .1 .1 .0
-
-same-length-2 : tie.Need-same-length-2
-same-length-2 c = after-chain (c .before .before) .chain .kept .1 .1 .1 .1 .1 .0
-
 returns : tie.Need-returns
 returns c =
     let z = after-chain (c .before .before) .chain in
@@ -22,5 +16,5 @@ returns c =
 
 pub braid-chain-spec : {M : Type 1} → statement M
 braid-chain-spec =
-    tie.close
-    (tie.spec (λ c κs. search needs) (λ c κs. search needs) (λ c κs. search needs) same-length same-length-2 returns)
+    tie.close (tie.spec (λ c κs. search needs) (λ c κs. search needs) (λ c κs. search needs)
+    (λ c. after-chain (c .before .before) .chain .kept .1 .1 .1 .1 .0) (λ c. after-chain (c .before .before) .chain .kept .1 .1 .1 .1 .1 .0) returns)

@@ -12,9 +12,6 @@ after-slice-known2 c = c .before
 of-checked-requires : tie.Need-of-checked-requires
 of-checked-requires c κs = search needs
 
-same-length : tie.Need-same-length
-same-length c = after-slice-known2 (c .before .before) .before .before .check .kept .1 .1 .1 .1 .0
-
 returns : tie.Need-returns
 returns c =
     let z = after-slice-known2 (c .before .before) .before .before .check in
@@ -22,5 +19,5 @@ returns c =
 
 pub braid-check-spec : {M : Type 1} → statement M
 braid-check-spec =
-    tie.close
-    (tie.spec (λ c κs. search needs) of-checked-requires (λ c κs. search needs) same-length returns)
+    tie.close (tie.spec (λ c κs. search needs) of-checked-requires (λ c κs. search needs)
+    (λ c. after-slice-known2 (c .before .before) .before .before .check .kept .1 .1 .1 .1 .0) returns)

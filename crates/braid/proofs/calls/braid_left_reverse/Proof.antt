@@ -9,12 +9,6 @@ use Rattle.braid.proofs.calls.braid_left_reverse.Tie as tie
 abbrev after-left-reverse : tie.After-of-reversed → tie.After-left-reverse
 after-left-reverse c = c .before .before .before .before .before
 
-same-length : tie.Need-same-length
-same-length c = after-left-reverse (c .before .before) .left-reverse .kept .1 .1 .1 .0
-
-same-length-2 : tie.Need-same-length-2
-same-length-2 c = after-left-reverse (c .before .before) .left-reverse .kept .1 .1 .1 .1 .0
-
 returns : tie.Need-returns
 returns c =
     let z = after-left-reverse (c .before .before) .left-reverse in
@@ -22,5 +16,6 @@ returns c =
 
 pub braid-left-reverse-spec : {M : Type 1} → statement M
 braid-left-reverse-spec =
-    tie.close
-    (tie.spec (λ c κs. search needs) (λ c κs. search needs) (λ c κs. search needs) same-length same-length-2 returns)
+    tie.close (tie.spec (λ c κs. search needs) (λ c κs. search needs) (λ c κs. search needs)
+    (λ c. after-left-reverse (c .before .before) .left-reverse .kept .1 .1 .1 .0)
+    (λ c. after-left-reverse (c .before .before) .left-reverse .kept .1 .1 .1 .1 .0) returns)

@@ -9,12 +9,6 @@ use Rattle.braid.proofs.calls.braid_remainder.Tie as tie
 abbrev after-remainder : tie.After-of-remaining → tie.After-remainder
 after-remainder c = c .before .before .before .before .before
 
-same-length : tie.Need-same-length
-same-length c = after-remainder (c .before .before) .remainder .kept .1 .1 .1 .1 .0
-
-same-length-2 : tie.Need-same-length-2
-same-length-2 c = after-remainder (c .before .before) .remainder .kept .1 .1 .1 .1 .1 .0
-
 returns : tie.Need-returns
 returns c =
     let z = after-remainder (c .before .before) .remainder in
@@ -22,5 +16,6 @@ returns c =
 
 pub braid-remainder-spec : {M : Type 1} → statement M
 braid-remainder-spec =
-    tie.close
-    (tie.spec (λ c κs. search needs) (λ c κs. search needs) (λ c κs. search needs) same-length same-length-2 returns)
+    tie.close (tie.spec (λ c κs. search needs) (λ c κs. search needs) (λ c κs. search needs)
+    (λ c. after-remainder (c .before .before) .remainder .kept .1 .1 .1 .1 .0) (λ c. after-remainder (c .before .before) .remainder .kept .1 .1 .1 .1 .1 .0)
+    returns)

@@ -9,12 +9,6 @@ use Rattle.braid.proofs.calls.braid_tray.Tie as tie
 abbrev after-tray : tie.After-of-tray-compared → tie.After-tray
 after-tray c = c .before .before .before .before .before
 
-same-length : tie.Need-same-length
-same-length c = after-tray (c .before .before) .tray .kept .1 .1 .1 .1 .0
-
-same-length-2 : tie.Need-same-length-2
-same-length-2 c = after-tray (c .before .before) .tray .kept .1 .1 .1 .1 .1 .0
-
 returns : tie.Need-returns
 returns c =
     let z = after-tray (c .before .before) .tray in
@@ -22,5 +16,5 @@ returns c =
 
 pub braid-tray-spec : {M : Type 1} → statement M
 braid-tray-spec =
-    tie.close
-    (tie.spec (λ c κs. search needs) (λ c κs. search needs) (λ c κs. search needs) same-length same-length-2 returns)
+    tie.close (tie.spec (λ c κs. search needs) (λ c κs. search needs) (λ c κs. search needs) (λ c. after-tray (c .before .before) .tray .kept .1 .1 .1 .1 .0)
+    (λ c. after-tray (c .before .before) .tray .kept .1 .1 .1 .1 .1 .0) returns)

@@ -20,6 +20,5 @@ returns-4 c = c .counted3 .ensures ∙ sym (ap (λ a. told passageTold (checked 
 
 pub of-checked-spec : {M : Type 1} → statement M
 of-checked-spec =
-    tie.close
-    (tie.spec (λ c. search needs) (λ c κs. search needs) (λ c. search needs) (λ c κs. search needs) (λ c. search needs) (λ c κs. search needs)
+    tie.close (tie.spec (λ c. search needs) (λ c κs. search needs) (λ c. search needs) (λ c κs. search needs) (λ c. search needs) (λ c κs. search needs)
     (λ c. search needs) (λ c κs. search needs) returns returns-2 returns-3 returns-4)

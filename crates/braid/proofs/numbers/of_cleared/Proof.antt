@@ -13,6 +13,4 @@ returns-2 : tie.Need-returns-2
 returns-2 c = c .alone .ensures ∙ sym (ap (λ a. told passedTold (clearedAs a)) (c .before .enum-told .given .1))
 
 pub of-cleared-spec : {M : Type 1} → statement M
-of-cleared-spec =
-    tie.close
-    (tie.spec (λ c. search needs) (λ c κs. search needs) (λ c. search needs) (λ c κs. search needs) returns returns-2)
+of-cleared-spec = tie.close (tie.spec (λ c. search needs) (λ c κs. search needs) (λ c. search needs) (λ c κs. search needs) returns returns-2)

@@ -13,6 +13,4 @@ returns-2 : tie.Need-returns-2
 returns-2 c = c .counted .ensures ∙ sym (ap (λ a. told bytesTold (packedAs a)) (c .before .before .answer2 .given .1))
 
 pub of-packed-spec : {M : Type 1} → statement M
-of-packed-spec =
-    tie.close
-    (tie.spec (λ c. search needs) (λ c κs. search needs) (λ c. search needs) (λ c κs. search needs) returns returns-2)
+of-packed-spec = tie.close (tie.spec (λ c. search needs) (λ c κs. search needs) (λ c. search needs) (λ c κs. search needs) returns returns-2)

@@ -8,6 +8,5 @@ use Rattle.braid.proofs.numbers.of_refusal.Tie as tie
 -- the call, the casts of what the place is and of its numbers, and the result
 pub of-refusal-spec : {M : Type 1} → statement M
 of-refusal-spec =
-    tie.close
-    (tie.spec (λ c κs. search needs) (λ c. search needs) (λ c. search needs) (λ c. search needs) (λ c. search needs)
+    tie.close (tie.spec (λ c κs. search needs) (λ c. search needs) (λ c. search needs) (λ c. search needs) (λ c. search needs)
     (λ c. let k = c .before .before in ap refusedTold (k .before .before .refusal-numbers .ensures .told)))

@@ -13,6 +13,4 @@ returns-2 : tie.Need-returns-2
 returns-2 c = sym (ap (λ a. told sizesTold (reversed a)) (c .before .answer2 .given .1))
 
 pub of-reversed-spec : {M : Type 1} → statement M
-of-reversed-spec =
-    tie.close
-    (tie.spec (λ c. search needs) (λ c κs. search needs) (λ c. search needs) (λ c. search needs) returns returns-2)
+of-reversed-spec = tie.close (tie.spec (λ c. search needs) (λ c κs. search needs) (λ c. search needs) (λ c. search needs) returns returns-2)

@@ -14,5 +14,4 @@ returns-2 c = c .counted .ensures ∙ sym (ap (λ a. told logsTold (trayCompared
 
 pub of-tray-compared-spec : {M : Type 1} → statement M
 of-tray-compared-spec =
-    tie.close
-    (tie.spec (λ c. search needs) (λ c κs. search needs) (λ c. search needs) (λ c. search needs) (λ c κs. search needs) returns returns-2)
+    tie.close (tie.spec (λ c. search needs) (λ c κs. search needs) (λ c. search needs) (λ c. search needs) (λ c κs. search needs) returns returns-2)

@@ -21,6 +21,4 @@ returns c =
     ap (λ i. getD (c .before .before .before .args .cells .now) i 0 + 1) (c .before .weight-at .ensures) ∙ add-one _
 
 pub letter-weight-spec : {M : Type 1} → statement M
-letter-weight-spec =
-    tie.close
-    (tie.spec (λ c κs. search needs) (λ c. search needs) cast-result add-result returns)
+letter-weight-spec = tie.close (tie.spec (λ c κs. search needs) (λ c. search needs) cast-result add-result returns)

@@ -52,6 +52,4 @@ returns c =
     )
 
 pub list-spec : {M : Type 1} → statement M
-list-spec =
-    tie.close
-    (tie.spec (λ c κs. search needs) walk-requires same-length same-length-2 returns)
+list-spec = tie.close (tie.spec (λ c κs. search needs) walk-requires same-length same-length-2 returns)

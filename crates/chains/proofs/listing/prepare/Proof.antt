@@ -32,6 +32,4 @@ returns c =
     (k .write-field .ensures) (c .before .before .write-field2 .ensures)
 
 pub prepare-spec : {M : Type 1} → statement M
-prepare-spec =
-    tie.close
-    (tie.spec (λ c κs. search needs) (λ c κs. search needs) (λ c. search needs) write-field-requires-2 same-length returns)
+prepare-spec = tie.close (tie.spec (λ c κs. search needs) (λ c κs. search needs) (λ c. search needs) write-field-requires-2 same-length returns)

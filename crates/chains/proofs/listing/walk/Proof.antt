@@ -113,6 +113,5 @@ loop-again-2 c =
 
 pub walk-spec : {M : Type 1} → statement M
 walk-spec =
-    tie.close
-    (tie.spec Inv-loop μ-loop loop-holds turn-requires loop-less loop-again same-length same-length-2 returns slice-read-next add-after meet-requires
-    loop-less-2 loop-again-2)
+    tie.close (tie.spec Inv-loop μ-loop loop-holds turn-requires loop-less loop-again same-length same-length-2 returns slice-read-next add-after
+    meet-requires loop-less-2 loop-again-2)

@@ -134,6 +134,5 @@ returns c =
 
 pub emit-spec : {M : Type 1} → statement M
 emit-spec =
-    tie.close
-    (tie.spec cell-at-requires cell-at-requires-2 shared-slice-read-x cast-x shared-slice-read-y cast-y sub-start sub-start-2 add-passed add-left
+    tie.close (tie.spec cell-at-requires cell-at-requires-2 shared-slice-read-x cast-x shared-slice-read-y cast-y sub-start sub-start-2 add-passed add-left
     (λ c. search needs) sub-stacked cast-offset write-entry-requires push-inverse-requires same-length same-length-2 returns)

@@ -92,6 +92,5 @@ returns-2 c =
 
 pub meet-spec : {M : Type 1} → statement M
 meet-spec =
-    tie.close
-    (tie.spec sub-left shared-slice-read-a sub-a add-passed returns cell-at-requires shared-slice-read-offset cast-offset add-stacked sub-write-entry
-    write-entry-requires same-length returns-2)
+    tie.close (tie.spec sub-left shared-slice-read-a sub-a add-passed returns cell-at-requires shared-slice-read-offset cast-offset add-stacked
+    sub-write-entry write-entry-requires same-length returns-2)

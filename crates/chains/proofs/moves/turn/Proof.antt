@@ -169,7 +169,6 @@ returns-2 c =
 
 pub turn-spec : {M : Type 1} → statement M
 turn-spec =
-    tie.close
-    (tie.spec sub-index read-entry-requires emit-requires same-length same-length-2 returns cell-at-requires shared-slice-read-x cast-x (λ c. search needs)
-    add-next-2 (λ c. search needs) sub-next shared-slice-read-next (λ c. search needs) write-entry-requires meet-requires (λ c. search needs) same-length-4
-    returns-2)
+    tie.close (tie.spec sub-index read-entry-requires emit-requires same-length same-length-2 returns cell-at-requires shared-slice-read-x cast-x
+    (λ c. search needs) add-next-2 (λ c. search needs) sub-next shared-slice-read-next (λ c. search needs) write-entry-requires meet-requires
+    (λ c. search needs) same-length-4 returns-2)

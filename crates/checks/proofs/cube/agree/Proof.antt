@@ -52,5 +52,4 @@ returns c =
 
 pub agree-spec : {M : Type 1} → statement M
 agree-spec =
-    tie.close
-    (tie.spec (λ c κs. search needs) (λ c κs. search needs) (λ c. search needs) reversing-requires (λ c κs. search needs) same-length returns)
+    tie.close (tie.spec (λ c κs. search needs) (λ c κs. search needs) (λ c. search needs) reversing-requires (λ c κs. search needs) same-length returns)

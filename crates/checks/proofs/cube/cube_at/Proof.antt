@@ -235,7 +235,6 @@ returns-6 c =
 
 pub cube-at-spec : {M : Type 1} → statement M
 cube-at-spec =
-    tie.close
-    (tie.spec (λ c κs. search needs) (λ c. search needs) returns (λ c κs. search needs) (λ c. search needs) (λ c. search needs) side-requires-2
+    tie.close (tie.spec (λ c κs. search needs) (λ c. search needs) returns (λ c κs. search needs) (λ c. search needs) (λ c. search needs) side-requires-2
     (λ c κs. search needs) (λ c. search needs) right-side-requires (λ c. search needs) agree-requires (λ c. search needs) (λ c. search needs) same-length
     returns-2 same-length-2 returns-3 same-length-3 returns-4 same-length-4 returns-5 same-length-5 returns-6)

@@ -9,6 +9,4 @@ returns-3 : tie.Need-returns-3
 returns-3 c = sym (ap missingSide (c .before .right .given .1))
 
 pub missing-side-spec : {M : Type 1} → statement M
-missing-side-spec =
-    tie.close
-    (tie.spec (λ c. search needs) (λ c. search needs) (λ c. search needs) (λ c. search needs) (λ c. search needs) returns-3)
+missing-side-spec = tie.close (tie.spec (λ c. search needs) (λ c. search needs) (λ c. search needs) (λ c. search needs) (λ c. search needs) returns-3)

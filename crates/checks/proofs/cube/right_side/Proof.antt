@@ -23,6 +23,4 @@ returns c =
     }
 
 pub right-side-spec : {M : Type 1} → statement M
-right-side-spec =
-    tie.close
-    (tie.spec (λ c. search needs) (λ c. search needs) (λ c. search needs) (λ c κs. search needs) same-length returns)
+right-side-spec = tie.close (tie.spec (λ c. search needs) (λ c. search needs) (λ c. search needs) (λ c κs. search needs) same-length returns)

@@ -102,6 +102,5 @@ returns-5 c T t =
 
 pub letter-residue-spec : {M : Type 1} → statement M
 letter-residue-spec =
-    tie.close
-    (tie.spec returns (λ c κs. search needs) (λ c κs. search needs) (λ c. search needs) cast-x (λ c. search needs) cast-y returns-2 returns-3 add-if4
-    returns-4 returns-5)
+    tie.close (tie.spec returns (λ c κs. search needs) (λ c κs. search needs) (λ c. search needs) cast-x (λ c. search needs) cast-y returns-2 returns-3
+    add-if4 returns-4 returns-5)

@@ -12,6 +12,4 @@ returns-3 : tie.Need-returns-3
 returns-3 c = ap fromEnding (sym (c .before .ending2 .given .1))
 
 pub residue-of-spec : {M : Type 1} → statement M
-residue-of-spec =
-    tie.close
-    (tie.spec (λ c. search needs) (λ c. search needs) (λ c. search needs) returns (λ c. search needs) returns-3)
+residue-of-spec = tie.close (tie.spec (λ c. search needs) (λ c. search needs) (λ c. search needs) returns (λ c. search needs) returns-3)

@@ -118,6 +118,5 @@ returns-3 c =
 
 pub side-spec : {M : Type 1} → statement M
 side-spec =
-    tie.close
-    (tie.spec letter-residue-requires (λ c. search needs) returns letter-residue-requires-2 (λ c. search needs) returns-2 word-residue-requires
+    tie.close (tie.spec letter-residue-requires (λ c. search needs) returns letter-residue-requires-2 (λ c. search needs) returns-2 word-residue-requires
     (λ c. search needs) returns-3)

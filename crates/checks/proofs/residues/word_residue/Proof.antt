@@ -155,6 +155,5 @@ returns-2 c =
 
 pub word-residue-spec : {M : Type 1} → statement M
 word-residue-spec =
-    tie.close
-    (tie.spec (λ c κs. search needs) (λ c κs. search needs) (λ c. search needs) cast-x (λ c. search needs) cast-y add-if1 returns push-inverse-requires
-    push-word-requires (λ c. search needs) reversing-requires (λ c κs. search needs) same-length returns-2)
+    tie.close (tie.spec (λ c κs. search needs) (λ c κs. search needs) (λ c. search needs) cast-x (λ c. search needs) cast-y add-if1 returns
+    push-inverse-requires push-word-requires (λ c. search needs) reversing-requires (λ c κs. search needs) same-length returns-2)

@@ -236,7 +236,8 @@ returns-3 c =
     let third : h .c ≤ s .args .size = omega (arith, in-loop2 k .loop2-test .taken) in
     let low : 1 ≤ g .b = omega (arith, f .inv .0, g .inv .0) in
     let v = k .cube-at in
-    let m = subst (CubeMeans (s .args .cells .now) (length (h .bytes)) (f .a) (g .b) (h .c) (s .args .budget)) (c .before .verdict .given .1) (v .ensures .1) in (
+    let m = subst (CubeMeans (s .args .cells .now) (length (h .bytes)) (f .a) (g .b) (h .c) (s .args .budget))
+    (c .before .verdict .given .1) (v .ensures .1) in (
       v .ensures .0 ∙ (h .inv .4 ∙ (g .inv .4 ∙ f .inv .4)),
       λ T o. halt-third (s .args .cells .now) (s .args .size) (s .args .budget) (length (h .bytes)) (f .a) (g .b) (h .c) third
           (seconds (s .args .size) (f .a) (g .b + 1) ++ firsts (s .args .size) (f .a + 1)) (k .before .before .before .if1 .taken)
@@ -246,7 +247,6 @@ returns-3 c =
 
 pub check-triples-spec : {M : Type 1} → statement M
 check-triples-spec =
-    tie.close
-    (tie.spec Inv-loop2 μ-loop2 Inv-loop μ-loop Inv-triples μ-triples triples-holds (λ c. omega arith) loop-holds loop2-holds cube-at-requires
+    tie.close (tie.spec Inv-loop2 μ-loop2 Inv-loop μ-loop Inv-triples μ-triples triples-holds (λ c. omega arith) loop-holds loop2-holds cube-at-requires
     (λ c. search needs) (λ c. search needs) (λ c. search needs) (λ c. omega arith) (λ c. omega arith) loop2-again (λ c. omega arith) (λ c. omega arith)
     loop-again (λ c. omega arith) (λ c. omega arith) triples-again same-length returns same-length-2 returns-2 same-length-3 returns-3)

@@ -73,6 +73,5 @@ returns-2 c =
 
 pub check-weights-spec : {M : Type 1} → statement M
 check-weights-spec =
-    tie.close
-    (tie.spec Inv-loop μ-loop loop-holds row-weights-requires (λ c. search needs) returns (λ c. search needs) (λ c. omega arith) (λ c. omega arith)
+    tie.close (tie.spec Inv-loop μ-loop loop-holds row-weights-requires (λ c. search needs) returns (λ c. search needs) (λ c. omega arith) (λ c. omega arith)
     loop-again returns-2)

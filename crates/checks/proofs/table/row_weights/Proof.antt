@@ -76,6 +76,4 @@ returns-2 c =
     λ T o. sym (l .inv .3 T o ∙ ap (weightCheck T) (row-none (s .args .size) (s .args .a) (l .b) (omega (arith, c .loop-test .left))))
 
 pub row-weights-spec : {M : Type 1} → statement M
-row-weights-spec =
-    tie.close
-    (tie.spec Inv-loop μ-loop add-b loop-holds sides-balanced-requires returns add-b-2 loop-less loop-again returns-2)
+row-weights-spec = tie.close (tie.spec Inv-loop μ-loop add-b loop-holds sides-balanced-requires returns add-b-2 loop-less loop-again returns-2)

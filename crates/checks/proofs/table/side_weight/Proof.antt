@@ -262,6 +262,5 @@ returns c =
 
 pub side-weight-spec : {M : Type 1} → statement M
 side-weight-spec =
-    tie.close
-    (tie.spec Inv-loop μ-loop cell-at-requires shared-slice-read-count cast-count letter-weight-requires loop-holds add-letter-weight add-letter-weight-2
-    shared-slice-read-letter-weight letter-weight-requires-2 add-weight add-k loop-less loop-again returns)
+    tie.close (tie.spec Inv-loop μ-loop cell-at-requires shared-slice-read-count cast-count letter-weight-requires loop-holds add-letter-weight
+    add-letter-weight-2 shared-slice-read-letter-weight letter-weight-requires-2 add-weight add-k loop-less loop-again returns)

@@ -58,6 +58,4 @@ returns-2 c =
     (c .side-weight2 .result) (c .before .side-weight .ensures) (c .side-weight2 .ensures)
 
 pub sides-balanced-spec : {M : Type 1} → statement M
-sides-balanced-spec =
-    tie.close
-    (tie.spec (λ c κs. search needs) (λ c. search needs) returns side-weight-requires side-weight-requires-2 returns-2)
+sides-balanced-spec = tie.close (tie.spec (λ c κs. search needs) (λ c. search needs) returns side-weight-requires side-weight-requires-2 returns-2)

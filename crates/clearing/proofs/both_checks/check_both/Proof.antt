@@ -8,6 +8,9 @@ use borrow.Author.Needs.{needs}
 use Rattle.clearing.proofs.both_checks.check_both.Statement.{statement}
 use Rattle.clearing.proofs.both_checks.check_both.Tie as tie
 
+abbrev after-check-cubes : tie.After-workspace → tie.After-check-cubes
+after-check-cubes c = c .before
+
 abbrev start : tie.After-check-weights → tie.Start
 start c = c .before .before .before .before
 
@@ -28,7 +31,7 @@ returns c =
 returns-2 : tie.Need-returns-2
 returns-2 c =
     let z = c .before .before .check-cubes in
-    let told = c .before .before .before .before in
+    let told = after-check-cubes (c .before) .before .before in
     let k = weighed told in
     let a = start k .args in (
       cubes-follow (a .of) (a .cubed .now) (a .size) (a .budget) (length (a .workspace .now)) (a .weighed .now) (z .result)
@@ -38,12 +41,4 @@ returns-2 c =
 
 pub check-both-spec : {M : Type 1} → statement M
 check-both-spec =
-    tie.close
-    (tie.spec
-    (λ c κs. search needs)
-    (λ c. search needs)
-    (λ c. search needs)
-    (λ c κs. search needs)
-    returns
-    (λ c. search needs)
-    returns-2)
+    tie.close (tie.spec (λ c κs. search needs) (λ c. search needs) (λ c. search needs) (λ c κs. search needs) returns (λ c. search needs) returns-2)

@@ -25,6 +25,4 @@ returns c =
     )
 
 pub check-cubes-spec : {M : Type 1} → statement M
-check-cubes-spec =
-    tie.close
-    (tie.spec (λ c κs. search needs) (λ c κs. search needs) (λ c κs. search needs) (λ c. search needs) returns)
+check-cubes-spec = tie.close (tie.spec (λ c κs. search needs) (λ c κs. search needs) (λ c κs. search needs) (λ c. search needs) returns)

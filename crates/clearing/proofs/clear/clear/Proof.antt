@@ -7,10 +7,13 @@ use borrow.Author.Needs.{needs}
 use Rattle.clearing.proofs.clear.clear.Statement.{statement}
 use Rattle.clearing.proofs.clear.clear.Tie as tie
 
+abbrev start : tie.After-clear-image → tie.Start
+start c = c .before .before .before .before
+
 returns : tie.Need-returns
 returns c =
     let z = c .before .before .clear-image .ensures in
-    let a = c .before .before .before .before .before .before .args in
+    let a = start (c .before .before) .args in
     let means = clear-means (a .table .now) (a .allowance) (length (a .workspace .now)) in
     record { stated = z .stated; workspace-is = z .workspace; meaning = subst (ClearMeaning (a .table .now)) (sym (z .stated)) means }
 

@@ -10,6 +10,9 @@ use borrow.Author.Needs.{needs}
 use Rattle.clearing.proofs.clearing.clear_image.Statement.{statement}
 use Rattle.clearing.proofs.clearing.clear_image.Tie as tie
 
+abbrev after-cells2 : tie.At-match-keys1 → tie.After-cells2
+after-cells2 c = c .before
+
 abbrev start : tie.After-read-table → tie.Start
 start c = c .before .before .before .before
 
@@ -31,7 +34,7 @@ clear-loaded-requires c κs =
 
 returns : tie.Need-returns
 returns c =
-    let k = c .before .before .before .before in
+    let k = after-cells2 (c .before .before) .before in
     let a = start k .args in
     let r = c .before .read .given in
     let f = clear-refused (a .table .now) (a .allowance) (length (a .workspace .now)) (a .of) (r .0 .0) (done k _ (r .1)) in
@@ -48,14 +51,5 @@ returns-2 c =
 
 pub clear-image-spec : {M : Type 1} → statement M
 clear-image-spec =
-    tie.close
-    (tie.spec
-    (λ c. search needs)
-    (λ c κs. blank-zeros)
-    (λ c. search needs)
-    (λ c. search needs)
-    (λ c. search needs)
-    clear-loaded-requires
-    returns
-    (λ c. search needs)
-    returns-2)
+    tie.close (tie.spec (λ c. search needs) (λ c κs. blank-zeros) (λ c. search needs) (λ c. search needs) (λ c. search needs) clear-loaded-requires returns
+    (λ c. search needs) returns-2)

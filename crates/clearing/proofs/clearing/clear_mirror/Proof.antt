@@ -9,6 +9,12 @@ use borrow.Author.Needs.{needs}
 use Rattle.clearing.proofs.clearing.clear_mirror.Statement.{statement}
 use Rattle.clearing.proofs.clearing.clear_mirror.Tie as tie
 
+abbrev after-mirror2 : tie.At-match-keys1 → tie.After-mirror2
+after-mirror2 c = c .before
+
+abbrev after-check-both-arg : tie.After-check-both → tie.After-check-both-arg
+after-check-both-arg c = c .before
+
 abbrev start : tie.After-mirror-table → tie.Start
 start c = c .before .before .before .before
 
@@ -28,7 +34,7 @@ check-both-requires c κs =
 
 returns : tie.Need-returns
 returns c =
-    let k = c .before .before .before .before in
+    let k = after-mirror2 (c .before .before) .before in
     let a = start k .args in
     let g = c .before .made .given in
     (λ T o. sym (mirror-offends T (a .budget) (length (a .workspace .now)) (g .0 .0) (done k _ (g .1) T o)), refl)
@@ -36,7 +42,7 @@ returns c =
 returns-2 : tie.Need-returns-2
 returns-2 c =
     let z = c .before .before .check-both in
-    let told = c .before .before .before .before .before in
+    let told = after-check-both-arg (c .before .before) .before .before in
     let a = start (making told) .args in
     let m = done (making told) _ (told .enum-told .given .1) in (
       λ T o. mirror-clears T (a .budget) (length (a .workspace .now)) (a .cells .now) _ (a .size) (z .result) (z .ensures .0) o (m T o .0) (m T o .1),
@@ -45,14 +51,5 @@ returns-2 c =
 
 pub clear-mirror-spec : {M : Type 1} → statement M
 clear-mirror-spec =
-    tie.close
-    (tie.spec
-    (λ c. search needs)
-    (λ c κs. (c .before .before .before .pre, refl))
-    (λ c. search needs)
-    (λ c. search needs)
-    (λ c. search needs)
-    check-both-requires
-    returns
-    (λ c. search needs)
-    returns-2)
+    tie.close (tie.spec (λ c. search needs) (λ c κs. (c .before .before .before .pre, refl)) (λ c. search needs) (λ c. search needs) (λ c. search needs)
+    check-both-requires returns (λ c. search needs) returns-2)

@@ -9,6 +9,4 @@ returns : tie.Need-returns
 returns c = letter-turned (c .args .x) (omega (arith, c .fits .x))
 
 pub turned-spec : {M : Type 1} → statement M
-turned-spec =
-    tie.close
-    (tie.spec (λ c. search needs) (λ c. search needs) (λ c. search needs) returns)
+turned-spec = tie.close (tie.spec (λ c. search needs) (λ c. search needs) (λ c. search needs) returns)

@@ -224,7 +224,6 @@ loop-again-2 c =
 
 pub reversing-spec : {M : Type 1} → statement M
 reversing-spec =
-    tie.close
-    (tie.spec Inv-loop μ-loop loop-holds sub-advance advance-requires enum-known-turn forward-letters-requires sub-t21 same-length returns enum-known-turn-2
-    same-length-2 returns-2 enum-known-turn-3 same-length-3 returns-3 enum-known-turn-4 add-steps add-relations loop-less loop-again loop-less-2
-    loop-again-2)
+    tie.close (tie.spec Inv-loop μ-loop loop-holds sub-advance advance-requires enum-known-turn forward-letters-requires sub-t21 same-length returns
+    enum-known-turn-2 same-length-2 returns-2 enum-known-turn-3 same-length-3 returns-3 enum-known-turn-4 add-steps add-relations loop-less loop-again
+    loop-less-2 loop-again-2)

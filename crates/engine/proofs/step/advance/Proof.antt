@@ -59,6 +59,4 @@ returns-2 c =
     )
 
 pub advance-spec : {M : Type 1} → statement M
-advance-spec =
-    tie.close
-    (tie.spec (λ c κs. search needs) (λ c. search needs) (λ c. search needs) step-requires same-length returns same-length-2 returns-2)
+advance-spec = tie.close (tie.spec (λ c κs. search needs) (λ c. search needs) (λ c. search needs) step-requires same-length returns same-length-2 returns-2)

@@ -94,6 +94,5 @@ returns c =
 
 pub push-inverse-spec : {M : Type 1} → statement M
 push-inverse-spec =
-    tie.close
-    (tie.spec Inv-loop μ-loop loop-holds shared-slice-read-if1 cast-if1 sub-next add-turned add-turned-2 shared-slice-read-turned turned-requires
+    tie.close (tie.spec Inv-loop μ-loop loop-holds shared-slice-read-if1 cast-if1 sub-next add-turned add-turned-2 shared-slice-read-turned turned-requires
     slice-write-bytes add-i loop-less loop-again same-length returns)

@@ -99,6 +99,5 @@ returns c =
 
 pub push-word-spec : {M : Type 1} → statement M
 push-word-spec =
-    tie.close
-    (tie.spec Inv-loop μ-loop shared-slice-read-i cast-i loop-holds sub-if1 shared-slice-read-if1 cast-if1 sub-next add-bytes shared-slice-read-bytes
-    slice-write-bytes sub-i loop-less loop-again same-length returns)
+    tie.close (tie.spec Inv-loop μ-loop shared-slice-read-i cast-i loop-holds sub-if1 shared-slice-read-if1 cast-if1 sub-next add-bytes
+    shared-slice-read-bytes slice-write-bytes sub-i loop-less loop-again same-length returns)

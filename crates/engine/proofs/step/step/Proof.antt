@@ -185,7 +185,6 @@ returns-4 c =
 
 pub step-spec : {M : Type 1} → statement M
 step-spec =
-    tie.close
-    (tie.spec (λ c. search needs) (λ c. search needs) (λ c. search needs) (λ c. search needs) cell-at-requires cell-at-requires-2 shared-slice-read-x cast-x
-    shared-slice-read-y cast-y returns returns-2 (λ c. search needs) sub-if3 add-if3-2 returns-3 (λ c. search needs) push-inverse-requires
-    push-word-requires same-length returns-4)
+    tie.close (tie.spec (λ c. search needs) (λ c. search needs) (λ c. search needs) (λ c. search needs) cell-at-requires cell-at-requires-2
+    shared-slice-read-x cast-x shared-slice-read-y cast-y returns returns-2 (λ c. search needs) sub-if3 add-if3-2 returns-3 (λ c. search needs)
+    push-inverse-requires push-word-requires same-length returns-4)

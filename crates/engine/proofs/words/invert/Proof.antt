@@ -50,6 +50,5 @@ returns c =
 
 pub invert-spec : {M : Type 1} → statement M
 invert-spec =
-    tie.close
-    (tie.spec Inv-loop μ-loop loop-holds (λ c. omega arith) (λ c. omega arith) turned-requires (λ c. omega arith) turned-requires-2 (λ c. omega arith)
-    slice-write-bytes-2 (λ c. omega arith) (λ c. omega arith) loop-again same-length returns)
+    tie.close (tie.spec Inv-loop μ-loop loop-holds (λ c. omega arith) (λ c. omega arith) turned-requires (λ c. omega arith) turned-requires-2
+    (λ c. omega arith) slice-write-bytes-2 (λ c. omega arith) (λ c. omega arith) loop-again same-length returns)

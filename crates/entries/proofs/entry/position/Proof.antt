@@ -7,18 +7,6 @@ use borrow.Author.Needs.{needs}
 use Rattle.entries.proofs.entry.position.Statement.{statement}
 use Rattle.entries.proofs.entry.position.Tie as tie
 
-letter-width-requires : tie.Need-letter-width-requires
-letter-width-requires c κs = search needs
-
-cast-width : tie.Need-cast-width
-cast-width c = search needs
-
-mul-result : tie.Need-mul-result
-mul-result c = search needs
-
-add-result : tie.Need-add-result
-add-result c = search needs
-
 mul-result-2 : tie.Need-mul-result-2
 mul-result-2 c =
     omega (arith, position-small (c .before .args .size) (c .before .args .index) (c .letter-width .result) (c .before .pre .2) (c .letter-width .ensures))
@@ -32,13 +20,4 @@ returns c =
     ap (λ w. 16 + c .before .args .index * (15 + 2 * w)) (c .letter-width .ensures)
 
 pub position-spec : {M : Type 1} → statement M
-position-spec =
-    tie.close
-    (tie.spec
-    letter-width-requires
-    cast-width
-    mul-result
-    add-result
-    mul-result-2
-    add-result-2
-    returns)
+position-spec = tie.close (tie.spec (λ c κs. search needs) (λ c. search needs) (λ c. search needs) (λ c. search needs) mul-result-2 add-result-2 returns)

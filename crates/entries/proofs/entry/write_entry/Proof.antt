@@ -30,41 +30,14 @@ fits : (c : tie.After-struct-known3)
     ((1 * 2 ^ wide c .letter-width .result) % 4294967296) (narrow (wide c)) (span (wide c))
 fits c = gather-fits _ _ _ _ _ (narrow (wide c)) (span (wide c)) (omega (arith, c .struct-known3 .given))
 
-position-requires : tie.Need-position-requires
-position-requires c κs = search needs
-
-letter-width-requires : tie.Need-letter-width-requires
-letter-width-requires c κs = search needs
-
-cast-width : tie.Need-cast-width
-cast-width c = search needs
-
-cast-span : tie.Need-cast-span
-cast-span c = search needs
-
 shl-span : tie.Need-shl-span
 shl-span c = omega (arith, narrow c)
-
-sub-first : tie.Need-sub-first
-sub-first c = search needs
-
-cast-first : tie.Need-cast-first
-cast-first c = search needs
 
 rem-first : tie.Need-rem-first
 rem-first c = some-span (c .before)
 
-sub-second : tie.Need-sub-second
-sub-second c = search needs
-
-cast-second : tie.Need-cast-second
-cast-second c = search needs
-
 rem-second : tie.Need-rem-second
 rem-second c = some-span (c .before .before)
-
-cast-fields : tie.Need-cast-fields
-cast-fields c = search needs
 
 mul-fields : tie.Need-mul-fields
 mul-fields c = omega (arith, fits c .first-fits)
@@ -78,19 +51,10 @@ mul-fields-2 c = omega (arith, fits c .all-fit)
 add-fields-2 : tie.Need-add-fields-2
 add-fields-2 c = omega (arith, fits c .all-fit)
 
-mul-write-field : tie.Need-mul-write-field
-mul-write-field c = search needs
-
-add-write-field : tie.Need-add-write-field
-add-write-field c = search needs
-
 write-field-requires : tie.Need-write-field-requires
 write-field-requires c κs =
     let w = wide (c .before) in
     entry-writable (start w .pre .0) (w .before .position .result) (w .letter-width .result) (w .before .position .ensures) (w .letter-width .ensures)
-
-same-length : tie.Need-same-length
-same-length c = search needs
 
 returns : tie.Need-returns
 returns c =
@@ -98,30 +62,11 @@ returns c =
     let w = wide (f .before .before) in
     let s = start w in
     entry-placed (s .pre .0) (w .before .position .result) (w .letter-width .result) (w .before .position .ensures) (w .letter-width .ensures)
-    (record { offset = s .args .entry .offset; a = s .args .entry .a; b = s .args .entry .b }) ((1 * 2 ^ w .letter-width .result) % 4294967296) (span w) (f .write-field .last .0) (f .write-field .ensures)
+    (record { offset = s .args .entry .offset; a = s .args .entry .a; b = s .args .entry .b }) ((1 * 2 ^ w .letter-width .result) % 4294967296) (span w)
+    (f .write-field .last .0) (f .write-field .ensures)
 
 pub write-entry-spec : {M : Type 1} → statement M
 write-entry-spec =
-    tie.close
-    (tie.spec
-    position-requires
-    letter-width-requires
-    cast-width
-    cast-span
-    shl-span
-    sub-first
-    cast-first
-    rem-first
-    sub-second
-    cast-second
-    rem-second
-    cast-fields
-    mul-fields
-    add-fields
-    mul-fields-2
-    add-fields-2
-    mul-write-field
-    add-write-field
-    write-field-requires
-    same-length
-    returns)
+    tie.close (tie.spec (λ c κs. search needs) (λ c κs. search needs) (λ c. search needs) (λ c. search needs) shl-span (λ c. search needs) (λ c. search needs)
+    rem-first (λ c. search needs) (λ c. search needs) rem-second (λ c. search needs) mul-fields add-fields mul-fields-2 add-fields-2 (λ c. search needs)
+    (λ c. search needs) write-field-requires (λ c. search needs) returns)

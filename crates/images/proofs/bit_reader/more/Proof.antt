@@ -14,18 +14,6 @@ start c = c .before .before .before
 byte : (c : tie.After-shared-slice-known) → getD (start c .args .image .now) (start c .args .reader .next) 0 < 256
 byte c = omega (arith, c .shared-slice-known .given (start c .args .reader .next))
 
-add-t4 : tie.Need-add-t4
-add-t4 c = search needs
-
-add-t5 : tie.Need-add-t5
-add-t5 c = search needs
-
-mul-t7 : tie.Need-mul-t7
-mul-t7 c = search needs
-
-shared-slice-read-t9 : tie.Need-shared-slice-read-t9
-shared-slice-read-t9 c = search needs
-
 cast-t10 : tie.Need-cast-t10
 cast-t10 c = omega (arith, byte c)
 
@@ -39,4 +27,4 @@ returns c =
     (refl, (refl, held-more (s .args .image .now) (r .next) (r .held) (r .bits) (s .pre .0 .holds) (omega (arith, s .pre .0 .few)) (s .pre .1) (byte c)))
 
 pub more-spec : {M : Type 1} → statement M
-more-spec = tie.close (tie.spec add-t4 add-t5 mul-t7 shared-slice-read-t9 cast-t10 add-t11 returns)
+more-spec = tie.close (tie.spec (λ c. search needs) (λ c. search needs) (λ c. search needs) (λ c. search needs) cast-t10 add-t11 returns)

@@ -21,18 +21,6 @@ returns c =
       place-is = omega (arith, c .if1 .taken);
     }
 
-add-t6 : tie.Need-add-t6
-add-t6 c = search needs
-
-sub-t8 : tie.Need-sub-t8
-sub-t8 c = search needs
-
-cast-t9 : tie.Need-cast-t9
-cast-t9 c = search needs
-
-shared-slice-read-t12 : tie.Need-shared-slice-read-t12
-shared-slice-read-t12 c = search needs
-
 cast-t13 : tie.Need-cast-t13
 cast-t13 c = omega (arith, byte c)
 
@@ -52,4 +40,4 @@ returns-2 c =
     }
 
 pub reader-at-spec : {M : Type 1} → statement M
-reader-at-spec = tie.close (tie.spec returns add-t6 sub-t8 cast-t9 shared-slice-read-t12 cast-t13 returns-2)
+reader-at-spec = tie.close (tie.spec returns (λ c. search needs) (λ c. search needs) (λ c. search needs) (λ c. search needs) cast-t13 returns-2)

@@ -10,15 +10,6 @@ use Rattle.images.proofs.bit_reader.split.Tie as tie
 abbrev start : tie.After-struct-known2 → tie.Start
 start c = c .before .before
 
-sub-left : tie.Need-sub-left
-sub-left c = search needs
-
-shr-t4 : tie.Need-shr-t4
-shr-t4 c = search needs
-
-shl-t5 : tie.Need-shl-t5
-shl-t5 c = search needs
-
 rem-t6 : tie.Need-rem-t6
 rem-t6 c = span-some (start c .args .width) (omega (arith, start c .pre .2))
 
@@ -28,4 +19,4 @@ returns c =
     (ap (λ n. s .args .reader .bits / 2 ^ (s .args .reader .held - s .args .width) % n) (span (s .args .width) (omega (arith, s .pre .2))), refl, refl, refl)
 
 pub split-spec : {M : Type 1} → statement M
-split-spec = tie.close (tie.spec sub-left shr-t4 shl-t5 rem-t6 returns)
+split-spec = tie.close (tie.spec (λ c. search needs) (λ c. search needs) (λ c. search needs) rem-t6 returns)

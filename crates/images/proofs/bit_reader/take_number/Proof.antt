@@ -42,15 +42,6 @@ read : (c : tie.After-known-told)
     (record { value = value c; rest = from (start (took c) .args .image .now) (place (behind c)) })
 read c = let s = start (took c) in taken-read (s .args .image .now) (s .args .reader) (s .args .width) (value c) (behind c) (taken c)
 
-take-requires : tie.Need-take-requires
-take-requires c κs = search needs
-
-enum-told : tie.Need-enum-told
-enum-told c = search needs
-
-enum-known-value : tie.Need-enum-known-value
-enum-known-value c = search needs
-
 returns : tie.Need-returns
 returns c =
     let k = c .before in
@@ -66,9 +57,6 @@ returns-2 c =
     let s = start (took k) in
     number-above (s .args .width) (s .args .low) (s .args .many) (bits (took k)) (value k) _ (read k) (omega (arith, c .before .if1 .left))
     (omega (arith, c .if2 .taken))
-
-cast-t13 : tie.Need-cast-t13
-cast-t13 c = search needs
 
 returns-3 : tie.Need-returns-3
 returns-3 c =
@@ -89,4 +77,5 @@ returns-4 c =
     }
 
 pub take-number-spec : {M : Type 1} → statement M
-take-number-spec = tie.close (tie.spec take-requires enum-told enum-known-value returns sub-number returns-2 cast-t13 returns-3 returns-4)
+take-number-spec =
+    tie.close (tie.spec (λ c κs. search needs) (λ c. search needs) (λ c. search needs) returns sub-number returns-2 (λ c. search needs) returns-3 returns-4)

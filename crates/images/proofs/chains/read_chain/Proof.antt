@@ -19,6 +19,9 @@ Inv-loop image size count width at₀ i₀ at i = Validated (chain size) image c
 abbrev μ-loop : tie.MeasureT-loop
 μ-loop image size count width at₀ i₀ at i = count - i
 
+abbrev start-from-after-next-field : tie.After-next-field Inv-loop μ-loop → tie.Start Inv-loop μ-loop
+start-from-after-next-field c = c .before .before
+
 abbrev start : tie.After-known-told Inv-loop μ-loop → tie.Start Inv-loop μ-loop
 start c = c .before .before .before .before .before
 
@@ -63,23 +66,14 @@ refused-by c n e =
 next-field-requires : tie.Need-next-field-requires Inv-loop μ-loop
 next-field-requires c κs = record { narrow = omega arith; inside = omega arith; small = omega arith }
 
-enum-known-count : tie.Need-enum-known-count Inv-loop μ-loop
-enum-known-count c = search needs
-
-enum-told : tie.Need-enum-told Inv-loop μ-loop
-enum-told c = search needs
-
 returns : tie.Need-returns Inv-loop μ-loop
 returns c =
-    let s = c .before .before .before .before in
+    let s = start-from-after-next-field (c .before .before) in
     count-ends (chain (s .args .size)) (s .args .image .now)
     (subst (FieldDone (s .args .image .now) 0 16) (c .enum-told .given .1) (c .before .before .next-field .ensures))
 
 letter-width-requires : tie.Need-letter-width-requires Inv-loop μ-loop
 letter-width-requires c κs = start c .pre
-
-cast-width : tie.Need-cast-width Inv-loop μ-loop
-cast-width c = search needs
 
 loop-holds : tie.Need-loop-holds Inv-loop μ-loop
 loop-holds c =
@@ -99,20 +93,11 @@ next-entry-requires c κs =
       width-is = wide l .letter-width .ensures;
     }
 
-enum-told-2 : tie.Need-enum-told-2 Inv-loop μ-loop
-enum-told-2 c = search needs
-
 returns-2 : tie.Need-returns-2 Inv-loop μ-loop
 returns-2 c = refused-by (c .before .before) 4 (told (c .before .before) _ (c .enum-told2 .given .1))
 
-enum-told-3 : tie.Need-enum-told-3 Inv-loop μ-loop
-enum-told-3 c = search needs
-
 returns-3 : tie.Need-returns-3 Inv-loop μ-loop
 returns-3 c = refused-by (c .before .before) 5 (told (c .before .before) _ (c .enum-told3 .given .1))
-
-enum-told-4 : tie.Need-enum-told-4 Inv-loop μ-loop
-enum-told-4 c = search needs
 
 -- an entry was read
 abbrev turn : tie.After-enum-told4 Inv-loop μ-loop → tie.After-next-entry Inv-loop μ-loop
@@ -164,29 +149,6 @@ returns-5 c =
 
 pub read-chain-spec : {M : Type 1} → statement M
 read-chain-spec =
-    tie.close
-    (tie.spec
-    Inv-loop
-    μ-loop
-    next-field-requires
-    enum-known-count
-    enum-told
-    returns
-    letter-width-requires
-    cast-width
-    loop-holds
-    next-entry-requires
-    enum-told-2
-    returns-2
-    enum-told-3
-    returns-3
-    enum-told-4
-    add-at
-    add-at-2
-    add-at-3
-    add-i
-    loop-less
-    loop-again
-    is-filling-requires
-    returns-4
-    returns-5)
+    tie.close (tie.spec Inv-loop μ-loop next-field-requires (λ c. search needs) (λ c. search needs) returns letter-width-requires (λ c. search needs)
+    loop-holds next-entry-requires (λ c. search needs) returns-2 (λ c. search needs) returns-3 (λ c. search needs) add-at add-at-2 add-at-3 add-i loop-less
+    loop-again is-filling-requires returns-4 returns-5)

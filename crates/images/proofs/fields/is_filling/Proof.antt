@@ -7,20 +7,8 @@ use borrow.Author.Needs.{needs}
 use Rattle.images.proofs.fields.is_filling.Statement.{statement}
 use Rattle.images.proofs.fields.is_filling.Tie as tie
 
-add-if1 : tie.Need-add-if1
-add-if1 c = search needs
-
 returns : tie.Need-returns
 returns c = sym (filling-long (c .before .before .args .image .now) (c .before .before .args .at) (omega arith))
-
-mul-width : tie.Need-mul-width
-mul-width c = search needs
-
-sub-width : tie.Need-sub-width
-sub-width c = search needs
-
-read-field-requires : tie.Need-read-field-requires
-read-field-requires c κs = search needs
 
 returns-2 : tie.Need-returns-2
 returns-2 c =
@@ -29,5 +17,4 @@ returns-2 c =
     ∙ filling-short (s .args .image .now) (s .args .at) (s .pre .inside) (omega arith)
 
 pub is-filling-spec : {M : Type 1} → statement M
-is-filling-spec =
-    tie.close (tie.spec add-if1 returns mul-width sub-width read-field-requires returns-2)
+is-filling-spec = tie.close (tie.spec (λ c. search needs) returns (λ c. search needs) (λ c. search needs) (λ c κs. search needs) returns-2)

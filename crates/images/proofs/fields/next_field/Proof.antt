@@ -5,14 +5,9 @@ use borrow.Author.Needs.{needs}
 use Rattle.images.proofs.fields.next_field.Statement.{statement}
 use Rattle.images.proofs.fields.next_field.Tie as tie
 
-add-if1 : tie.Need-add-if1
-add-if1 c = search needs
-
-add-if1-2 : tie.Need-add-if1-2
-add-if1-2 c = search needs
-
 returns : tie.Need-returns
-returns c = field-ends (c .before .before .args .image .now) (c .before .before .args .at) (c .before .before .args .width) (c .before .before .pre .inside) (omega arith)
+returns c = field-ends (c .before .before .args .image .now) (c .before .before .args .at) (c .before .before .args .width) (c .before .before .pre .inside)
+    (omega arith)
 
 read-field-requires : tie.Need-read-field-requires
 read-field-requires c κs = search needs
@@ -23,4 +18,4 @@ returns-2 c =
     field-answered (s .args .image .now) (s .args .at) (s .args .width) (omega arith) (c .read-field .result) (c .read-field .ensures)
 
 pub next-field-spec : {M : Type 1} → statement M
-next-field-spec = tie.close (tie.spec add-if1 add-if1-2 returns read-field-requires returns-2)
+next-field-spec = tie.close (tie.spec (λ c. search needs) (λ c. search needs) returns read-field-requires returns-2)

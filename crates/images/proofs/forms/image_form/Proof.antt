@@ -12,14 +12,8 @@ abbrev imageLetters : ℕ → Form
 imageLetters letters =
     record { sizes = sizeWidth; weights = weightWidth; opens = 1; heads = 1; lengths = lengthWidth; letters = letters; less = 1; more = 0; mark = 0; head = 1 }
 
-letter-width-requires : tie.Need-letter-width-requires
-letter-width-requires c κs = search needs
-
-cast-t3 : tie.Need-cast-t3
-cast-t3 c = search needs
-
 returns : tie.Need-returns
 returns c = ap imageLetters (c .letter-width .ensures)
 
 pub image-form-spec : {M : Type 1} → statement M
-image-form-spec = tie.close (tie.spec letter-width-requires cast-t3 returns)
+image-form-spec = tie.close (tie.spec (λ c κs. search needs) (λ c. search needs) returns)

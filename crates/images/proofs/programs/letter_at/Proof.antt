@@ -24,9 +24,6 @@ told c r e =
     subst (λ n. SignedDone (s .args .image .now) n (s .args .size) (s .args .width) r) (c .before .reader-at .ensures .place-is)
     (subst (SignedDone (s .args .image .now) (place (c .before .reader-at .result)) (s .args .size) (s .args .width)) e (c .next-signed .ensures))
 
-add-reader-at : tie.Need-add-reader-at
-add-reader-at c = search needs
-
 mul-reader-at : tie.Need-mul-reader-at
 mul-reader-at c = omega (arith, bound (c .before))
 
@@ -38,21 +35,11 @@ reader-at-requires c κs =
     let s = c .before in
     omega (arith, ends-inside (s .args .image .now) (s .args .size) (s .args .width) (s .args .i) (s .pre))
 
-next-signed-requires : tie.Need-next-signed-requires
-next-signed-requires c κs = search needs
-
-enum-known-sign : tie.Need-enum-known-sign
-enum-known-sign c = search needs
-
-enum-told : tie.Need-enum-told
-enum-told c = search needs
-
-enum-told-2 : tie.Need-enum-told-2
-enum-told-2 c = search needs
-
 letter : (c : tie.After-known-told)
-    → LetterTaken (start (c .before .before .before) .args .image .now) (12 + start (c .before .before .before) .args .i * (1 + start (c .before .before .before) .args .width))
-    (start (c .before .before .before) .args .size) (start (c .before .before .before) .args .width) (c .before .sign .given .0 .0) (c .before .sign .given .0 .1 .0) (c .before .sign .given .0 .1 .1 .0)
+    → LetterTaken (start (c .before .before .before) .args .image .now)
+    (12 + start (c .before .before .before) .args .i * (1 + start (c .before .before .before) .args .width))
+    (start (c .before .before .before) .args .size) (start (c .before .before .before) .args .width) (c .before .sign .given .0 .0)
+    (c .before .sign .given .0 .1 .0) (c .before .sign .given .0 .1 .1 .0)
 letter c = told (c .before .before .before) _ (c .before .sign .given .1)
 
 mul-result : tie.Need-mul-result
@@ -64,7 +51,8 @@ add-result c = omega (arith, letter c .sign-small, letter c .number-small)
 returns : tie.Need-returns
 returns c =
     let s = start (c .before .before .before) in
-    letter-answer (s .args .image .now) (s .args .size) (s .args .width) (s .args .i) (s .pre) (c .before .sign .given .0 .0 * 128 + c .before .sign .given .0 .1 .0) (letter c .taken .signed)
+    letter-answer (s .args .image .now) (s .args .size) (s .args .width) (s .args .i) (s .pre)
+    (c .before .sign .given .0 .0 * 128 + c .before .sign .given .0 .1 .0) (letter c .taken .signed)
 
 returns-2 : tie.Need-returns-2
 returns-2 c =
@@ -80,18 +68,5 @@ returns-3 c =
 
 pub letter-at-spec : {M : Type 1} → statement M
 letter-at-spec =
-    tie.close
-    (tie.spec
-    add-reader-at
-    mul-reader-at
-    add-reader-at-2
-    reader-at-requires
-    next-signed-requires
-    enum-known-sign
-    mul-result
-    add-result
-    enum-told
-    enum-told-2
-    returns
-    returns-2
-    returns-3)
+    tie.close (tie.spec (λ c. search needs) mul-reader-at add-reader-at-2 reader-at-requires (λ c κs. search needs) (λ c. search needs) mul-result add-result
+    (λ c. search needs) (λ c. search needs) returns returns-2 returns-3)

@@ -10,6 +10,9 @@ use borrow.Author.Needs.{needs}
 use Rattle.images.proofs.programs.next_signed.Statement.{statement}
 use Rattle.images.proofs.programs.next_signed.Tie as tie
 
+abbrev start-from-after-take : tie.After-take → tie.Start
+start-from-after-take c = c .before .before
+
 abbrev start : tie.After-known-told → tie.Start
 start c = c .before .before .before .before .before
 
@@ -21,38 +24,23 @@ abbrev value : tie.After-known-told → ℕ
 value c = c .before .value .given .0 .0
 
 taken : (c : tie.After-known-told) → TakenAt (start c .args .image .now) (at c) (1 + start c .args .width) (value c) (c .before .value .given .0 .1 .0)
-taken c = subst (TakenDone (start c .args .image .now) (start c .args .reader) (1 + start c .args .width)) (c .before .value .given .1) (c .before .before .before .take .ensures)
+taken c = subst (TakenDone (start c .args .image .now) (start c .args .reader) (1 + start c .args .width)) (c .before .value .given .1)
+    (c .before .before .before .take .ensures)
 
 -- the number, as the code has it
 number-is : (c : tie.After-known-told) → value c % ((1 * 2 ^ start c .args .width) % 4294967296) ≡ value c % 2 ^ start c .args .width
 number-is c = ap (λ n. value c % n) (span (start c .args .width) (omega (arith, start c .pre .1 .narrow)))
 
 number-below : (c : tie.After-known-told) → value c % 2 ^ start c .args .width < 16
-number-below c = number-small (start c .args .image .now) (at c) (start c .args .size) (start c .args .width) (start c .pre .1) (value c) (c .before .value .given .0 .1 .0) (taken c)
+number-below c = number-small (start c .args .image .now) (at c) (start c .args .size) (start c .args .width) (start c .pre .1) (value c)
+    (c .before .value .given .0 .1 .0) (taken c)
 
 sign-below : (c : tie.After-known-told) → value c / 2 ^ start c .args .width < 2
-sign-below c = sign-small (start c .args .image .now) (at c) (start c .args .size) (start c .args .width) (start c .pre .1) (value c) (c .before .value .given .0 .1 .0) (taken c)
-
-add-take : tie.Need-add-take
-add-take c = search needs
-
-take-requires : tie.Need-take-requires
-take-requires c κs = search needs
-
-enum-told : tie.Need-enum-told
-enum-told c = search needs
-
-enum-known-value : tie.Need-enum-known-value
-enum-known-value c = search needs
-
-shr-sign : tie.Need-shr-sign
-shr-sign c = search needs
+sign-below c = sign-small (start c .args .image .now) (at c) (start c .args .size) (start c .args .width) (start c .pre .1) (value c)
+    (c .before .value .given .0 .1 .0) (taken c)
 
 cast-sign : tie.Need-cast-sign
 cast-sign c = omega (arith, sign-below c)
-
-shl-number : tie.Need-shl-number
-shl-number c = search needs
 
 rem-number : tie.Need-rem-number
 rem-number c = span-some (start c .args .width) (omega (arith, start c .pre .1 .narrow))
@@ -64,15 +52,17 @@ returns : tie.Need-returns
 returns c =
     let k = c .before in
     let s = start k in
-    signed-wrong (s .args .image .now) (at k) (s .args .size) (s .args .width) (s .pre .1) (value k) (k .before .value .given .0 .1 .0) (taken k) (omega (arith, number-is k, c .if1 .taken))
+    signed-wrong (s .args .image .now) (at k) (s .args .size) (s .args .width) (s .pre .1) (value k) (k .before .value .given .0 .1 .0) (taken k)
+    (omega (arith, number-is k, c .if1 .taken))
 
 add-t15 : tie.Need-add-t15
 add-t15 c = omega (arith, number-is (c .before), number-below (c .before))
 
 returns-2 : tie.Need-returns-2
 returns-2 c =
-    let s = c .before .before .before .before in
-    signed-ends (s .args .image .now) (place (s .args .reader)) (s .args .size) (s .args .width) (s .pre .1) (place-inside (s .args .image .now) (s .args .reader) (s .pre .0))
+    let s = start-from-after-take (c .before .before) in
+    signed-ends (s .args .image .now) (place (s .args .reader)) (s .args .size) (s .args .width) (s .pre .1)
+    (place-inside (s .args .image .now) (s .args .reader) (s .pre .0))
     (subst (TakenDone (s .args .image .now) (s .args .reader) (1 + s .args .width)) (c .enum-told .given .1) (c .before .before .take .ensures))
 
 returns-3 : tie.Need-returns-3
@@ -82,7 +72,8 @@ returns-3 c =
     let r = k .before .value .given .0 .1 .0 in
     let v = value k in
     let sign = value k / 2 ^ s .args .width in
-    let t : SignedTaken (s .args .image .now) (at k) (s .args .size) (s .args .width) (value k / 2 ^ s .args .width * 128 + value k % 2 ^ s .args .width + 1) r =
+    let t : SignedTaken (s .args .image .now) (at k) (s .args .size) (s .args .width) (value k / 2 ^ s .args .width * 128 + value k % 2 ^ s .args .width + 1)
+    r =
     signed-taken (s .args .image .now) (at k) (s .args .size) (s .args .width) (s .pre .1) v r (taken k) (omega (arith, number-is k, c .if1 .left)) in
     record {
       taken =
@@ -94,18 +85,5 @@ returns-3 c =
 
 pub next-signed-spec : {M : Type 1} → statement M
 next-signed-spec =
-    tie.close
-    (tie.spec
-    add-take
-    take-requires
-    enum-told
-    enum-known-value
-    shr-sign
-    cast-sign
-    shl-number
-    rem-number
-    cast-number
-    returns
-    add-t15
-    returns-2
-    returns-3)
+    tie.close (tie.spec (λ c. search needs) (λ c κs. search needs) (λ c. search needs) (λ c. search needs) (λ c. search needs) cast-sign (λ c. search needs)
+    rem-number cast-number returns add-t15 returns-2 returns-3)

@@ -28,6 +28,9 @@ Inv-loop image cells size count width reader₀ backs₀ weight₀ i₀ reader b
 abbrev μ-loop : tie.MeasureT-loop
 μ-loop image cells size count width reader₀ backs₀ weight₀ i₀ reader backs weight i = count - i
 
+abbrev start-from-after-next-field : tie.After-next-field Inv-loop μ-loop → tie.Start Inv-loop μ-loop
+start-from-after-next-field c = c .before .before .before
+
 abbrev start : tie.After-known-told Inv-loop μ-loop → tie.Start Inv-loop μ-loop
 start c = c .before .before .before .before .before .before
 
@@ -54,13 +57,15 @@ abbrev count : tie.At-loop Inv-loop μ-loop → ℕ
 count c = wide c .before .before .count .given .0 .0
 
 told : (c : tie.After-next-signed Inv-loop μ-loop) → (r : SignedField) → c .next-signed .result ≡ r
-    → SignedDone (start (wide (loop c) .before) .args .image .now) (place (loop c .loop .reader)) (start (wide (loop c) .before) .args .size) (wide (loop c) .letter-width .result) r
+    → SignedDone (start (wide (loop c) .before) .args .image .now) (place (loop c .loop .reader)) (start (wide (loop c) .before) .args .size)
+    (wide (loop c) .letter-width .result) r
 told c r e =
     let s = start (wide (loop c) .before) in
     subst (SignedDone (s .args .image .now) (place (loop c .loop .reader)) (s .args .size) (wide (loop c) .letter-width .result)) e (c .next-signed .ensures)
 
 refused-by : (c : tie.After-next-signed Inv-loop μ-loop) (n : ℕ)
-    → signedField (start (wide (loop c) .before) .args .size) (from (start (wide (loop c) .before) .args .image .now) (place (loop c .loop .reader))) ≡ refused n unplaced
+    → signedField (start (wide (loop c) .before) .args .size) (from (start (wide (loop c) .before) .args .image .now) (place (loop c .loop .reader))) ≡ refused
+    n unplaced
     → readProgram (start (wide (loop c) .before) .args .size) (start (wide (loop c) .before) .args .image .now) ≡ refused n unplaced
 refused-by c n e =
     let l = loop c in
@@ -72,23 +77,14 @@ refused-by c n e =
 next-field-requires : tie.Need-next-field-requires Inv-loop μ-loop
 next-field-requires c κs = record { narrow = omega arith; inside = omega arith; small = omega arith }
 
-enum-known-count : tie.Need-enum-known-count Inv-loop μ-loop
-enum-known-count c = search needs
-
-enum-told : tie.Need-enum-told Inv-loop μ-loop
-enum-told c = search needs
-
 returns : tie.Need-returns Inv-loop μ-loop
 returns c =
-    let s = c .before .before .before .before .before in
+    let s = start-from-after-next-field (c .before .before) in
     count-ends (program (s .args .size)) (s .args .image .now)
     (subst (FieldDone (s .args .image .now) 0 12) (c .enum-told .given .1) (c .before .before .next-field .ensures))
 
 letter-width-requires : tie.Need-letter-width-requires Inv-loop μ-loop
 letter-width-requires c κs = of-size (start c .pre .1)
-
-cast-width : tie.Need-cast-width Inv-loop μ-loop
-cast-width c = search needs
 
 reader-at-requires : tie.Need-reader-at-requires Inv-loop μ-loop
 reader-at-requires c κs = omega (arith, count-at (c .before) .inside)
@@ -97,25 +93,17 @@ loop-holds : tie.Need-loop-holds Inv-loop μ-loop
 loop-holds c =
     let k = c .before .before in
     let s = start k in
-    passed-none (s .args .image .now) (s .args .cells .now) (s .args .size) (k .before .count .given .0 .0) (c .reader-at .result) (count-at k) (c .reader-at .ensures .place-is) (c .reader-at .ensures .reads)
+    passed-none (s .args .image .now) (s .args .cells .now) (s .args .size) (k .before .count .given .0 .0) (c .reader-at .result) (count-at k)
+    (c .reader-at .ensures .place-is) (c .reader-at .ensures .reads)
 
 next-signed-requires : tie.Need-next-signed-requires Inv-loop μ-loop
 next-signed-requires c κs = (c .before .loop .inv .reads, width-of (wide (c .before)))
 
-enum-told-2 : tie.Need-enum-told-2 Inv-loop μ-loop
-enum-told-2 c = search needs
-
 returns-2 : tie.Need-returns-2 Inv-loop μ-loop
 returns-2 c = refused-by (c .before .before) 4 (told (c .before .before) _ (c .enum-told2 .given .1))
 
-enum-told-3 : tie.Need-enum-told-3 Inv-loop μ-loop
-enum-told-3 c = search needs
-
 returns-3 : tie.Need-returns-3 Inv-loop μ-loop
 returns-3 c = refused-by (c .before .before) 5 (told (c .before .before) _ (c .enum-told3 .given .1))
-
-enum-known-sign : tie.Need-enum-known-sign Inv-loop μ-loop
-enum-known-sign c = search needs
 
 -- the letter that was taken
 abbrev turn : tie.After-known-told2 Inv-loop μ-loop → tie.After-next-signed Inv-loop μ-loop
@@ -138,11 +126,13 @@ abbrev byte : tie.After-known-told2 Inv-loop μ-loop → ℕ
 byte c = sign c * 128 + number c
 
 letter : (c : tie.After-known-told2 Inv-loop μ-loop)
-    → LetterTaken (began c .args .image .now) (place (loop (turn c) .loop .reader)) (began c .args .size) (wide (loop (turn c)) .letter-width .result) (sign c) (number c) (behind c)
+    → LetterTaken (began c .args .image .now) (place (loop (turn c) .loop .reader)) (began c .args .size) (wide (loop (turn c)) .letter-width .result) (sign c)
+    (number c) (behind c)
 letter c = told (turn c) _ (c .before .sign .given .1)
 
 taken : (c : tie.After-known-told2 Inv-loop μ-loop)
-    → SignedTaken (began c .args .image .now) (place (loop (turn c) .loop .reader)) (began c .args .size) (wide (loop (turn c)) .letter-width .result) (byte c) (behind c)
+    → SignedTaken (began c .args .image .now) (place (loop (turn c) .loop .reader)) (began c .args .size) (wide (loop (turn c)) .letter-width .result) (byte c)
+    (behind c)
 taken c = letter c .taken
 
 sign-is : (c : tie.After-known-told2 Inv-loop μ-loop) → byte c / 128 ≡ sign c
@@ -155,7 +145,8 @@ light : (c : tie.After-known-told2 Inv-loop μ-loop) → suc (getD (began c .arg
 light c =
     let s = began c in
     let l = loop (turn c) in
-    passed-light (s .args .image .now) (s .args .cells .now) (s .args .size) (s .pre .0) (s .pre .1) (wide l .letter-width .result) (byte c) (place (l .loop .reader)) (behind c) (taken c)
+    passed-light (s .args .image .now) (s .args .cells .now) (s .args .size) (s .pre .0) (s .pre .1) (wide l .letter-width .result) (byte c)
+    (place (l .loop .reader)) (behind c) (taken c)
 
 few : (c : tie.After-known-told2 Inv-loop μ-loop) → loop (turn c) .loop .i < 4095
 few c = omega (arith, turn c .before .loop-test .taken, count-at (wide (loop (turn c)) .before) .small)
@@ -172,12 +163,21 @@ letter-weight-requires c κs =
     let l = loop (turn c) in (
       s .pre .1 .stands .full,
       subst (InRange 16) (number-is c)
-          (passed-named (s .args .image .now) (s .args .cells .now) (s .args .size) (s .pre .0) (s .pre .1) (wide l .letter-width .result) (byte c) (place (l .loop .reader)) (behind c) (taken c)),
+          (passed-named (s .args .image .now) (s .args .cells .now) (s .args .size) (s .pre .0) (s .pre .1) (wide l .letter-width .result) (byte c)
+          (place (l .loop .reader)) (behind c) (taken c)),
     )
 
 add-weight : tie.Need-add-weight Inv-loop μ-loop
 add-weight c =
-    omega (arith, light (c .before), few (c .before), c .letter-weight .ensures, ap (λ n. getD (began (c .before) .args .cells .now) (weightAt n) 0) (number-is (c .before)), loop (turn (c .before)) .loop .inv .light)
+    omega (
+      arith,
+      light (c .before),
+      few (c .before),
+      c .letter-weight .ensures,
+      ap (λ n. getD (began (c .before) .args .cells .now) (weightAt n) 0)
+          (number-is (c .before)),
+      loop (turn (c .before)) .loop .inv .light,
+    )
 
 add-i : tie.Need-add-i Inv-loop μ-loop
 add-i c = omega (arith, few (c .before))
@@ -191,11 +191,15 @@ loop-again c =
     let s = began k in
     let l = loop (turn k) in
     let r = behind k in
-    subst (λ n. Passed (s .args .image .now) (s .args .cells .now) (s .args .size) (count l) r (l .loop .backs + n) (l .loop .weight + c .letter-weight .result) (l .loop .i + 1)) (sign-is k)
-    (subst (λ n. Passed (s .args .image .now) (s .args .cells .now) (s .args .size) (count l) r (l .loop .backs + byte k / 128) (l .loop .weight + n) (l .loop .i + 1))
+    subst (λ n. Passed (s .args .image .now) (s .args .cells .now) (s .args .size) (count l) r (l .loop .backs + n) (l .loop .weight + c .letter-weight .result)
+    (l .loop .i + 1)) (sign-is k)
+    (subst (λ n. Passed (s .args .image .now) (s .args .cells .now) (s .args .size) (count l) r (l .loop .backs + byte k / 128) (l .loop .weight + n)
+    (l .loop .i + 1))
     (sym (c .letter-weight .ensures ∙ ap (λ n. suc (getD (s .args .cells .now) (weightAt n) 0)) (sym (number-is k))))
-    (passed-more (s .args .image .now) (s .args .cells .now) (s .args .size) (s .pre .0) (s .pre .1) (wide l .letter-width .result) (byte k) (place (l .loop .reader)) r (taken k)
-    (count l) (count-at (wide l .before)) (l .loop .reader) refl (width-of (wide l) .narrow) (l .loop .backs) (l .loop .weight) (l .loop .i) (l .loop .inv) (turn k .before .loop-test .taken)))
+    (passed-more (s .args .image .now) (s .args .cells .now) (s .args .size) (s .pre .0) (s .pre .1) (wide l .letter-width .result) (byte k)
+    (place (l .loop .reader)) r (taken k)
+    (count l) (count-at (wide l .before)) (l .loop .reader) refl (width-of (wide l) .narrow) (l .loop .backs) (l .loop .weight) (l .loop .i) (l .loop .inv)
+    (turn k .before .loop-test .taken)))
 
 is-end-requires : tie.Need-is-end-requires Inv-loop μ-loop
 is-end-requires c κs = c .before .loop .inv .reads
@@ -224,31 +228,6 @@ returns-5 c =
 
 pub read-program-spec : {M : Type 1} → statement M
 read-program-spec =
-    tie.close
-    (tie.spec
-    Inv-loop
-    μ-loop
-    next-field-requires
-    enum-known-count
-    enum-told
-    returns
-    letter-width-requires
-    cast-width
-    reader-at-requires
-    loop-holds
-    next-signed-requires
-    enum-told-2
-    returns-2
-    enum-told-3
-    returns-3
-    enum-known-sign
-    cast-backs
-    add-backs
-    letter-weight-requires
-    add-weight
-    add-i
-    loop-less
-    loop-again
-    is-end-requires
-    returns-4
-    returns-5)
+    tie.close (tie.spec Inv-loop μ-loop next-field-requires (λ c. search needs) (λ c. search needs) returns letter-width-requires (λ c. search needs)
+    reader-at-requires loop-holds next-signed-requires (λ c. search needs) returns-2 (λ c. search needs) returns-3 (λ c. search needs) cast-backs add-backs
+    letter-weight-requires add-weight add-i loop-less loop-again is-end-requires returns-4 returns-5)

@@ -33,6 +33,9 @@ Inv-loop image size count area₀ at width reader₀ i₀ area reader i =
 abbrev μ-loop : tie.MeasureT-loop
 μ-loop image size count area₀ at width reader₀ i₀ area reader i = count - i
 
+abbrev start-from-after-letter-width : tie.After-letter-width Inv-loop μ-loop → tie.Start Inv-loop μ-loop
+start-from-after-letter-width c = c .before .before .before
+
 abbrev start : tie.At-loop Inv-loop μ-loop → tie.Start Inv-loop μ-loop
 start c = c .before .before .before .before .before
 
@@ -58,11 +61,13 @@ width-of c =
       width-is = c .before .before .letter-width .ensures;
     }
 
-has : (c : tie.In-loop Inv-loop μ-loop) → HasLetter (start (c .before) .args .image .now) (start (c .before) .args .size) (width (c .before)) (c .before .loop .i)
+has : (c : tie.In-loop Inv-loop μ-loop) → HasLetter (start (c .before) .args .image .now) (start (c .before) .args .size) (width (c .before))
+    (c .before .loop .i)
 has c =
     let l = c .before in
     let s = start l in
-    has-letter (s .args .image .now) (s .args .size) (s .args .count) (width l) (l .loop .i) (s .pre .0) (l .before .before .letter-width .ensures) (c .loop-test .taken)
+    has-letter (s .args .image .now) (s .args .size) (s .args .count) (width l) (l .loop .i) (s .pre .0) (l .before .before .letter-width .ensures)
+    (c .loop-test .taken)
 
 never : (c : tie.In-loop Inv-loop μ-loop) (n : ℕ)
     → signedField (start (c .before) .args .size) (from (start (c .before) .args .image .now) (here (c .before))) ≡ refused n unplaced → ⊥
@@ -74,9 +79,6 @@ never c n e =
 letter-width-requires : tie.Need-letter-width-requires Inv-loop μ-loop
 letter-width-requires c κs = (c .before .before .pre .0 .some, c .before .before .pre .0 .few)
 
-cast-width : tie.Need-cast-width Inv-loop μ-loop
-cast-width c = search needs
-
 reader-at-requires : tie.Need-reader-at-requires Inv-loop μ-loop
 reader-at-requires c κs =
     let s = c .before .before .before in
@@ -84,11 +86,15 @@ reader-at-requires c κs =
 
 loop-holds : tie.Need-loop-holds Inv-loop μ-loop
 loop-holds c =
-    let s = c .before .before .before .before in (
+    let s = start-from-after-letter-width (c .before) in (
       omega arith,
       refl,
       λ w e. paste-zero (s .args .area .now) (s .args .at) (plainProgram w),
-      record { reads = c .reader-at .ensures .reads; place-is = omega (arith, c .reader-at .ensures .place-is, zero-mul (1 + c .before .letter-width .result)) },
+      record {
+        reads = c .reader-at .ensures .reads;
+        place-is =
+            omega (arith, c .reader-at .ensures .place-is, zero-mul (1 + c .before .letter-width .result));
+      },
     )
 
 add-take : tie.Need-add-take Inv-loop μ-loop
@@ -96,9 +102,6 @@ add-take c = omega (arith, width-of (c .before) .narrow)
 
 take-requires : tie.Need-take-requires Inv-loop μ-loop
 take-requires c κs = (c .before .loop .inv .3 .reads, omega (arith, width-of (c .before) .narrow))
-
-enum-told : tie.Need-enum-told Inv-loop μ-loop
-enum-told c = search needs
 
 -- an accepted image does not end before its letters
 ended : (c : tie.After-enum-told Inv-loop μ-loop) → ⊥
@@ -110,16 +113,14 @@ ended c =
     let short : 8 * length (s .args .image .now) < place (l .loop .reader) + (1 + width l) =
     subst (TakenDone (s .args .image .now) (l .loop .reader) (1 + width l)) (c .enum-told .given .1) (t .take .ensures) in
     never (t .before) 4
-    (signed-ends (s .args .image .now) (here l) (s .args .size) (width l) (width-of l) (omega (arith, r .place-is, r .reads .holds .read)) (omega (arith, r .place-is)))
+    (signed-ends (s .args .image .now) (here l) (s .args .size) (width l) (width-of l) (omega (arith, r .place-is, r .reads .holds .read))
+    (omega (arith, r .place-is)))
 
 same-length : tie.Need-same-length Inv-loop μ-loop
 same-length c = absurd (ended c)
 
 returns : tie.Need-returns Inv-loop μ-loop
 returns c = absurd (ended c)
-
-enum-known-value : tie.Need-enum-known-value Inv-loop μ-loop
-enum-known-value c = search needs
 
 -- the field that was taken, and the reader behind it
 abbrev value : tie.After-known-told Inv-loop μ-loop → ℕ
@@ -234,38 +235,12 @@ returns-2 c =
       l .loop .inv .1,
       λ w e.
           l .loop .inv .2 w e
-          ∙ unpack-all (s .args .area .now) (s .args .at) w (l .loop .i) (count-of (s .args .image .now) (s .args .size) (s .args .count) (s .pre .0) w e ∙ omega (arith, l .loop .inv .0, c .loop-test .left)),
+          ∙ unpack-all (s .args .area .now) (s .args .at) w (l .loop .i)
+          (count-of (s .args .image .now) (s .args .size) (s .args .count) (s .pre .0) w e ∙ omega (arith, l .loop .inv .0, c .loop-test .left)),
     )
 
 pub unpack-letters-spec : {M : Type 1} → statement M
 unpack-letters-spec =
-    tie.close
-    (tie.spec
-    Inv-loop
-    μ-loop
-    letter-width-requires
-    cast-width
-    reader-at-requires
-    loop-holds
-    add-take
-    take-requires
-    enum-told
-    same-length
-    returns
-    enum-known-value
-    shr-sign
-    cast-sign
-    shl-number
-    rem-number
-    cast-number
-    mul-area
-    add-area
-    add-area-2
-    cast-area
-    add-area-3
-    slice-write-area
-    add-i
-    loop-less
-    loop-again
-    same-length-2
-    returns-2)
+    tie.close (tie.spec Inv-loop μ-loop letter-width-requires (λ c. search needs) reader-at-requires loop-holds add-take take-requires (λ c. search needs)
+    same-length returns (λ c. search needs) shr-sign cast-sign shl-number rem-number cast-number mul-area add-area add-area-2 cast-area add-area-3
+    slice-write-area add-i loop-less loop-again same-length-2 returns-2)

@@ -17,6 +17,9 @@ use Rattle.images.proofs.Agreeing.{form-narrow, sizes-narrow}
 use Rattle.images.proofs.tables.read_form.Statement.{statement}
 use Rattle.images.proofs.tables.read_form.Tie as tie
 
+abbrev after-cells : tie.After-slice-known2 → tie.After-cells
+after-cells c = c .before
+
 abbrev start : tie.After-take-number → tie.Start
 start c = c .before .before .before .before .before
 
@@ -85,25 +88,10 @@ weights-read : (c : tie.After-known-told2) → Reads (began (head (weights c)) .
     (began (head (weights c)) .args .cells .now) (weighed (weights c)) (bits (head (weights c)) (behind (head (weights c)))) (bits (head (weights c)) (next c))
 weights-read c = weights-told (weights c) _ (c .before .next .given .1)
 
-form-of-requires : tie.Need-form-of-requires
-form-of-requires c κs = search needs
-
-reader-at-requires : tie.Need-reader-at-requires
-reader-at-requires c κs = search needs
-
 take-number-requires : tie.Need-take-number-requires
 take-number-requires c κs =
     let f = c .before in
     (c .reader-at .ensures .reads, subst (λ (f : Form). f .sizes ≤ 8) (sym (f .form-of .ensures)) (sizes-narrow (f .before .before .before .args .kind)))
-
-enum-told : tie.Need-enum-told
-enum-told c = search needs
-
-enum-told-2 : tie.Need-enum-told-2
-enum-told-2 c = search needs
-
-enum-known-number : tie.Need-enum-known-number
-enum-known-number c = search needs
 
 add-size : tie.Need-add-size
 add-size c = omega (arith, sized c .small)
@@ -116,15 +104,6 @@ read-weights-requires c κs =
     let f = c .before in
     let k = f .before in
     (sized k .reads, narrow f, omega (arith, sized k .small), began k .pre .full)
-
-enum-told-3 : tie.Need-enum-told-3
-enum-told-3 c = search needs
-
-enum-told-4 : tie.Need-enum-told-4
-enum-told-4 c = search needs
-
-enum-known-next : tie.Need-enum-known-next
-enum-known-next c = search needs
 
 read-rows-requires : tie.Need-read-rows-requires
 read-rows-requires c κs =
@@ -149,32 +128,23 @@ returns-2 c =
     let t = c .before .before in
     (refl, size-refused (start t .args .kind) (start t .args .input .now) 2 (size-told t _ (c .enum-told2 .given .1)))
 
-same-length : tie.Need-same-length
-same-length c = search needs
-
 returns-3 : tie.Need-returns-3
 returns-3 c =
-    let w = c .before .before .before .before in
+    let w = after-cells (c .before .before) .before in
     let k = head w in
     let s = began k in (
       w .read-weights .ensures .0,
       weights-refused (s .args .kind) (s .args .input .now) (number k) (bits k (behind k)) (sized k .read) 1 (weights-told w _ (c .enum-told3 .given .1)),
     )
 
-same-length-2 : tie.Need-same-length-2
-same-length-2 c = search needs
-
 returns-4 : tie.Need-returns-4
 returns-4 c =
-    let w = c .before .before .before .before in
+    let w = after-cells (c .before .before) .before in
     let k = head w in
     let s = began k in (
       w .read-weights .ensures .0,
       weights-refused (s .args .kind) (s .args .input .now) (number k) (bits k (behind k)) (sized k .read) 2 (weights-told w _ (c .enum-told4 .given .1)),
     )
-
-same-length-3 : tie.Need-same-length-3
-same-length-3 c = search needs
 
 returns-5 : tie.Need-returns-5
 returns-5 c =
@@ -195,26 +165,6 @@ returns-5 c =
 
 pub read-form-spec : {M : Type 1} → statement M
 read-form-spec =
-    tie.close
-    (tie.spec
-    form-of-requires
-    reader-at-requires
-    take-number-requires
-    enum-told
-    enum-told-2
-    enum-known-number
-    add-size
-    form-of-requires-2
-    read-weights-requires
-    enum-told-3
-    enum-told-4
-    enum-known-next
-    read-rows-requires
-    returns
-    returns-2
-    same-length
-    returns-3
-    same-length-2
-    returns-4
-    same-length-3
-    returns-5)
+    tie.close (tie.spec (λ c κs. search needs) (λ c κs. search needs) take-number-requires (λ c. search needs) (λ c. search needs) (λ c. search needs)
+    add-size form-of-requires-2 read-weights-requires (λ c. search needs) (λ c. search needs) (λ c. search needs) read-rows-requires returns returns-2
+    (λ c. search needs) returns-3 (λ c. search needs) returns-4 (λ c. search needs) returns-5)

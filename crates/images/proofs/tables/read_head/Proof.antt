@@ -46,18 +46,6 @@ read c = let s = start (took c) in taken-read (s .args .input .now) (s .args .be
 abbrev marked : tie.After-struct-known2 → tie.After-known-told
 marked c = c .before .before .before
 
-take-requires : tie.Need-take-requires
-take-requires c κs = search needs
-
-enum-told : tie.Need-enum-told
-enum-told c = search needs
-
-enum-known-value : tie.Need-enum-known-value
-enum-known-value c = search needs
-
-cast-if1 : tie.Need-cast-if1
-cast-if1 c = search needs
-
 returns : tie.Need-returns
 returns c =
     let k = c .before .before in
@@ -88,4 +76,4 @@ returns-4 c =
     }
 
 pub read-head-spec : {M : Type 1} → statement M
-read-head-spec = tie.close (tie.spec take-requires enum-told enum-known-value cast-if1 returns returns-2 returns-3 returns-4)
+read-head-spec = tie.close (tie.spec (λ c κs. search needs) (λ c. search needs) (λ c. search needs) (λ c. search needs) returns returns-2 returns-3 returns-4)

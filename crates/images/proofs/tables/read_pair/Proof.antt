@@ -19,6 +19,9 @@ use Rattle.images.proofs.Pairs.{cells-undefined, first-refused, second-
 use Rattle.images.proofs.tables.read_pair.Statement.{statement}
 use Rattle.images.proofs.tables.read_pair.Tie as tie
 
+abbrev after-cells : tie.After-slice-known2 → tie.After-cells
+after-cells c = c .before
+
 abbrev start : tie.After-read-head → tie.Start
 start c = c .before .before .before .before .before
 
@@ -87,32 +90,11 @@ first-read : (c : tie.After-known-told3) → Reads (began (before (first c)) .ar
     (bits (began (before (first c))) (words (before (first c)))) (bits (began (before (first c))) (next c))
 first-read c = first-told (first c) _ (c .before .next .given .1)
 
-cell-at-requires : tie.Need-cell-at-requires
-cell-at-requires c κs = search needs
-
-cell-at-requires-2 : tie.Need-cell-at-requires-2
-cell-at-requires-2 c κs = search needs
-
-read-head-requires : tie.Need-read-head-requires
-read-head-requires c κs = search needs
-
-enum-told : tie.Need-enum-told
-enum-told c = search needs
-
-enum-known-behind : tie.Need-enum-known-behind
-enum-known-behind c = search needs
-
-slice-write-cells : tie.Need-slice-write-cells
-slice-write-cells c = search needs
-
 slice-write-cells-2 : tie.Need-slice-write-cells-2
 slice-write-cells-2 c =
     let h = c .before .before .before in
     let s = start h in
     simp length-set (omega (arith, h .before .cell-at2 .ensures, s .pre .3 .0 .high, s .pre .3 .1 .high, s .pre .5))
-
-enum-known-words : tie.Need-enum-known-words
-enum-known-words c = search needs
 
 read-word-requires : tie.Need-read-word-requires
 read-word-requires c κs =
@@ -124,15 +106,6 @@ read-word-requires c κs =
       omega
           (arith, head k .before .before .cell-at .ensures, cell-inside (s .args .a) (s .args .b) (s .pre .3), s .pre .5),
     )
-
-enum-told-2 : tie.Need-enum-told-2
-enum-told-2 c = search needs
-
-enum-told-3 : tie.Need-enum-told-3
-enum-told-3 c = search needs
-
-enum-known-next : tie.Need-enum-known-next
-enum-known-next c = search needs
 
 read-word-requires-2 : tie.Need-read-word-requires-2
 read-word-requires-2 c κs =
@@ -157,9 +130,6 @@ returns c =
     let h = c .before .before in
     (refl, told h _ (c .enum-told .given .1) (start h .args .size))
 
-same-length : tie.Need-same-length
-same-length c = search needs
-
 returns-2 : tie.Need-returns-2
 returns-2 c =
     let h = c .before .before .before in
@@ -180,24 +150,15 @@ returns-2 c =
       ),
     )
 
-same-length-2 : tie.Need-same-length-2
-same-length-2 c = search needs
-
 returns-3 : tie.Need-returns-3
 returns-3 c =
-    let w = c .before .before .before .before in
+    let w = after-cells (c .before .before) .before in
     (w .read-word .ensures .0, refused-by w 1 (first-told w _ (c .enum-told2 .given .1)))
-
-same-length-3 : tie.Need-same-length-3
-same-length-3 c = search needs
 
 returns-4 : tie.Need-returns-4
 returns-4 c =
-    let w = c .before .before .before .before in
+    let w = after-cells (c .before .before) .before in
     (w .read-word .ensures .0, refused-by w 2 (first-told w _ (c .enum-told3 .given .1)))
-
-same-length-4 : tie.Need-same-length-4
-same-length-4 c = search needs
 
 returns-5 : tie.Need-returns-5
 returns-5 c =
@@ -217,27 +178,6 @@ returns-5 c =
 
 pub read-pair-spec : {M : Type 1} → statement M
 read-pair-spec =
-    tie.close
-    (tie.spec
-    cell-at-requires
-    cell-at-requires-2
-    read-head-requires
-    enum-told
-    enum-known-behind
-    slice-write-cells
-    slice-write-cells-2
-    enum-known-words
-    read-word-requires
-    enum-told-2
-    enum-told-3
-    enum-known-next
-    read-word-requires-2
-    returns
-    same-length
-    returns-2
-    same-length-2
-    returns-3
-    same-length-3
-    returns-4
-    same-length-4
-    returns-5)
+    tie.close (tie.spec (λ c κs. search needs) (λ c κs. search needs) (λ c κs. search needs) (λ c. search needs) (λ c. search needs) (λ c. search needs)
+    slice-write-cells-2 (λ c. search needs) read-word-requires (λ c. search needs) (λ c. search needs) (λ c. search needs) read-word-requires-2 returns
+    (λ c. search needs) returns-2 (λ c. search needs) returns-3 (λ c. search needs) returns-4 (λ c. search needs) returns-5)

@@ -24,6 +24,9 @@ Inv-loop input form size cells₀ a reader₀ b₀ cells reader b =
 abbrev μ-loop : tie.MeasureT-loop
 μ-loop input form size cells₀ a reader₀ b₀ cells reader b = size + 1 - b
 
+abbrev after-cells : tie.After-slice-known2 Inv-loop μ-loop → tie.After-cells Inv-loop μ-loop
+after-cells c = c .before
+
 abbrev start : tie.At-loop Inv-loop μ-loop → tie.Start Inv-loop μ-loop
 start c = c .before .before .before
 
@@ -88,30 +91,21 @@ read-pair-requires c κs =
       l .loop .inv .1 .same-length ∙ s .pre .5,
     )
 
-enum-told : tie.Need-enum-told Inv-loop μ-loop
-enum-told c = search needs
-
 same-length : tie.Need-same-length Inv-loop μ-loop
-same-length c = returned (c .before .before .before .before)
+same-length c = returned (after-cells (c .before .before) .before)
 
 returns : tie.Need-returns Inv-loop μ-loop
 returns c =
-    let r = c .before .before .before .before in
+    let r = after-cells (c .before .before) .before in
     (returned r, refused-by r 1 (told r _ (c .enum-told .given .1)))
 
-enum-told-2 : tie.Need-enum-told-2 Inv-loop μ-loop
-enum-told-2 c = search needs
-
 same-length-2 : tie.Need-same-length-2 Inv-loop μ-loop
-same-length-2 c = returned (c .before .before .before .before)
+same-length-2 c = returned (after-cells (c .before .before) .before)
 
 returns-2 : tie.Need-returns-2 Inv-loop μ-loop
 returns-2 c =
-    let r = c .before .before .before .before in
+    let r = after-cells (c .before .before) .before in
     (returned r, refused-by r 2 (told r _ (c .enum-told2 .given .1)))
-
-enum-known-after : tie.Need-enum-known-after Inv-loop μ-loop
-enum-known-after c = search needs
 
 -- the loop goes on
 abbrev turn : tie.After-known-told Inv-loop μ-loop → tie.After-read-pair Inv-loop μ-loop
@@ -163,22 +157,5 @@ returns-3 c =
 
 pub read-row-spec : {M : Type 1} → statement M
 read-row-spec =
-    tie.close
-    (tie.spec
-    Inv-loop
-    μ-loop
-    add-b
-    loop-holds
-    read-pair-requires
-    enum-told
-    same-length
-    returns
-    enum-told-2
-    same-length-2
-    returns-2
-    enum-known-after
-    add-b-2
-    loop-less
-    loop-again
-    same-length-3
-    returns-3)
+    tie.close (tie.spec Inv-loop μ-loop add-b loop-holds read-pair-requires (λ c. search needs) same-length returns (λ c. search needs) same-length-2
+    returns-2 (λ c. search needs) add-b-2 loop-less loop-again same-length-3 returns-3)

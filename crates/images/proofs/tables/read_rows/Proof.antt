@@ -24,6 +24,9 @@ Inv-loop input form size cells₀ reader₀ a₀ cells reader a =
 abbrev μ-loop : tie.MeasureT-loop
 μ-loop input form size cells₀ reader₀ a₀ cells reader a = size + 1 - a
 
+abbrev after-cells : tie.After-slice-known2 Inv-loop μ-loop → tie.After-cells Inv-loop μ-loop
+after-cells c = c .before
+
 abbrev start : tie.At-loop Inv-loop μ-loop → tie.Start Inv-loop μ-loop
 start c = c .before .before .before
 
@@ -80,30 +83,21 @@ read-row-requires c κs =
     let s = start l in
     (l .loop .inv .0, s .pre .1, l .loop .inv .1 .positive, c .before .loop-test .taken, s .pre .3, l .loop .inv .1 .blank .full)
 
-enum-told : tie.Need-enum-told Inv-loop μ-loop
-enum-told c = search needs
-
 same-length : tie.Need-same-length Inv-loop μ-loop
-same-length c = returned (c .before .before .before .before)
+same-length c = returned (after-cells (c .before .before) .before)
 
 returns : tie.Need-returns Inv-loop μ-loop
 returns c =
-    let r = c .before .before .before .before in
+    let r = after-cells (c .before .before) .before in
     (returned r, λ excess w. refused-by r 1 (told r _ (c .enum-told .given .1)) excess)
 
-enum-told-2 : tie.Need-enum-told-2 Inv-loop μ-loop
-enum-told-2 c = search needs
-
 same-length-2 : tie.Need-same-length-2 Inv-loop μ-loop
-same-length-2 c = returned (c .before .before .before .before)
+same-length-2 c = returned (after-cells (c .before .before) .before)
 
 returns-2 : tie.Need-returns-2 Inv-loop μ-loop
 returns-2 c =
-    let r = c .before .before .before .before in
+    let r = after-cells (c .before .before) .before in
     (returned r, λ excess w. refused-by r 2 (told r _ (c .enum-told2 .given .1)) excess)
-
-enum-known-after : tie.Need-enum-known-after Inv-loop μ-loop
-enum-known-after c = search needs
 
 -- the loop goes on
 abbrev turn : tie.After-known-told Inv-loop μ-loop → tie.After-read-row Inv-loop μ-loop
@@ -169,24 +163,5 @@ returns-4 c =
 
 pub read-rows-spec : {M : Type 1} → statement M
 read-rows-spec =
-    tie.close
-    (tie.spec
-    Inv-loop
-    μ-loop
-    loop-holds
-    read-row-requires
-    enum-told
-    same-length
-    returns
-    enum-told-2
-    same-length-2
-    returns-2
-    enum-known-after
-    add-a
-    loop-less
-    loop-again
-    is-end-requires
-    same-length-3
-    returns-3
-    same-length-4
-    returns-4)
+    tie.close (tie.spec Inv-loop μ-loop loop-holds read-row-requires (λ c. search needs) same-length returns (λ c. search needs) same-length-2 returns-2
+    (λ c. search needs) add-a loop-less loop-again is-end-requires same-length-3 returns-3 same-length-4 returns-4)

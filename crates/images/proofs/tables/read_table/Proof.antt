@@ -8,12 +8,6 @@ use Rattle.images.proofs.tables.read_table.Tie as tie
 abbrev start : tie.After-read-form → tie.Start
 start c = c .before .before .before .before
 
-read-form-requires : tie.Need-read-form-requires
-read-form-requires c κs = search needs
-
-same-length : tie.Need-same-length
-same-length c = search needs
-
 returns : tie.Need-returns
 returns c =
     let r = c .before .before in (
@@ -23,4 +17,4 @@ returns c =
     )
 
 pub read-table-spec : {M : Type 1} → statement M
-read-table-spec = tie.close (tie.spec read-form-requires same-length returns)
+read-table-spec = tie.close (tie.spec (λ c κs. search needs) (λ c. search needs) returns)

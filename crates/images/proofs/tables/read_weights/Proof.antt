@@ -62,26 +62,17 @@ loop-holds c =
 take-number-requires : tie.Need-take-number-requires Inv-loop μ-loop
 take-number-requires c κs = (c .before .loop .inv .0, start (c .before) .pre .1 .weights)
 
-enum-told : tie.Need-enum-told Inv-loop μ-loop
-enum-told c = search needs
-
 same-length : tie.Need-same-length Inv-loop μ-loop
 same-length c = loop (c .before .before) .loop .inv .1 .same-length
 
 returns : tie.Need-returns Inv-loop μ-loop
 returns c = (loop (c .before .before) .loop .inv .1 .same-length, refused-by (c .before .before) 1 (told (c .before .before) _ (c .enum-told .given .1)))
 
-enum-told-2 : tie.Need-enum-told-2 Inv-loop μ-loop
-enum-told-2 c = search needs
-
 same-length-2 : tie.Need-same-length-2 Inv-loop μ-loop
 same-length-2 c = loop (c .before .before) .loop .inv .1 .same-length
 
 returns-2 : tie.Need-returns-2 Inv-loop μ-loop
 returns-2 c = (loop (c .before .before) .loop .inv .1 .same-length, refused-by (c .before .before) 2 (told (c .before .before) _ (c .enum-told2 .given .1)))
-
-enum-known-number : tie.Need-enum-known-number Inv-loop μ-loop
-enum-known-number c = search needs
 
 -- the weight that was taken
 abbrev turn : tie.After-known-told Inv-loop μ-loop → tie.After-take-number Inv-loop μ-loop
@@ -153,23 +144,5 @@ returns-3 c =
 
 pub read-weights-spec : {M : Type 1} → statement M
 read-weights-spec =
-    tie.close
-    (tie.spec
-    Inv-loop
-    μ-loop
-    loop-holds
-    take-number-requires
-    enum-told
-    same-length
-    returns
-    enum-told-2
-    same-length-2
-    returns-2
-    enum-known-number
-    weight-at-requires
-    slice-write-cells
-    add-a
-    loop-less
-    loop-again
-    same-length-3
-    returns-3)
+    tie.close (tie.spec Inv-loop μ-loop loop-holds take-number-requires (λ c. search needs) same-length returns (λ c. search needs) same-length-2 returns-2
+    (λ c. search needs) weight-at-requires slice-write-cells add-a loop-less loop-again same-length-3 returns-3)

@@ -115,15 +115,6 @@ refused-by c n e =
 take-number-requires : tie.Need-take-number-requires Inv-loop μ-loop
 take-number-requires c κs = let s = c .before .before in (s .pre .0, s .pre .1 .lengths)
 
-enum-told : tie.Need-enum-told Inv-loop μ-loop
-enum-told c = search needs
-
-enum-told-2 : tie.Need-enum-told-2 Inv-loop μ-loop
-enum-told-2 c = search needs
-
-enum-known-first : tie.Need-enum-known-first Inv-loop μ-loop
-enum-known-first c = search needs
-
 slice-write-cells : tie.Need-slice-write-cells Inv-loop μ-loop
 slice-write-cells c = omega (arith, began c .pre .3)
 
@@ -141,26 +132,17 @@ loop-holds c =
 take-number-requires-2 : tie.Need-take-number-requires-2 Inv-loop μ-loop
 take-number-requires-2 c κs = (c .before .loop .inv .0, began (read (c .before)) .pre .1 .letters)
 
-enum-told-3 : tie.Need-enum-told-3 Inv-loop μ-loop
-enum-told-3 c = search needs
-
 same-length : tie.Need-same-length Inv-loop μ-loop
 same-length c = kept-length (loop (c .before .before))
 
 returns : tie.Need-returns Inv-loop μ-loop
 returns c = (kept-length (loop (c .before .before)), refused-by (c .before .before) 1 (told (c .before .before) _ (c .enum-told3 .given .1)))
 
-enum-told-4 : tie.Need-enum-told-4 Inv-loop μ-loop
-enum-told-4 c = search needs
-
 same-length-2 : tie.Need-same-length-2 Inv-loop μ-loop
 same-length-2 c = kept-length (loop (c .before .before))
 
 returns-2 : tie.Need-returns-2 Inv-loop μ-loop
 returns-2 c = (kept-length (loop (c .before .before)), refused-by (c .before .before) 2 (told (c .before .before) _ (c .enum-told4 .given .1)))
-
-enum-known-number : tie.Need-enum-known-number Inv-loop μ-loop
-enum-known-number c = search needs
 
 -- the letter that was taken
 abbrev turn : tie.After-known-told2 Inv-loop μ-loop → tie.After-take-number2 Inv-loop μ-loop
@@ -243,33 +225,6 @@ returns-5 c =
 
 pub read-word-spec : {M : Type 1} → statement M
 read-word-spec =
-    tie.close
-    (tie.spec
-    Inv-loop
-    μ-loop
-    take-number-requires
-    enum-told
-    enum-told-2
-    enum-known-first
-    slice-write-cells
-    cast-count
-    loop-holds
-    take-number-requires-2
-    enum-told-3
-    same-length
-    returns
-    enum-told-4
-    same-length-2
-    returns-2
-    enum-known-number
-    add-cells
-    add-cells-2
-    add-cells-3
-    slice-write-cells-2
-    add-k
-    loop-less
-    loop-again
-    returns-3
-    returns-4
-    same-length-3
-    returns-5)
+    tie.close (tie.spec Inv-loop μ-loop take-number-requires (λ c. search needs) (λ c. search needs) (λ c. search needs) slice-write-cells cast-count
+    loop-holds take-number-requires-2 (λ c. search needs) same-length returns (λ c. search needs) same-length-2 returns-2 (λ c. search needs) add-cells
+    add-cells-2 add-cells-3 slice-write-cells-2 add-k loop-less loop-again returns-3 returns-4 same-length-3 returns-5)

@@ -27,6 +27,4 @@ returns-3 : tie.Need-returns-3
 returns-3 c = first-past (c .before .args .text .now) (c .before .args .at) (c .if1 .left) isDigit false
 
 pub digit-stands-spec : {M : Type 1} → statement M
-digit-stands-spec =
-    tie.close
-    (tie.spec (λ c. search needs) (λ c. search needs) returns returns-2 returns-3)
+digit-stands-spec = tie.close (tie.spec (λ c. search needs) (λ c. search needs) returns returns-2 returns-3)

@@ -15,6 +15,4 @@ returns-2 : tie.Need-returns-2
 returns-2 c = first-past (c .before .args .text .now) (c .before .args .at) (c .if1 .left) (λ x. eqb x (c .before .args .byte)) false
 
 pub stands-spec : {M : Type 1} → statement M
-stands-spec =
-    tie.close
-    (tie.spec (λ c. search needs) returns returns-2)
+stands-spec = tie.close (tie.spec (λ c. search needs) returns returns-2)

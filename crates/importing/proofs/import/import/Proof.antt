@@ -43,6 +43,4 @@ returns-2 c =
     (sym (with-table (s .args .table .now) (s .args .text .now) (length area) (t .table) (size .0 .0) (t .read) (t .size-is))) (i .ensures))
 
 pub import-spec : {M : Type 1} → statement M
-import-spec =
-    tie.close
-    (tie.spec (λ c κs. search needs) (λ c. search needs) (λ c. search needs) (λ c κs. search needs) returns (λ c. search needs) returns-2)
+import-spec = tie.close (tie.spec (λ c κs. search needs) (λ c. search needs) (λ c. search needs) (λ c κs. search needs) returns (λ c. search needs) returns-2)

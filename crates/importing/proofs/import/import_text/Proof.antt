@@ -98,6 +98,5 @@ returns-5 c =
 
 pub import-text-spec : {M : Type 1} → statement M
 import-text-spec =
-    tie.close
-    (tie.spec (λ c κs. search needs) (λ c. search needs) (λ c. search needs) returns (λ c. search needs) returns-2 returns-3 write-pattern-requires
+    tie.close (tie.spec (λ c κs. search needs) (λ c. search needs) (λ c. search needs) returns (λ c. search needs) returns-2 returns-3 write-pattern-requires
     returns-4 same-length returns-5)

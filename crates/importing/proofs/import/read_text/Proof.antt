@@ -32,6 +32,4 @@ returns-3 c =
     text-of text (s .0 .0) (sym (ap (spanned text) (s .1)) ∙ k .read-pattern .ensures) (c .if1 .left)
 
 pub read-text-spec : {M : Type 1} → statement M
-read-text-spec =
-    tie.close
-    (tie.spec (λ c κs. search needs) (λ c. search needs) (λ c. search needs) returns returns-2 returns-3)
+read-text-spec = tie.close (tie.spec (λ c κs. search needs) (λ c. search needs) (λ c. search needs) returns returns-2 returns-3)

@@ -149,6 +149,5 @@ returns-4 c =
 
 pub read-number-spec : {M : Type 1} → statement M
 read-number-spec =
-    tie.close
-    (tie.spec (λ c κs. search needs) returns shared-slice-read-first sub-first add-t8 returns-2 add-digit-stands (λ c κs. search needs) add-t10 returns-3
-    mul-t7 add-t9 shared-slice-read-t12 sub-t13 add-t14 add-t15 returns-4)
+    tie.close (tie.spec (λ c κs. search needs) returns shared-slice-read-first sub-first add-t8 returns-2 add-digit-stands (λ c κs. search needs) add-t10
+    returns-3 mul-t7 add-t9 shared-slice-read-t12 sub-t13 add-t14 add-t15 returns-4)

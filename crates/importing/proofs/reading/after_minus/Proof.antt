@@ -28,6 +28,4 @@ returns-2 c =
     sym (ap (λ (r : Read Bool). r .rest) (minus-none (drop (s .args .at) (s .args .text .now)) (sym (c .before .stands .ensures) ∙ c .if1 .left)))
 
 pub after-minus-spec : {M : Type 1} → statement M
-after-minus-spec =
-    tie.close
-    (tie.spec (λ c κs. search needs) add-result returns returns-2)
+after-minus-spec = tie.close (tie.spec (λ c κs. search needs) add-result returns returns-2)

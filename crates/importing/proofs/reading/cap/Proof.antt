@@ -13,6 +13,4 @@ returns-2 : tie.Need-returns-2
 returns-2 c = sym (ap (λ b. cond b 4096 (c .before .args .moves)) (le-ltb 4095 (c .before .args .moves) (c .if1 .left)))
 
 pub cap-spec : {M : Type 1} → statement M
-cap-spec =
-    tie.close
-    (tie.spec (λ c. search needs) (λ c. search needs) (λ c. search needs) returns (λ c. search needs) returns-2)
+cap-spec = tie.close (tie.spec (λ c. search needs) (λ c. search needs) (λ c. search needs) returns (λ c. search needs) returns-2)

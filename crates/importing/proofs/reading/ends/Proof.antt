@@ -20,6 +20,4 @@ returns-2 c =
     c .stands .ensures ∙ first-either (s .args .text .now) (s .args .at) (c .before .if1 .left) (λ x. eqb x 41)
 
 pub ends-spec : {M : Type 1} → statement M
-ends-spec =
-    tie.close
-    (tie.spec (λ c κs. search needs) returns returns-2)
+ends-spec = tie.close (tie.spec (λ c κs. search needs) returns returns-2)

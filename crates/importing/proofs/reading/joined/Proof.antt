@@ -25,6 +25,4 @@ returns c =
     }
 
 pub joined-spec : {M : Type 1} → statement M
-joined-spec =
-    tie.close
-    (tie.spec (λ c. search needs) (λ c. search needs) (λ c. search needs) (λ c. search needs) returns)
+joined-spec = tie.close (tie.spec (λ c. search needs) (λ c. search needs) (λ c. search needs) (λ c. search needs) returns)

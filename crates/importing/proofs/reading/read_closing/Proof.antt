@@ -47,6 +47,4 @@ returns-3 c =
     ∙ ap (λ t. answered (record { moves = span .moves; highest = span .highest; rest = t })) (tail-at (s .args .text .now) (span .next)))
 
 pub read-closing-spec : {M : Type 1} → statement M
-read-closing-spec =
-    tie.close
-    (tie.spec (λ c. search needs) (λ c. search needs) (λ c κs. search needs) returns add-t8 returns-2 returns-3)
+read-closing-spec = tie.close (tie.spec (λ c. search needs) (λ c. search needs) (λ c κs. search needs) returns add-t8 returns-2 returns-3)

@@ -38,6 +38,4 @@ returns-3 c =
     (c .if1 .left)))
 
 pub read-move-spec : {M : Type 1} → statement M
-read-move-spec =
-    tie.close
-    (tie.spec (λ c κs. search needs) (λ c. search needs) (λ c. search needs) returns returns-2 returns-3)
+read-move-spec = tie.close (tie.spec (λ c κs. search needs) (λ c. search needs) (λ c. search needs) returns returns-2 returns-3)

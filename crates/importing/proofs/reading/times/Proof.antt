@@ -15,6 +15,4 @@ mul-cap c =
     below h = omega (arith, h)
 
 pub times-spec : {M : Type 1} → statement M
-times-spec =
-    tie.close
-    (tie.spec mul-cap (λ c κs. search needs) (λ c. c .cap .ensures))
+times-spec = tie.close (tie.spec mul-cap (λ c κs. search needs) (λ c. c .cap .ensures))

@@ -82,6 +82,4 @@ returns c =
     )
 
 pub repeat-spec : {M : Type 1} → statement M
-repeat-spec =
-    tie.close
-    (tie.spec Inv-loop μ-loop add-at loop-holds copy-on-requires add-at-2 loop-less loop-again same-length returns)
+repeat-spec = tie.close (tie.spec Inv-loop μ-loop add-at loop-holds copy-on-requires add-at-2 loop-less loop-again same-length returns)

@@ -9,39 +9,42 @@ use borrow.Author.Needs.{needs}
 use Rattle.loading.proofs.reversing.reverse_images.Statement.{statement}
 use Rattle.loading.proofs.reversing.reverse_images.Tie as tie
 
-add-if1 : tie.Need-add-if1
-add-if1 c = search needs
+abbrev start : tie.Then1 → tie.Start
+start c = c .before .before .before .before .before
+
+abbrev start-from-after-load-programs : tie.After-load-programs → tie.Start
+start-from-after-load-programs c = c .before .before .before .before .before .before .before
+
+abbrev after-load-programs : tie.After-reversing-arg → tie.After-load-programs
+after-load-programs c = c .before .before .before
 
 returns : tie.Need-returns
 returns c =
-    let s = c .before .before .before .before .before in
+    let s = start c in
     let p = s .pre .pair in (
       refl,
       λ T o u v eu ev. pair-too-long T u v (s .args .budget) (s .args .workspace .now)
-          (let fu : p .one .word ≡ u = same-answer (p .one .word) u (sym (p .one .read) ∙ eu) in let fv : p .two .word ≡ v = same-answer (p .two .word) v (sym (p .two .read) ∙ ev) in omega (arith, c .if1 .taken, p .one .count-is, p .two .count-is, ap length fu, ap length fv)),
+          (let fu : p .one .word ≡ u = same-answer (p .one .word) u (sym (p .one .read) ∙ eu) in let fv : p .two .word ≡ v =
+          same-answer (p .two .word) v (sym (p .two .read) ∙ ev) in
+          omega (arith, c .if1 .taken, p .one .count-is, p .two .count-is, ap length fu, ap length fv)),
     )
-
-sub-right : tie.Need-sub-right
-sub-right c = search needs
-
-load-programs-requires : tie.Need-load-programs-requires
-load-programs-requires c κs = search needs
 
 reversing-requires : tie.Need-reversing-requires
 reversing-requires c κs =
-    let s = c .before .before .before .before .before .before .before .before .before .before in
+    let s = start-from-after-load-programs (after-load-programs c) in
     let l = c .before .before .before .load-programs .ensures in
     let p = s .pre .pair in
     let d = l .loads (s .args .cells .now) (s .pre .table) (s .pre .of) (p .one .word) (p .two .word) (p .one .read) (p .two .read) in
     (d .searched, (s .pre .table, d .serves))
 
 same-length : tie.Need-same-length
-same-length c = c .before .before .reversing .kept .1 .0 ∙ c .before .before .before .before .before .before .load-programs .kept .1 .1 .1 .1 .1 .0
+same-length c = c .before .before .reversing .kept .1 .0 ∙ after-load-programs (c .before .before .before) .load-programs .kept .1 .1 .1 .1 .1 .0
 
 returns-2 : tie.Need-returns-2
 returns-2 c =
-    let s = c .before .before .before .before .before .before .before .before .before .before .before .before .before in
-    let l = c .before .before .before .before .before .before .load-programs .ensures in
+    let k = after-load-programs (c .before .before .before) in
+    let s = start-from-after-load-programs k in
+    let l = k .load-programs .ensures in
     let v = c .before .before .reversing in (
       v .ensures .0 ∙ l .same-length,
       λ T o x y ex ey.
@@ -50,13 +53,4 @@ returns-2 c =
     )
 
 pub reverse-images-spec : {M : Type 1} → statement M
-reverse-images-spec =
-    tie.close
-    (tie.spec
-    add-if1
-    returns
-    sub-right
-    load-programs-requires
-    reversing-requires
-    same-length
-    returns-2)
+reverse-images-spec = tie.close (tie.spec (λ c. search needs) returns (λ c. search needs) (λ c κs. search needs) reversing-requires same-length returns-2)

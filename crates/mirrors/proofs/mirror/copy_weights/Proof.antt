@@ -104,6 +104,5 @@ returns c =
 
 pub copy-weights-spec : {M : Type 1} → statement M
 copy-weights-spec =
-    tie.close
-    (tie.spec Inv-loop μ-loop loop-holds cell-at-requires slice-write-mirror weight-at-requires shared-slice-read-mirror slice-write-mirror-2 add-a
+    tie.close (tie.spec Inv-loop μ-loop loop-holds cell-at-requires slice-write-mirror weight-at-requires shared-slice-read-mirror slice-write-mirror-2 add-a
     loop-less loop-again same-length returns)

@@ -142,6 +142,5 @@ returns-4 c =
 
 pub mirror-pair-spec : {M : Type 1} → statement M
 mirror-pair-spec =
-    tie.close
-    (tie.spec (λ c κs. search needs) (λ c κs. search needs) (λ c. search needs) returns last-letter-requires last-letter-requires-2 returns-2
+    tie.close (tie.spec (λ c κs. search needs) (λ c κs. search needs) (λ c. search needs) returns last-letter-requires last-letter-requires-2 returns-2
     cell-at-requires-3 slice-read-if3 returns-3 put-backward-requires cell-at-requires-4 put-backward-requires-2 (λ c. search needs) returns-4)

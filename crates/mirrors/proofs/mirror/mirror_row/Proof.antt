@@ -111,5 +111,4 @@ returns-2 c =
 
 pub mirror-row-spec : {M : Type 1} → statement M
 mirror-row-spec =
-    tie.close
-    (tie.spec Inv-loop μ-loop add-b loop-holds mirror-pair-requires same-length returns add-b-2 loop-less loop-again same-length-2 returns-2)
+    tie.close (tie.spec Inv-loop μ-loop add-b loop-holds mirror-pair-requires same-length returns add-b-2 loop-less loop-again same-length-2 returns-2)

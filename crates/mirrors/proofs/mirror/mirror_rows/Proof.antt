@@ -94,6 +94,5 @@ returns-2 c =
 
 pub mirror-rows-spec : {M : Type 1} → statement M
 mirror-rows-spec =
-    tie.close
-    (tie.spec Inv-loop μ-loop loop-holds mirror-row-requires (λ c. search needs) same-length returns (λ c. search needs) add-a loop-less loop-again
+    tie.close (tie.spec Inv-loop μ-loop loop-holds mirror-row-requires (λ c. search needs) same-length returns (λ c. search needs) add-a loop-less loop-again
     same-length-2 returns-2)

@@ -26,6 +26,4 @@ returns c =
     )
 
 pub mirror-table-spec : {M : Type 1} → statement M
-mirror-table-spec =
-    tie.close
-    (tie.spec (λ c κs. search needs) (λ c κs. search needs) (λ c. search needs) returns)
+mirror-table-spec = tie.close (tie.spec (λ c κs. search needs) (λ c κs. search needs) (λ c. search needs) returns)

@@ -15,6 +15,4 @@ returns-2 c =
     ends-behind (s .args .cells .now) (s .args .a) (s .args .cell) (c .before .if1 .left)
 
 pub last-letter-spec : {M : Type 1} → statement M
-last-letter-spec =
-    tie.close
-    (tie.spec (λ c. search needs) (λ c. search needs) returns (λ c. search needs) (λ c. search needs) returns-2)
+last-letter-spec = tie.close (tie.spec (λ c. search needs) (λ c. search needs) returns (λ c. search needs) (λ c. search needs) returns-2)

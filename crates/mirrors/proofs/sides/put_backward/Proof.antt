@@ -85,6 +85,5 @@ returns c =
 
 pub put-backward-spec : {M : Type 1} → statement M
 put-backward-spec =
-    tie.close
-    (tie.spec Inv-loop μ-loop shared-slice-read-count cast-count shared-slice-read-mirror slice-write-mirror loop-holds add-mirror sub-mirror
+    tie.close (tie.spec Inv-loop μ-loop shared-slice-read-count cast-count shared-slice-read-mirror slice-write-mirror loop-holds add-mirror sub-mirror
     slice-write-mirror-2 add-next add-next-2 shared-slice-read-next add-k (λ c. omega arith) loop-again same-length returns)

@@ -12,6 +12,4 @@ returns-2 : tie.Need-returns-2
 returns-2 c = sym (ap stopRefusal (c .enum-told2 .given .1))
 
 pub stop-refusal-spec : {M : Type 1} → statement M
-stop-refusal-spec =
-    tie.close
-    (tie.spec (λ c. search needs) (λ c. search needs) returns returns-2)
+stop-refusal-spec = tie.close (tie.spec (λ c. search needs) (λ c. search needs) returns returns-2)

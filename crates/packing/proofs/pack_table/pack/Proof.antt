@@ -17,39 +17,40 @@ use borrow.Author.Needs.{needs}
 use Rattle.packing.proofs.pack_table.pack.Statement.{statement}
 use Rattle.packing.proofs.pack_table.pack.Tie as tie
 
+abbrev start-from-after-read-plain-table : tie.After-read-plain-table → tie.Start
+start-from-after-read-plain-table c = c .before .before .before .before
+
+abbrev after-read-plain-table : tie.After-cells2 → tie.After-read-plain-table
+after-read-plain-table c = c .before
+
+abbrev after-write-table : tie.After-answer → tie.After-write-table
+after-write-table c = c .before
+
 abbrev start : tie.After-known-told2 → tie.Start
 start c = c .before .before .before .before .before .before .before .before
 
 abbrev told : tie.After-image-form → tie.After-known-told2
 told c = c .before .before
 
-table-of : (c : tie.After-known-told2) → PlainTableOf (start c .args .plain .now) (c .before .before .before .before .read-plain-table .last .1 .0) (c .before .size .given .0 .0)
+table-of : (c : tie.After-known-told2) → PlainTableOf (start c .args .plain .now)
+    (after-read-plain-table (c .before .before .before) .read-plain-table .last .1 .0) (c .before .size .given .0 .0)
 table-of c =
-    subst (PlainTableDone (start c .args .plain .now) (c .before .before .before .before .read-plain-table .last .1 .0)) (c .before .size .given .1)
-    (c .before .before .before .before .read-plain-table .ensures .1)
+    let k = after-read-plain-table (c .before .before .before) in
+    subst (PlainTableDone (start c .args .plain .now) (k .read-plain-table .last .1 .0)) (c .before .size .given .1)
+    (k .read-plain-table .ensures .1)
 
 -- the bytes that are written
-bytes : (c : tie.After-image-form) → pack (tableAs (c .image-form .result) (told c .before .size .given .0 .0) (table-of (told c) .table .excess) (table-of (told c) .table .rows)) ≡ tableImage (table-of (told c) .table)
+bytes : (c : tie.After-image-form)
+    → pack (tableAs (c .image-form .result) (told c .before .size .given .0 .0) (table-of (told c) .table .excess) (table-of (told c) .table .rows))
+    ≡ tableImage (table-of (told c) .table)
 bytes c =
     let k = told c in
     let t = table-of k in
     ap (λ f. pack (tableAs f (k .before .size .given .0 .0) (t .table .excess) (t .table .rows))) (c .image-form .ensures)
     ∙ image-bits (t .table) (k .before .size .given .0 .0) (t .of .sized)
 
-slice-aggregate-read-plain-table : tie.Need-slice-aggregate-read-plain-table
-slice-aggregate-read-plain-table c = search needs
-
 read-plain-table-requires : tie.Need-read-plain-table-requires
 read-plain-table-requires c κs = blank-zeros
-
-enum-known-refusal : tie.Need-enum-known-refusal
-enum-known-refusal c = search needs
-
-enum-known-size : tie.Need-enum-known-size
-enum-known-size c = search needs
-
-slice-aggregate-write-table : tie.Need-slice-aggregate-write-table
-slice-aggregate-write-table c = search needs
 
 image-form-requires : tie.Need-image-form-requires
 image-form-requires c κs =
@@ -64,39 +65,31 @@ write-table-requires c κs =
 
 returns : tie.Need-returns
 returns c =
-    let s = c .before .before .before .before .before .before .before .before in
-    let r = c .before .before .before .before in
+    let k = after-read-plain-table (c .before .before .before) in
+    let s = start-from-after-read-plain-table k in
+    let r = k in
     promised packTable unpackTable table-unpacked (s .args .plain .now) (s .args .answer .now) _ _ readPlainTable readTable
-    (refused-keeps (readPlainTable (s .args .plain .now)) readTable (packTable (s .args .plain .now) (length (s .args .answer .now))) (s .args .answer .now) (c .before .refusal .given .0 .0)
+    (refused-keeps (readPlainTable (s .args .plain .now)) readTable (packTable (s .args .plain .now) (length (s .args .answer .now))) (s .args .answer .now)
+    (c .before .refusal .given .0 .0)
     (plain-refused (s .args .plain .now) (length (s .args .answer .now)) (c .before .refusal .given .0 .0)
     (subst (PlainTableDone (s .args .plain .now) (r .read-plain-table .last .1 .0)) (c .before .refusal .given .1) (r .read-plain-table .ensures .1))))
-
-same-length : tie.Need-same-length
-same-length c = search needs
 
 returns-2 : tie.Need-returns-2
 returns-2 c =
     let w = c .before .before .write-table in
-    let f = c .before .before .before .before in
+    let f = after-write-table (c .before) .before .before in
     let k = told f in
     let s = start k in
     let t = table-of k in
     promised packTable unpackTable table-unpacked (s .args .plain .now) (s .args .answer .now) _ _ readPlainTable readTable
-    (fills-keeps (readPlainTable (s .args .plain .now)) readTable (packTable (s .args .plain .now) (length (s .args .answer .now))) (s .args .answer .now) (tableImage (t .table))
-    (plain-read (s .args .plain .now) (length (s .args .answer .now)) (t .table) (t .read)) (table-back (s .args .plain .now) (t .table) (t .read)) (w .result) (w .last .1 .1 .1 .0)
-    (subst (λ bs. Fills (s .args .answer .now) bs (w .result) (w .last .1 .1 .1 .0)) (bytes f) (w .ensures (t .table .excess) (t .table .rows) (loaded-weights t) (t .listed))))
+    (fills-keeps (readPlainTable (s .args .plain .now)) readTable (packTable (s .args .plain .now) (length (s .args .answer .now))) (s .args .answer .now)
+    (tableImage (t .table))
+    (plain-read (s .args .plain .now) (length (s .args .answer .now)) (t .table) (t .read)) (table-back (s .args .plain .now) (t .table) (t .read)) (w .result)
+    (w .last .1 .1 .1 .0)
+    (subst (λ bs. Fills (s .args .answer .now) bs (w .result) (w .last .1 .1 .1 .0)) (bytes f)
+    (w .ensures (t .table .excess) (t .table .rows) (loaded-weights t) (t .listed))))
 
 pub pack-spec : {M : Type 1} → statement M
 pack-spec =
-    tie.close
-    (tie.spec
-    slice-aggregate-read-plain-table
-    read-plain-table-requires
-    enum-known-refusal
-    enum-known-size
-    slice-aggregate-write-table
-    image-form-requires
-    write-table-requires
-    returns
-    same-length
-    returns-2)
+    tie.close (tie.spec (λ c. search needs) read-plain-table-requires (λ c. search needs) (λ c. search needs) (λ c. search needs) image-form-requires
+    write-table-requires returns (λ c. search needs) returns-2)

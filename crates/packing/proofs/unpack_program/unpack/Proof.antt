@@ -18,6 +18,12 @@ use borrow.Author.Needs.{needs}
 use Rattle.packing.proofs.unpack_program.unpack.Statement.{statement}
 use Rattle.packing.proofs.unpack_program.unpack.Tie as tie
 
+abbrev after-cells2 : tie.At-match-keys1 → tie.After-cells2
+after-cells2 c = c .before
+
+abbrev after-read-program : tie.At-match2-keys1 → tie.After-read-program
+after-read-program c = c .before
+
 abbrev start : tie.After-read-table → tie.Start
 start c = c .before .before .before .before .before
 
@@ -51,40 +57,21 @@ program-of c =
     let k = at-size c in
     subst (ProgramDone (program k) (cells k) (size k)) (c .before .count .given .1) (c .before .before .before .read-program .ensures) .program
 
-slice-aggregate-read-table : tie.Need-slice-aggregate-read-table
-slice-aggregate-read-table c = search needs
-
 read-table-requires : tie.Need-read-table-requires
 read-table-requires c κs = blank-zeros
 
-enum-known-refusal : tie.Need-enum-known-refusal
-enum-known-refusal c = search needs
-
-enum-known-size : tie.Need-enum-known-size
-enum-known-size c = search needs
-
-slice-aggregate-read-program : tie.Need-slice-aggregate-read-program
-slice-aggregate-read-program c = search needs
-
 read-program-requires : tie.Need-read-program-requires
 read-program-requires c κs = (table-of (c .before) .table, table-of (c .before) .of)
-
-enum-known-refusal-2 : tie.Need-enum-known-refusal-2
-enum-known-refusal-2 c = search needs
-
-enum-known-count : tie.Need-enum-known-count
-enum-known-count c = search needs
-
-cast-bytes : tie.Need-cast-bytes
-cast-bytes c = search needs
 
 returns : tie.Need-returns
 returns c =
     let m = c .before in
     let k = at-size m in
     let w = program-of m .word in
-    promised (unpackProgram (table k)) (packProgram (table k)) (program-packed (table k)) (program k) (answer k) _ _ (programUnder (table k)) (plainProgramUnder (table k))
-    (refused-keeps (programUnder (table k) (program k)) (plainProgramUnder (table k)) (unpackProgram (table k) (program k) (length (answer k))) (answer k) AnswerShort
+    promised (unpackProgram (table k)) (packProgram (table k)) (program-packed (table k)) (program k) (answer k) _ _ (programUnder (table k))
+    (plainProgramUnder (table k))
+    (refused-keeps (programUnder (table k) (program k)) (plainProgramUnder (table k)) (unpackProgram (table k) (program k) (length (answer k)))
+    (answer k) AnswerShort
     (unpack-read (table k) (program k) (length (answer k)) (table-of k .table) _ (table-of k .read) (table-of k .of .sized) w (program-of m .read)
     ∙ short-area (length (answer k)) (plainProgram w) (omega (arith, c .if1 .taken, program-of m .count-is, length-map w byte))))
 
@@ -96,24 +83,24 @@ unpack-letters-requires c κs =
 
 returns-2 : tie.Need-returns-2
 returns-2 c =
-    let v = c .before .before .before .before in
+    let v = after-cells2 (c .before .before) .before in
     let s = start v in
-    promised (unpackProgram (s .args .table .now)) (packProgram (s .args .table .now)) (program-packed (s .args .table .now)) (s .args .program .now) (s .args .answer .now) _ _ (programUnder (s .args .table .now)) (plainProgramUnder (s .args .table .now))
-    (refused-keeps (programUnder (s .args .table .now) (s .args .program .now)) (plainProgramUnder (s .args .table .now)) (unpackProgram (s .args .table .now) (s .args .program .now) (length (s .args .answer .now))) (s .args .answer .now) (c .before .refusal .given .0 .0)
+    promised (unpackProgram (s .args .table .now)) (packProgram (s .args .table .now)) (program-packed (s .args .table .now)) (s .args .program .now)
+    (s .args .answer .now) _ _ (programUnder (s .args .table .now)) (plainProgramUnder (s .args .table .now))
+    (refused-keeps (programUnder (s .args .table .now) (s .args .program .now)) (plainProgramUnder (s .args .table .now))
+    (unpackProgram (s .args .table .now) (s .args .program .now) (length (s .args .answer .now))) (s .args .answer .now) (c .before .refusal .given .0 .0)
     (unpack-table-refused (s .args .table .now) (s .args .program .now) (length (s .args .answer .now)) (c .before .refusal .given .0 .0)
     (subst (TableDone (s .args .table .now) (v .read-table .last .1 .0)) (c .before .refusal .given .1) (v .read-table .ensures .1))))
 
 returns-3 : tie.Need-returns-3
 returns-3 c =
-    let k = c .before .before .before .before .before in
+    let k = after-read-program (c .before .before) .before .before in
     let r = c .before .refusal2 .given .0 .0 in
-    promised (unpackProgram (table k)) (packProgram (table k)) (program-packed (table k)) (program k) (answer k) _ _ (programUnder (table k)) (plainProgramUnder (table k))
+    promised (unpackProgram (table k)) (packProgram (table k)) (program-packed (table k)) (program k) (answer k) _ _ (programUnder (table k))
+    (plainProgramUnder (table k))
     (refused-keeps (programUnder (table k) (program k)) (plainProgramUnder (table k)) (unpackProgram (table k) (program k) (length (answer k))) (answer k) r
     (unpack-program-refused (table k) (program k) (length (answer k)) (table-of k .table) _ (table-of k .read) (table-of k .of .sized) r
     (subst (ProgramDone (program k) (cells k) (size k)) (c .before .refusal2 .given .1) (c .before .before .before .read-program .ensures))))
-
-same-length : tie.Need-same-length
-same-length c = search needs
 
 returns-4 : tie.Need-returns-4
 returns-4 c =
@@ -121,30 +108,18 @@ returns-4 c =
     let m = u .before .before .before in
     let k = at-size m in
     let w = program-of m .word in
-    promised (unpackProgram (table k)) (packProgram (table k)) (program-packed (table k)) (program k) (answer k) _ _ (programUnder (table k)) (plainProgramUnder (table k))
-    (answered-writes (programUnder (table k) (program k)) (plainProgramUnder (table k)) (unpackProgram (table k) (program k) (length (answer k))) (answer k) (plainProgram w) (u .unpack-letters .last .1 .1 .1 .0) _
+    promised (unpackProgram (table k)) (packProgram (table k)) (program-packed (table k)) (program k) (answer k) _ _ (programUnder (table k))
+    (plainProgramUnder (table k))
+    (answered-writes (programUnder (table k) (program k)) (plainProgramUnder (table k)) (unpackProgram (table k) (program k) (length (answer k))) (answer k)
+    (plainProgram w) (u .unpack-letters .last .1 .1 .1 .0) _
     (unpack-read (table k) (program k) (length (answer k)) (table-of k .table) _ (table-of k .read) (table-of k .of .sized) w (program-of m .read)
     ∙ long-area (length (answer k)) (plainProgram w) (omega (arith, u .before .before .if1 .left, program-of m .count-is, length-map w byte)))
     (length-map w byte ∙ program-of m .count-is)
-    (u .unpack-letters .ensures .1 w (program-of m .read) ∙ ap (λ n. plainProgram w ++ drop n (answer k)) {x = 0 + length (plainProgram w)} {y = length (plainProgram w)} (omega arith))
+    (u .unpack-letters .ensures .1 w (program-of m .read) ∙ ap (λ n. plainProgram w ++ drop n (answer k)) {x = 0 + length (plainProgram w)}
+    {y = length (plainProgram w)} (omega arith))
     (plain-program-back (table k) (table-of k .table) _ (table-of k .read) (table-of k .of .sized) (program k) w (program-of m .read)))
 
 pub unpack-spec : {M : Type 1} → statement M
 unpack-spec =
-    tie.close
-    (tie.spec
-    slice-aggregate-read-table
-    read-table-requires
-    enum-known-refusal
-    enum-known-size
-    slice-aggregate-read-program
-    read-program-requires
-    enum-known-refusal-2
-    enum-known-count
-    cast-bytes
-    returns
-    unpack-letters-requires
-    returns-2
-    returns-3
-    same-length
-    returns-4)
+    tie.close (tie.spec (λ c. search needs) read-table-requires (λ c. search needs) (λ c. search needs) (λ c. search needs) read-program-requires
+    (λ c. search needs) (λ c. search needs) (λ c. search needs) returns unpack-letters-requires returns-2 returns-3 (λ c. search needs) returns-4)

@@ -6,9 +6,6 @@ use borrow.Author.Needs.{needs}
 use Rattle.plain_forms.proofs.reading.fault.Statement.{statement}
 use Rattle.plain_forms.proofs.reading.fault.Tie as tie
 
-names-letter-requires : tie.Need-names-letter-requires
-names-letter-requires c κs = search needs
-
 returns : tie.Need-returns
 returns c = sym (ap (λ t. cond t 0 1) (sym (c .before .names-letter .ensures) ∙ c .if1 .taken))
 
@@ -16,4 +13,4 @@ returns-2 : tie.Need-returns-2
 returns-2 c = sym (ap (λ t. cond t 0 1) (sym (c .before .names-letter .ensures) ∙ c .if1 .left))
 
 pub fault-spec : {M : Type 1} → statement M
-fault-spec = tie.close (tie.spec names-letter-requires returns returns-2)
+fault-spec = tie.close (tie.spec (λ c κs. search needs) returns returns-2)

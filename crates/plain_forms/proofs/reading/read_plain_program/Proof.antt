@@ -66,21 +66,9 @@ returns-3 : tie.Need-returns-3 Inv-loop μ-loop
 returns-3 c =
     let l = c .before .before in
     let s = start l in
-    plain-accepted (s .args .plain .now) (s .args .size) (few l) (λ i h. l .loop .inv .named (omega (arith, c .if2 .left)) i (omega (arith, c .before .loop-test .left)))
+    plain-accepted (s .args .plain .now) (s .args .size) (few l)
+    (λ i h. l .loop .inv .named (omega (arith, c .if2 .left)) i (omega (arith, c .before .loop-test .left)))
 
 pub read-plain-program-spec : {M : Type 1} → statement M
 read-plain-program-spec =
-    tie.close
-    (tie.spec
-    Inv-loop
-    μ-loop
-    returns
-    loop-holds
-    shared-slice-read-fault
-    fault-requires
-    add-faults
-    add-i
-    loop-less
-    loop-again
-    returns-2
-    returns-3)
+    tie.close (tie.spec Inv-loop μ-loop returns loop-holds shared-slice-read-fault fault-requires add-faults add-i loop-less loop-again returns-2 returns-3)

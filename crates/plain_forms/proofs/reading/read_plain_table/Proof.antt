@@ -16,12 +16,6 @@ start c = known c .before
 bytes : (c : tie.After-read-form) → AreBytes (start c .args .plain .now)
 bytes c i = omega (arith, known c .shared-slice-known .given i)
 
-read-form-requires : tie.Need-read-form-requires
-read-form-requires c κs = search needs
-
-same-length : tie.Need-same-length
-same-length c = search needs
-
 returns : tie.Need-returns
 returns c =
     let r = c .before .before in (
@@ -31,4 +25,4 @@ returns c =
     )
 
 pub read-plain-table-spec : {M : Type 1} → statement M
-read-plain-table-spec = tie.close (tie.spec read-form-requires same-length returns)
+read-plain-table-spec = tie.close (tie.spec (λ c κs. search needs) (λ c. search needs) returns)

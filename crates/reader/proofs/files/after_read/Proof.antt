@@ -27,6 +27,4 @@ returns-2 c =
     )
 
 pub after-read-spec : {M : Type 1} → statement M
-after-read-spec =
-    tie.close
-    (tie.spec cast-result add-result returns returns-2)
+after-read-spec = tie.close (tie.spec cast-result add-result returns returns-2)

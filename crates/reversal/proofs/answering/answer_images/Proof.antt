@@ -10,6 +10,12 @@ use borrow.Author.Needs.{needs}
 use Rattle.reversal.proofs.answering.answer_images.Statement.{statement}
 use Rattle.reversal.proofs.answering.answer_images.Tie as tie
 
+abbrev after-cells2 : tie.At-match-keys1 → tie.After-cells2
+after-cells2 c = c .before
+
+abbrev after-known-told2 : tie.After-cells3 → tie.After-known-told2
+after-known-told2 c = c .before
+
 abbrev start : tie.After-read-table-program → tie.Start
 start c = c .before .before .before .before .before .before
 
@@ -30,11 +36,11 @@ abbrev answered : tie.After-slice-known4 → tie.After-answer-loaded
 answered c = c .before .before .before .before
 
 answer-loaded-requires : tie.Need-answer-loaded-requires
-answer-loaded-requires c κs = let k = c .before .before .before .before in done (reading k) _ (k .read2 .given .1) .runs
+answer-loaded-requires c κs = let k = after-known-told2 (c .before .before) .before in done (reading k) _ (k .read2 .given .1) .runs
 
 returns : tie.Need-returns
 returns c =
-    let k = c .before .before .before .before in
+    let k = after-cells2 (c .before .before) .before in
     let a = start k .args in
     let r = c .before .read .given in
     let refuses = images-refused (a .table .now) (a .program .now) (a .allowance) (length (a .workspace .now)) (length (a .answer .now)) (a .asked) in
@@ -53,15 +59,5 @@ returns-2 c =
 
 pub answer-images-spec : {M : Type 1} → statement M
 answer-images-spec =
-    tie.close
-    (tie.spec
-    (λ c. search needs)
-    (λ c κs. blank-zeros)
-    (λ c. search needs)
-    (λ c. search needs)
-    (λ c. search needs)
-    answer-loaded-requires
-    returns
-    (λ c. search needs)
-    (λ c. search needs)
-    returns-2)
+    tie.close (tie.spec (λ c. search needs) (λ c κs. blank-zeros) (λ c. search needs) (λ c. search needs) (λ c. search needs) answer-loaded-requires returns
+    (λ c. search needs) (λ c. search needs) returns-2)

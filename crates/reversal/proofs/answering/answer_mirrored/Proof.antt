@@ -8,6 +8,9 @@ use borrow.Author.Needs.{needs}
 use Rattle.reversal.proofs.answering.answer_mirrored.Statement.{statement}
 use Rattle.reversal.proofs.answering.answer_mirrored.Tie as tie
 
+abbrev after-mirror2 : tie.At-match-keys1 → tie.After-mirror2
+after-mirror2 c = c .before
+
 abbrev start : tie.After-mirror-table → tie.Start
 start c = c .before .before .before .before .before .before
 
@@ -27,7 +30,7 @@ answer-program-requires c κs =
 
 returns : tie.Need-returns
 returns c =
-    let k = c .before .before .before .before in
+    let k = after-mirror2 (c .before .before) .before in
     let a = start k .args in
     let g = c .before .made .given in
     λ T o w e. no-mirror T w (a .budget) (a .workspace .now) (a .answer .now) (g .0 .0) (done k _ (g .1) T o)
@@ -36,10 +39,13 @@ returns c =
 abbrev answered : tie.After-slice-known4 → tie.After-answer-program
 answered c = c .before .before .before .before
 
+abbrev asked : tie.After-answer-program → tie.After-enum-told
+asked c = c .before .before .before .before
+
 returns-2 : tie.Need-returns-2
 returns-2 c =
     let z = answered c .answer-program in
-    let k = answered c .before .before .before .before in
+    let k = asked (answered c) in
     let a = start (making k) .args in
     let m = done (making k) _ (k .enum-told .given .1) in
     λ T o w e. has-mirror T w (a .budget) (a .workspace .now) (a .answer .now) (m T o .0) _ _ (z .result) (z .ensures .wiped)
@@ -47,15 +53,5 @@ returns-2 c =
 
 pub answer-mirrored-spec : {M : Type 1} → statement M
 answer-mirrored-spec =
-    tie.close
-    (tie.spec
-    (λ c. search needs)
-    (λ c κs. let p = c .before .before .before .before .before .pre in ((p .table, p .of), refl))
-    (λ c. search needs)
-    (λ c. search needs)
-    (λ c. search needs)
-    answer-program-requires
-    returns
-    (λ c. search needs)
-    (λ c. search needs)
-    returns-2)
+    tie.close (tie.spec (λ c. search needs) (λ c κs. let s = c .before .before .before in let p = s .before .before .pre in ((p .table, p .of), refl))
+    (λ c. search needs) (λ c. search needs) (λ c. search needs) answer-program-requires returns (λ c. search needs) (λ c. search needs) returns-2)

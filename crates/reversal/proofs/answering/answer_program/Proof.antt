@@ -7,6 +7,9 @@ use borrow.Author.Needs.{needs}
 use Rattle.reversal.proofs.answering.answer_program.Statement.{statement}
 use Rattle.reversal.proofs.answering.answer_program.Tie as tie
 
+abbrev after-workspace : tie.After-slice-known3 → tie.After-workspace
+after-workspace c = c .before
+
 abbrev start : tie.After-run-asked → tie.Start
 start c = c .before .before .before .before .before .before
 
@@ -18,7 +21,7 @@ told c = c .before .before .before .before
 
 answer-asked-requires : tie.Need-answer-asked-requires
 answer-asked-requires c κs =
-    let k = c .before .before .before .before in
+    let k = after-workspace (c .before .before) .before in
     let s = start k in
     let q = s .pre .accepted .program in
     record {
@@ -38,17 +41,10 @@ returns c =
       wiped = w .wipe .ensures ∙ ap (λ i. replicate i 0) (v .0);
       answers = λ T o u e.
           let before = x .answer .now in
-          subst (λ i. Answers (madeOf (x .asked) (length before) (reversing T (x .budget) i (facing (x .asked) u))) before (a .last .1 .1 .1 .0) (a .result)) (v .0)
+          subst (λ i. Answers (madeOf (x .asked) (length before) (reversing T (x .budget) i (facing (x .asked) u))) before (a .last .1 .1 .1 .0) (a .result))
+          (v .0)
           (a .ensures T (facing (x .asked) u) (x .budget) (v .1 T o u e));
     }
 
 pub answer-program-spec : {M : Type 1} → statement M
-answer-program-spec =
-    tie.close
-    (tie.spec
-    (λ c κs. search needs)
-    answer-asked-requires
-    (λ c κs. search needs)
-    (λ c. search needs)
-    (λ c. search needs)
-    returns)
+answer-program-spec = tie.close (tie.spec (λ c κs. search needs) answer-asked-requires (λ c κs. search needs) (λ c. search needs) (λ c. search needs) returns)

@@ -11,10 +11,17 @@ use borrow.Author.Needs.{needs}
 use Rattle.reversal.proofs.backward.turn_words.Statement.{statement}
 use Rattle.reversal.proofs.backward.turn_words.Tie as tie
 
+abbrev start : tie.After-turn-around-arg2 → tie.Start
+start c = c .before .before .before .before .before .before
+
+abbrev after-turn-around-arg2 : tie.After-turn-around2 → tie.After-turn-around-arg2
+after-turn-around-arg2 c = c .before
+
 returns : tie.Need-returns
 returns c =
-    let s = c .before .before .before .before .before .before .before .before .before in
-    let one = c .before .before .before .before .before .before .turn-around in
+    let k = after-turn-around-arg2 (c .before .before) in
+    let s = start k in
+    let one = k .before .before .before .turn-around in
     let two = c .before .before .turn-around2 in
     let n = s .args .numerator in
     let d = s .args .denominator in
@@ -25,12 +32,4 @@ returns c =
 
 pub turn-words-spec : {M : Type 1} → statement M
 turn-words-spec =
-    tie.close
-    (tie.spec
-    (λ c κs. search needs)
-    (λ c. search needs)
-    (λ c. search needs)
-    (λ c. search needs)
-    (λ c κs. search needs)
-    (λ c. search needs)
-    returns)
+    tie.close (tie.spec (λ c κs. search needs) (λ c. search needs) (λ c. search needs) (λ c. search needs) (λ c κs. search needs) (λ c. search needs) returns)

@@ -46,17 +46,5 @@ returns-3 c =
 
 pub answer-asked-spec : {M : Type 1} → statement M
 answer-asked-spec =
-    tie.close
-    (tie.spec
-    (λ c. search needs)
-    (λ c κs. fits (start (c .before)))
-    (λ c. search needs)
-    (λ c κs. search needs)
-    (λ c. search needs)
-    (λ c κs. fits (start3 (c .before .before)))
-    (λ c. search needs)
-    returns
-    (λ c. search needs)
-    returns-2
-    (λ c. search needs)
-    returns-3)
+    tie.close (tie.spec (λ c. search needs) (λ c κs. fits (start (c .before))) (λ c. search needs) (λ c κs. search needs) (λ c. search needs)
+    (λ c κs. fits (start3 (c .before .before))) (λ c. search needs) returns (λ c. search needs) returns-2 (λ c. search needs) returns-3)

@@ -16,6 +16,9 @@ use borrow.Author.Needs.{needs}
 use Rattle.reversal.proofs.endings.answer_backward.Statement.{statement}
 use Rattle.reversal.proofs.endings.answer_backward.Tie as tie
 
+abbrev after-slice-known2 : tie.At-match-keys1 → tie.After-slice-known2
+after-slice-known2 c = c .before
+
 abbrev start : tie.After-answer-ending → tie.Start
 start c = c .before .before .before .before
 
@@ -50,7 +53,7 @@ turn-words-requires c κs =
 
 returns : tie.Need-returns
 returns c =
-    let k = c .before .before .before .before .before in
+    let k = after-slice-known2 (c .before .before) .before .before in
     let a = start k .args in
     let g = c .before .result .given in
     λ T w b p. refused-backward T w b (length (a .workspace .now)) (a .answer .now) (k .answer-ending .last .1 .1 .0) (g .0 .0) (told k _ (g .1) T w b p)
@@ -66,13 +69,5 @@ returns-2 c =
 
 pub answer-backward-spec : {M : Type 1} → statement M
 answer-backward-spec =
-    tie.close
-    (tie.spec
-    answer-ending-requires
-    (λ c. search needs)
-    (λ c. search needs)
-    turn-words-requires
-    (λ c. search needs)
-    returns
-    (λ c. search needs)
+    tie.close (tie.spec answer-ending-requires (λ c. search needs) (λ c. search needs) turn-words-requires (λ c. search needs) returns (λ c. search needs)
     returns-2)

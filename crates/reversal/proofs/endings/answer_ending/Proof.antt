@@ -12,6 +12,12 @@ use borrow.Author.Needs.{needs}
 use Rattle.reversal.proofs.endings.answer_ending.Statement.{statement}
 use Rattle.reversal.proofs.endings.answer_ending.Tie as tie
 
+abbrev start-from-after-slice-known : tie.After-slice-known → tie.Start
+start-from-after-slice-known c = c .before .before
+
+abbrev after-known-told : tie.Else1 → tie.After-known-told
+after-known-told c = c .before
+
 -- the word that finished
 abbrev start : tie.After-ending → tie.Start
 start c = c .before .before .before .before
@@ -41,7 +47,7 @@ returns c =
 returns-2 : tie.Need-returns-2
 returns-2 c =
     let written = c .before .before in
-    let k = written .before .before .before .before in
+    let k = after-known-told (written .before .before) .before in
     let s = start k in
     let g = k .ending .given in
     let f = written .write-fraction in
@@ -50,30 +56,19 @@ returns-2 c =
 
 returns-3 : tie.Need-returns-3
 returns-3 c =
-    let s = c .before .before .before .before .before in
+    let s = start-from-after-slice-known (c .before .before .before) in
     let g = c .before .ending2 .given in
     λ T w i p. met-open T w i (s .args .workspace .now) (s .args .answer .now) (g .0 .0) (g .0 .1 .0) (ended s _ (g .1) T w i p)
 
 returns-4 : tie.Need-returns-4
 returns-4 c =
     let k = c .before .before in
-    let s = k .before .before .before .before in
+    let s = start-from-after-slice-known (k .before .before) in
     let g = k .ending3 .given in
     λ T w i p. was-stopped T w i (s .args .workspace .now) (s .args .answer .now) (g .0 .0) (c .stop-refusal .result) (c .stop-refusal .ensures)
     (ended s _ (g .1) T w i p)
 
 pub answer-ending-spec : {M : Type 1} → statement M
 answer-ending-spec =
-    tie.close
-    (tie.spec
-    (λ c. search needs)
-    (λ c. omega (arith, fits (c .before)))
-    returns
-    (λ c κs. (fits (c .before .before .before), omega arith))
-    (λ c. search needs)
-    (λ c. search needs)
-    (λ c κs. search needs)
-    (λ c. search needs)
-    returns-2
-    returns-3
-    returns-4)
+    tie.close (tie.spec (λ c. search needs) (λ c. omega (arith, fits (c .before))) returns (λ c κs. (fits (c .before .before .before), omega arith))
+    (λ c. search needs) (λ c. search needs) (λ c κs. search needs) (λ c. search needs) returns-2 returns-3 returns-4)

@@ -14,6 +14,9 @@ use borrow.Author.Needs.{needs}
 use Rattle.reversal.proofs.enquire.enquire.Statement.{statement}
 use Rattle.reversal.proofs.enquire.enquire.Tie as tie
 
+abbrev after-cells2 : tie.At-match-keys1 → tie.After-cells2
+after-cells2 c = c .before
+
 abbrev start : tie.After-read-table-program → tie.Start
 start c = c .before .before .before .before .before
 
@@ -35,7 +38,7 @@ enquire-program-requires c κs = let k = c .before .before .before in done (read
 
 returns : tie.Need-returns
 returns c =
-    let k = c .before .before .before .before in
+    let k = after-cells2 (c .before .before) .before in
     let a = start k .args in
     let r = c .before .read .given in
     let width = length (a .workspace .now) in
@@ -68,14 +71,5 @@ returns-2 c =
 
 pub enquire-spec : {M : Type 1} → statement M
 enquire-spec =
-    tie.close
-    (tie.spec
-    (λ c. search needs)
-    (λ c κs. blank-zeros)
-    (λ c. search needs)
-    (λ c. search needs)
-    (λ c. search needs)
-    enquire-program-requires
-    returns
-    (λ c. search needs)
-    returns-2)
+    tie.close (tie.spec (λ c. search needs) (λ c κs. blank-zeros) (λ c. search needs) (λ c. search needs) (λ c. search needs) enquire-program-requires returns
+    (λ c. search needs) returns-2)

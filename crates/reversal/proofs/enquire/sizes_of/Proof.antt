@@ -16,13 +16,4 @@ returns-3 : tie.Need-returns-3
 returns-3 c = ap Refused (c .stop-refusal .ensures) ∙ sym (ap sizesTold (c .before .before .ending3 .given .1))
 
 pub sizes-of-spec : {M : Type 1} → statement M
-sizes-of-spec =
-    tie.close
-    (tie.spec
-    (λ c. search needs)
-    (λ c. search needs)
-    (λ c. search needs)
-    (λ c κs. search needs)
-    returns
-    returns-2
-    returns-3)
+sizes-of-spec = tie.close (tie.spec (λ c. search needs) (λ c. search needs) (λ c. search needs) (λ c κs. search needs) returns returns-2 returns-3)

@@ -11,10 +11,17 @@ use borrow.Author.Needs.{needs}
 use Rattle.reversal.proofs.fraction.write_fraction.Statement.{statement}
 use Rattle.reversal.proofs.fraction.write_fraction.Tie as tie
 
+abbrev start : tie.After-invert-arg → tie.Start
+start c = c .before .before .before .before .before .before .before
+
+abbrev after-invert-arg : tie.After-invert → tie.After-invert-arg
+after-invert-arg c = c .before
+
 returns : tie.Need-returns
 returns c =
-    let s = c .before .before .before .before .before .before .before .before .before .before in
-    let copied = c .before .before .before .before .before .before .copy-bytes in
+    let k = after-invert-arg (c .before .before) in
+    let s = start k in
+    let copied = k .before .before .before .copy-bytes in
     let inverted = c .before .before .invert in
     let mid = copied .last .1 .1 .0 in
     let n = s .args .numerator in
@@ -26,13 +33,5 @@ returns c =
 
 pub write-fraction-spec : {M : Type 1} → statement M
 write-fraction-spec =
-    tie.close
-    (tie.spec
-    (λ c. search needs)
-    (λ c κs. search needs)
-    (λ c. search needs)
-    (λ c. search needs)
-    (λ c. search needs)
-    (λ c κs. search needs)
-    (λ c. search needs)
-    returns)
+    tie.close (tie.spec (λ c. search needs) (λ c κs. search needs) (λ c. search needs) (λ c. search needs) (λ c. search needs) (λ c κs. search needs)
+    (λ c. search needs) returns)

@@ -22,33 +22,12 @@ slice-write-area c = omega (arith, c .pre)
 loop-holds : tie.Need-loop-holds Inv-loop μ-loop
 loop-holds c = (omega arith, refl, take-suc-set (c .args .area .now) 0 0 (omega (arith, c .pre)))
 
-cast-at : tie.Need-cast-at Inv-loop μ-loop
-cast-at c = omega arith
-
-mul-at : tie.Need-mul-at Inv-loop μ-loop
-mul-at c = omega arith
-
-add-at : tie.Need-add-at Inv-loop μ-loop
-add-at c = omega arith
-
-add-area : tie.Need-add-area Inv-loop μ-loop
-add-area c = omega arith
-
 slice-write-area-2 : tie.Need-slice-write-area-2 Inv-loop μ-loop
 slice-write-area-2 c = omega (arith, c .before .before .pre, c .before .loop .inv .1, length-set (c .before .before .args .area .now) 0 0)
-
-add-area-2 : tie.Need-add-area-2 Inv-loop μ-loop
-add-area-2 c = omega arith
 
 slice-write-area-3 : tie.Need-slice-write-area-3 Inv-loop μ-loop
 slice-write-area-3 c =
     simp length-set (omega (arith, c .before .before .pre, c .before .loop .inv .1, length-set (c .before .before .args .area .now) 0 0))
-
-add-a : tie.Need-add-a Inv-loop μ-loop
-add-a c = omega arith
-
-loop-less : tie.Need-loop-less Inv-loop μ-loop
-loop-less c = omega arith
 
 loop-again : tie.Need-loop-again Inv-loop μ-loop
 loop-again c =
@@ -65,26 +44,13 @@ same-length c = c .before .loop .inv .1 ∙ length-set (c .before .before .args 
 returns : tie.Need-returns Inv-loop μ-loop
 returns c =
     let l = c .before .loop in
-    let e : l .a ≡ c .before .before .args .size = omega (arith, c .loop-test .left, l .inv .0) in
-    (l .inv .1 ∙ length-set (c .before .before .args .area .now) 0 0, ap (λ k. take (1 + 2 * k) (l .area)) (sym e) ∙ (l .inv .2 ∙ ap (λ k. listingBytes (firstWords k)) e))
+    let e : l .a ≡ c .before .before .args .size = omega (arith, c .loop-test .left, l .inv .0) in (
+      l .inv .1 ∙ length-set (c .before .before .args .area .now) 0 0,
+      ap (λ k. take (1 + 2 * k) (l .area)) (sym e)
+          ∙ (l .inv .2 ∙ ap (λ k. listingBytes (firstWords k)) e),
+    )
 
 pub write-first-spec : {M : Type 1} → statement M
 write-first-spec =
-    tie.close
-    (tie.spec
-    Inv-loop
-    μ-loop
-    slice-write-area
-    loop-holds
-    cast-at
-    mul-at
-    add-at
-    add-area
-    slice-write-area-2
-    add-area-2
-    slice-write-area-3
-    add-a
-    loop-less
-    loop-again
-    same-length
-    returns)
+    tie.close (tie.spec Inv-loop μ-loop slice-write-area loop-holds (λ c. omega arith) (λ c. omega arith) (λ c. omega arith) (λ c. omega arith)
+    slice-write-area-2 (λ c. omega arith) slice-write-area-3 (λ c. omega arith) (λ c. omega arith) loop-again same-length returns)

@@ -5,12 +5,6 @@ use Rattle.sets.specs.Places.{chosenOf}
 use Rattle.sets.proofs.places.chosen.Statement.{statement}
 use Rattle.sets.proofs.places.chosen.Tie as tie
 
-enum-told : tie.Need-enum-told
-enum-told c = search needs
-
-enum-told-2 : tie.Need-enum-told-2
-enum-told-2 c = search needs
-
 returns : tie.Need-returns
 returns c = let a = c .before .before .args in sym (ap (λ s. chosenOf s (a .one) (a .other)) (c .enum-told .given .1))
 
@@ -18,4 +12,4 @@ returns-2 : tie.Need-returns-2
 returns-2 c = let a = c .before .before .args in sym (ap (λ s. chosenOf s (a .one) (a .other)) (c .enum-told2 .given .1))
 
 pub chosen-spec : {M : Type 1} → statement M
-chosen-spec = tie.close (tie.spec enum-told enum-told-2 returns returns-2)
+chosen-spec = tie.close (tie.spec (λ c. search needs) (λ c. search needs) returns returns-2)

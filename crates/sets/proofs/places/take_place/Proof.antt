@@ -17,15 +17,6 @@ went c = c .before .before .before .before .before
 abbrev both : tie.After-slice-known3 → tie.After-known-told2
 both c = c .before .before .before .before
 
-take-side-requires : tie.Need-take-side-requires
-take-side-requires c κs = search needs
-
-enum-known-step : tie.Need-enum-known-step
-enum-known-step c = search needs
-
-enum-known-step-2 : tie.Need-enum-known-step-2
-enum-known-step-2 c = search needs
-
 take-side-requires-2 : tie.Need-take-side-requires-2
 take-side-requires-2 c κs =
     let s = start (went (c .before)) in
@@ -33,9 +24,6 @@ take-side-requires-2 c κs =
     let t = went (c .before) .take-side in
     place-half (a .cells .now) (a .area .now) (a .held) (a .later) (a .budget) (t .last .1 .0) (t .result) (t .ensures .0) (t .ensures .1)
     (c .before .before .step2 .given .1) (s .pre)
-
-same-length : tie.Need-same-length
-same-length c = search needs
 
 returns : tie.Need-returns
 returns c =
@@ -45,9 +33,6 @@ returns c =
       place-ended (a .cells .now) (a .area .now) (a .held) (a .later) (a .budget) (t .last .1 .0) (t .result) (t .ensures .0) (t .ensures .1)
           (c .before .step .given .1),
     )
-
-same-length-2 : tie.Need-same-length-2
-same-length-2 c = search needs
 
 returns-2 : tie.Need-returns-2
 returns-2 c =
@@ -61,13 +46,5 @@ returns-2 c =
 
 pub take-place-spec : {M : Type 1} → statement M
 take-place-spec =
-    tie.close
-    (tie.spec
-    take-side-requires
-    enum-known-step
-    enum-known-step-2
-    take-side-requires-2
-    same-length
-    returns
-    same-length-2
+    tie.close (tie.spec (λ c κs. search needs) (λ c. search needs) (λ c. search needs) take-side-requires-2 (λ c. search needs) returns (λ c. search needs)
     returns-2)

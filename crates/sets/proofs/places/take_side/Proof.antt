@@ -75,9 +75,6 @@ take-pair-requires c κs =
     let placed = sided-paired (p .3) side k (on b) (f .word-end .ensures) (o .before .chosen .ensures) (o .chosen2 .ensures) in
     (p .0, k .words, sidedPair side (p .2) (k .passed), placed)
 
-enum-known-step : tie.Need-enum-known-step Inv-loop μ-loop
-enum-known-step c = search needs
-
 same-length : tie.Need-same-length Inv-loop μ-loop
 same-length c = let b = found (ended c) .before .before in ended c .take-pair .ensures .0 ∙ b .before .before .loop .inv .0
 
@@ -97,9 +94,6 @@ returns c =
           taking-ended k (sided-few w side) (sided-on w side k (on b)) (t .last .1 .0) (t .result) (l .inv .0) (t .ensures .0)
           (t .ensures .1 T (k .words) (sidedPair side m (k .passed)) p) (e .0 .0) (e .1),
     )
-
-enum-known-step-2 : tie.Need-enum-known-step-2 Inv-loop μ-loop
-enum-known-step-2 c = search needs
 
 add-at : tie.Need-add-at Inv-loop μ-loop
 add-at c = omega (arith, found (went c) .word-end .ensures .inside)
@@ -136,23 +130,5 @@ returns-2 c =
 
 pub take-side-spec : {M : Type 1} → statement M
 take-side-spec =
-    tie.close
-    (tie.spec
-    Inv-loop
-    μ-loop
-    loop-holds
-    is-taken-requires
-    word-end-requires
-    sub-t20
-    chosen-requires
-    chosen-requires-2
-    take-pair-requires
-    enum-known-step
-    same-length
-    returns
-    enum-known-step-2
-    add-at
-    loop-less
-    loop-again
-    same-length-2
-    returns-2)
+    tie.close (tie.spec Inv-loop μ-loop loop-holds is-taken-requires word-end-requires sub-t20 chosen-requires chosen-requires-2 take-pair-requires
+    (λ c. search needs) same-length returns (λ c. search needs) add-at loop-less loop-again same-length-2 returns-2)

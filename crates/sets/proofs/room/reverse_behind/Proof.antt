@@ -7,14 +7,8 @@ use Rattle.sets.proofs.Rooms.{part-whole}
 use Rattle.sets.proofs.room.reverse_behind.Statement.{statement}
 use Rattle.sets.proofs.room.reverse_behind.Tie as tie
 
-sub-reverse-pair : tie.Need-sub-reverse-pair
-sub-reverse-pair c = search needs
-
-part-reverse-pair-start : tie.Need-part-reverse-pair-start
-part-reverse-pair-start c = search needs
-
-part-reverse-pair-end : tie.Need-part-reverse-pair-end
-part-reverse-pair-end c = search needs
+abbrev start : tie.After-reverse-pair → tie.Start
+start c = c .before .before .before .before
 
 reverse-pair-requires : tie.Need-reverse-pair-requires
 reverse-pair-requires c κs =
@@ -26,7 +20,7 @@ same-length c = search needs
 
 returns : tie.Need-returns
 returns c =
-    let s = c .before .before .before .before .before .before in
+    let s = start (c .before .before) in
     let v = c .before .before .reverse-pair in
     let xs = s .args .area .now in
     let e = part-end (s .args .used) xs (v .last .1 .0) (s .pre .0) in
@@ -39,12 +33,4 @@ returns c =
     }
 
 pub reverse-behind-spec : {M : Type 1} → statement M
-reverse-behind-spec =
-    tie.close
-    (tie.spec
-    sub-reverse-pair
-    part-reverse-pair-start
-    part-reverse-pair-end
-    reverse-pair-requires
-    same-length
-    returns)
+reverse-behind-spec = tie.close (tie.spec (λ c. search needs) (λ c. search needs) (λ c. search needs) reverse-pair-requires same-length returns)

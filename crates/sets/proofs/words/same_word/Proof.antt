@@ -10,6 +10,9 @@ use Rattle.swaps.proofs.Putting.{word-length}
 use Rattle.sets.proofs.words.same_word.Statement.{statement}
 use Rattle.sets.proofs.words.same_word.Tie as tie
 
+abbrev start : tie.After-struct-known → tie.Start
+start c = c .before .before
+
 returns : tie.Need-returns
 returns c =
     let s = c .before .before .before in
@@ -20,12 +23,9 @@ returns c =
     let lv = word-length area (v .at) (v .letters) (s .pre .1) in
     sym (lengths-differ (spanned u area) (spanned v area) (λ e. omega (arith, c .if1 .taken, e, lu, lv)))
 
-same-letters-requires : tie.Need-same-letters-requires
-same-letters-requires c κs = search needs
-
 returns-2 : tie.Need-returns-2
 returns-2 c =
-    let s = c .before .before .before .before in
+    let s = start (c .before .before) in
     let area = s .args .area .now in
     let u = s .args .first in
     let v = s .args .second in
@@ -33,4 +33,4 @@ returns-2 c =
     c .same-letters .ensures ∙ ap (λ k. equal (spanned u area) (take k (drop (v .at) area))) same
 
 pub same-word-spec : {M : Type 1} → statement M
-same-word-spec = tie.close (tie.spec returns same-letters-requires returns-2)
+same-word-spec = tie.close (tie.spec returns (λ c κs. search needs) returns-2)

@@ -17,9 +17,24 @@ use borrow.Author.Needs.{needs}
 use Rattle.signed_comparing.proofs.compare_signed.compare_loaded.Statement.{statement}
 use Rattle.signed_comparing.proofs.compare_signed.compare_loaded.Tie as tie
 
+abbrev start : tie.After-slice-known2 → tie.Start
+start c = c .before .before .before .before .before .before .before .before
+
+abbrev after-slice-known2 : tie.At-match-keys1 → tie.After-slice-known2
+after-slice-known2 c = c .before
+
+abbrev after-slice-known2-from-after-reverse-signed : tie.After-reverse-signed → tie.After-slice-known2
+after-slice-known2-from-after-reverse-signed c = c .before .before .before .before
+
+abbrev after-reverse-signed : tie.After-settle → tie.After-reverse-signed
+after-reverse-signed c = c .before .before .before .before
+
+abbrev after-settle : tie.After-wipe → tie.After-settle
+after-settle c = c .before .before .before .before
+
 settle-requires : tie.Need-settle-requires
 settle-requires c κs =
-    let s = c .before .before .before .before .before .before .before .before .before .before .before .before .before .before .before in
+    let s = start (after-slice-known2-from-after-reverse-signed (c .before .before .before)) in
     let p = s .pre in
     let one = p .programs .one .program in
     let two = p .programs .two .program in
@@ -33,63 +48,68 @@ settle-requires c κs =
 
 returns : tie.Need-returns
 returns c =
-    let s = c .before .before .before .before .before .before .before .before .before .before .before in
-    let z = c .before .before .before .before .before .prepare in
+    let k = after-slice-known2 (c .before .before) in
+    let s = start k in
+    let z = k .before .before .prepare in
     let g = c .before .clear .given in
     let area = s .args .workspace .now in
     record {
       workspace = z .ensures .1 ∙ ap (λ x. workspaceAfter (clearedAs x) area) (g .1);
-      states = λ T o w v ew ev. signed-refused T w v (s .args .budget) (length area) (g .0 .0) (subst (λ x. clearedAs x ≡ prepared T (s .args .budget) (length area)) (g .1) (z .ensures .0 T o));
+      states = λ T o w v ew ev. signed-refused T w v (s .args .budget) (length area) (g .0 .0)
+          (subst (λ x. clearedAs x ≡ prepared T (s .args .budget) (length area)) (g .1) (z .ensures .0 T o));
     }
 
 -- the workspace is as long when the programs have been reversed
-long : (c : tie.After-reverse-signed) → length (c .reverse-signed .last .1 .1 .1 .1 .1 .1 .1 .0) ≡ length (c .before .before .before .before .before .before .before .before .before .before .before .before .args .workspace .now)
+long : (c : tie.After-reverse-signed) → length (c .reverse-signed .last .1 .1 .1 .1 .1 .1 .1 .0) ≡ length
+    (start (after-slice-known2-from-after-reverse-signed c) .args .workspace .now)
 long c =
-    let s = c .before .before .before .before .before .before .before .before .before .before .before .before in
-    let z = c .before .before .before .before .before .before .prepare in
+    let k = after-slice-known2-from-after-reverse-signed c in
+    let s = start k in
+    let z = k .before .before .prepare in
     let area = s .args .workspace .now in
-    c .reverse-signed .ensures .0 ∙ ap length (z .ensures .1 ∙ ap (λ x. workspaceAfter (clearedAs x) area) (c .before .before .enum-told .given .1)) ∙ length-replicate (length area) 0
+    c .reverse-signed .ensures .0 ∙ ap length (z .ensures .1 ∙ ap (λ x. workspaceAfter (clearedAs x) area) (c .before .before .enum-told .given .1))
+    ∙ length-replicate (length area) 0
 
 -- what the reversings come to
-verdict : (c : tie.After-settle) → (T : Presentation) → Of (c .before .before .before .before .before .before .before .before .before .before .before .before .before .before .before .before .args .cells .now) (c .before .before .before .before .before .before .before .before .before .before .before .before .before .before .before .before .args .size) T → (w v : Word) → readProgram (c .before .before .before .before .before .before .before .before .before .before .before .before .before .before .before .before .args .size) (c .before .before .before .before .before .before .before .before .before .before .before .before .before .before .before .before .args .first .now) ≡ answered w
-    → readProgram (c .before .before .before .before .before .before .before .before .before .before .before .before .before .before .before .before .args .size) (c .before .before .before .before .before .before .before .before .before .before .before .before .before .before .before .before .args .second .now) ≡ answered v
-    → comparedSigned (c .settle .result) ≡ signedOf T (c .before .before .before .before .before .before .before .before .before .before .before .before .before .before .before .before .args .budget) (length (c .before .before .before .before .before .before .before .before .before .before .before .before .before .before .before .before .args .workspace .now)) (reversing T (c .before .before .before .before .before .before .before .before .before .before .before .before .before .before .before .before .args .budget) (length (c .before .before .before .before .before .before .before .before .before .before .before .before .before .before .before .before .args .workspace .now)) (inverse w ++ v))
+verdict : (c : tie.After-settle) → (T : Presentation) → Of (start (after-slice-known2-from-after-reverse-signed (after-reverse-signed c)) .args .cells .now)
+    (start (after-slice-known2-from-after-reverse-signed (after-reverse-signed c)) .args .size) T → (w v : Word)
+    → readProgram (start (after-slice-known2-from-after-reverse-signed (after-reverse-signed c)) .args .size)
+    (start (after-slice-known2-from-after-reverse-signed (after-reverse-signed c)) .args .first .now) ≡ answered w
+    → readProgram (start (after-slice-known2-from-after-reverse-signed (after-reverse-signed c)) .args .size)
+    (start (after-slice-known2-from-after-reverse-signed (after-reverse-signed c)) .args .second .now) ≡ answered v
+    → comparedSigned (c .settle .result) ≡ signedOf T (start (after-slice-known2-from-after-reverse-signed (after-reverse-signed c)) .args .budget)
+    (length (start (after-slice-known2-from-after-reverse-signed (after-reverse-signed c)) .args .workspace .now))
+    (reversing T (start (after-slice-known2-from-after-reverse-signed (after-reverse-signed c)) .args .budget)
+    (length (start (after-slice-known2-from-after-reverse-signed (after-reverse-signed c)) .args .workspace .now)) (inverse w ++ v))
 verdict c T o w v ew ev =
-    let s = c .before .before .before .before .before .before .before .before .before .before .before .before .before .before .before .before in
-    c .settle .ensures .1 T (o .stands) (inverse w ++ v) (c .before .before .before .before .reverse-signed .ensures .1 T o w v ew ev)
-    ∙ ap (λ n. signedOf T (s .args .budget) n (reversing T (s .args .budget) n (inverse w ++ v))) (long (c .before .before .before .before))
+    let k = after-reverse-signed c in
+    let s = start (after-slice-known2-from-after-reverse-signed k) in
+    c .settle .ensures .1 T (o .stands) (inverse w ++ v) (k .reverse-signed .ensures .1 T o w v ew ev)
+    ∙ ap (λ n. signedOf T (s .args .budget) n (reversing T (s .args .budget) n (inverse w ++ v))) (long (k))
 
 returns-2 : tie.Need-returns-2
 returns-2 c =
-    let s = c .before .before .before .before .before .before .before .before .before .before .before .before .before .before .before .before .before .before .before .before .before .before in
+    let j = after-reverse-signed (after-settle (c .before .before)) in
+    let s = start (after-slice-known2-from-after-reverse-signed j) in
     let p = s .pre in
     let one = p .programs .one .program in
     let two = p .programs .two .program in
-    let z = c .before .before .before .before .before .before .before .before .before .before .before .before .before .before .before .before .prepare in
-    let k = c .before .before .before .before .before .before in
+    let z = after-slice-known2-from-after-reverse-signed j .before .before .prepare in
+    let k = after-settle (c .before .before) in
     let area = s .args .workspace .now in
     let width = length area in
     record {
       workspace =
-          c .before .before .wipe .ensures ∙ ap (λ n. replicate n 0) (k .settle .ensures .0 ∙ long (k .before .before .before .before))
+          c .before .before .wipe .ensures ∙ ap (λ n. replicate n 0) (k .settle .ensures .0 ∙ long (after-reverse-signed k))
           ∙ sym (ap (λ o. workspaceAfter o area) (verdict k (p .table) (p .of) (one .word) (two .word) (one .read) (two .read))
           ∙ signed-late (p .table) (s .args .budget) width (reversing (p .table) (s .args .budget) width (inverse (one .word) ++ two .word)) .zero area);
       states = λ T o w v ew ev.
           verdict k T o w v ew ev
-          ∙ sym (signed-runs T w v (s .args .budget) width (subst (λ x. clearedAs x ≡ prepared T (s .args .budget) width) (c .before .before .before .before .before .before .before .before .before .before .before .before .enum-told .given .1) (z .ensures .0 T o)));
+          ∙ sym (signed-runs T w v (s .args .budget) width
+          (subst (λ x. clearedAs x ≡ prepared T (s .args .budget) width) (j .before .before .enum-told .given .1) (z .ensures .0 T o)));
     }
 
 pub compare-loaded-spec : {M : Type 1} → statement M
 compare-loaded-spec =
-    tie.close
-    (tie.spec
-    (λ c κs. search needs)
-    (λ c. search needs)
-    (λ c. search needs)
-    (λ c κs. search needs)
-    settle-requires
-    (λ c κs. search needs)
-    (λ c. search needs)
-    returns
-    (λ c. search needs)
-    returns-2)
+    tie.close (tie.spec (λ c κs. search needs) (λ c. search needs) (λ c. search needs) (λ c κs. search needs) settle-requires (λ c κs. search needs)
+    (λ c. search needs) returns (λ c. search needs) returns-2)

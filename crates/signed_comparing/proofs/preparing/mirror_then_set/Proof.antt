@@ -8,6 +8,9 @@ use borrow.Author.Needs.{needs}
 use Rattle.signed_comparing.proofs.preparing.mirror_then_set.Statement.{statement}
 use Rattle.signed_comparing.proofs.preparing.mirror_then_set.Tie as tie
 
+abbrev after-slice-known2 : tie.At-match-keys1 → tie.After-slice-known2
+after-slice-known2 c = c .before
+
 abbrev start : tie.After-check-cubes → tie.Start
 start c = c .before .before .before .before .before
 
@@ -23,7 +26,7 @@ grown c = c .before .before .before .before
 
 returns : tie.Need-returns
 returns c =
-    let k = c .before .before .before .before .before in
+    let k = after-slice-known2 (c .before .before) .before .before in
     let a = start k .args in
     let r = c .before .cube .given in
     let z = k .check-cubes .ensures in
@@ -47,15 +50,5 @@ returns-2 c =
 
 pub mirror-then-set-spec : {M : Type 1} → statement M
 mirror-then-set-spec =
-    tie.close
-    (tie.spec
-    (λ c κs. search needs)
-    (λ c. search needs)
-    (λ c. search needs)
-    (λ c κs. search needs)
-    (λ c κs. search needs)
-    (λ c κs. search needs)
-    (λ c. search needs)
-    returns
-    (λ c. search needs)
-    returns-2)
+    tie.close (tie.spec (λ c κs. search needs) (λ c. search needs) (λ c. search needs) (λ c κs. search needs) (λ c κs. search needs) (λ c κs. search needs)
+    (λ c. search needs) returns (λ c. search needs) returns-2)

@@ -59,15 +59,4 @@ returns c =
     }
 
 pub word-end-spec : {M : Type 1} → statement M
-word-end-spec =
-    tie.close
-    (tie.spec
-    Inv-loop
-    μ-loop
-    loop-holds
-    shared-slice-read-is-ending
-    is-ending-requires
-    add-end
-    loop-less
-    loop-again
-    returns)
+word-end-spec = tie.close (tie.spec Inv-loop μ-loop loop-holds shared-slice-read-is-ending is-ending-requires add-end loop-less loop-again returns)

@@ -24,12 +24,6 @@ loop-holds c =
     let s = c .before in
     (s .pre .0, omega arith, inside-none (s .args .area .now) (s .args .at))
 
-sub-is-ending : tie.Need-sub-is-ending Inv-loop μ-loop
-sub-is-ending c = omega arith
-
-shared-slice-read-is-ending : tie.Need-shared-slice-read-is-ending Inv-loop μ-loop
-shared-slice-read-is-ending c = omega arith
-
 is-ending-requires : tie.Need-is-ending-requires Inv-loop μ-loop
 is-ending-requires c κs = tt
 
@@ -37,12 +31,6 @@ returns : tie.Need-returns Inv-loop μ-loop
 returns c =
     let l = loop (c .before) .loop in
     record { after = l .inv .0; before = l .inv .1; letters = l .inv .2; begins = λ h. sym (c .before .is-ending .ensures) ∙ c .if1 .taken }
-
-sub-start : tie.Need-sub-start Inv-loop μ-loop
-sub-start c = omega arith
-
-loop-less : tie.Need-loop-less Inv-loop μ-loop
-loop-less c = omega arith
 
 loop-again : tie.Need-loop-again Inv-loop μ-loop
 loop-again c =
@@ -61,16 +49,5 @@ returns-2 c =
 
 pub word-start-spec : {M : Type 1} → statement M
 word-start-spec =
-    tie.close
-    (tie.spec
-    Inv-loop
-    μ-loop
-    loop-holds
-    sub-is-ending
-    shared-slice-read-is-ending
-    is-ending-requires
-    returns
-    sub-start
-    loop-less
-    loop-again
-    returns-2)
+    tie.close (tie.spec Inv-loop μ-loop loop-holds (λ c. omega arith) (λ c. omega arith) is-ending-requires returns (λ c. omega arith) (λ c. omega arith)
+    loop-again returns-2)

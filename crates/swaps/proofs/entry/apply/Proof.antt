@@ -155,7 +155,6 @@ returns-5 c =
 
 pub apply-spec : {M : Type 1} → statement M
 apply-spec =
-    tie.close
-    (tie.spec (λ c. search needs) returns (λ c κs. search needs) (λ c κs. search needs) (λ c. search needs) cast-x (λ c. search needs) cast-y returns-2
-    (λ c. search needs) (λ c. search needs) returns-3 (λ c κs. search needs) (λ c. search needs) stands-at-requires same-length returns-4 add-replace
-    (λ c. search needs) replace-requires same-length-2 returns-5)
+    tie.close (tie.spec (λ c. search needs) returns (λ c κs. search needs) (λ c κs. search needs) (λ c. search needs) cast-x (λ c. search needs) cast-y
+    returns-2 (λ c. search needs) (λ c. search needs) returns-3 (λ c κs. search needs) (λ c. search needs) stands-at-requires same-length returns-4
+    add-replace (λ c. search needs) replace-requires same-length-2 returns-5)

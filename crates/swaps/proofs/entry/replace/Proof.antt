@@ -49,5 +49,5 @@ returns-2 c =
 
 pub replace-spec : {M : Type 1} → statement M
 replace-spec =
-    tie.close
-    (tie.spec (λ c. search needs) (λ c. search needs) (λ c. search needs) returns (λ c. search needs) sub-start (λ c κs. search needs) same-length returns-2)
+    tie.close (tie.spec (λ c. search needs) (λ c. search needs) (λ c. search needs) returns (λ c. search needs) sub-start (λ c κs. search needs) same-length
+    returns-2)

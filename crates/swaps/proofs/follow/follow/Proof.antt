@@ -156,6 +156,5 @@ returns-3 c =
 
 pub follow-spec : {M : Type 1} → statement M
 follow-spec =
-    tie.close
-    (tie.spec Inv-loop μ-loop loop-holds (λ c. omega arith) entry-at-requires apply-requires (λ c. search needs) (λ c. search needs) returns
+    tie.close (tie.spec Inv-loop μ-loop loop-holds (λ c. omega arith) entry-at-requires apply-requires (λ c. search needs) (λ c. search needs) returns
     (λ c. search needs) (λ c. search needs) returns-2 (λ c. search needs) add-i (λ c. omega arith) loop-again (λ c. search needs) returns-3)

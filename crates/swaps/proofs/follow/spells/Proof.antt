@@ -106,6 +106,5 @@ returns-3 c =
 
 pub spells-spec : {M : Type 1} → statement M
 spells-spec =
-    tie.close
-    (tie.spec Inv-loop μ-loop returns letter-width-requires (λ c. search needs) loop-holds (λ c. omega arith) letter-at-requires returns-2
+    tie.close (tie.spec Inv-loop μ-loop returns letter-width-requires (λ c. search needs) loop-holds (λ c. omega arith) letter-at-requires returns-2
     (λ c. omega arith) (λ c. omega arith) loop-again returns-3)

@@ -30,6 +30,5 @@ returns c = carried-at (omega arith) (c .before .loop .inv .0)
 
 pub toward-end-spec : {M : Type 1} → statement M
 toward-end-spec =
-    tie.close
-    (tie.spec Inv-loop μ-loop loop-holds (λ c. omega arith) (λ c. omega arith) (λ c. omega arith) (λ c. omega arith) (λ c. omega arith) loop-again
+    tie.close (tie.spec Inv-loop μ-loop loop-holds (λ c. omega arith) (λ c. omega arith) (λ c. omega arith) (λ c. omega arith) (λ c. omega arith) loop-again
     same-length returns)

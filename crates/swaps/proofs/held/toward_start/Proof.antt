@@ -29,6 +29,5 @@ returns c = carried-at (omega arith) (c .before .loop .inv .0)
 
 pub toward-start-spec : {M : Type 1} → statement M
 toward-start-spec =
-    tie.close
-    (tie.spec Inv-loop μ-loop loop-holds (λ c. omega arith) (λ c. omega arith) (λ c. omega arith) (λ c. omega arith) (λ c. omega arith) loop-again
+    tie.close (tie.spec Inv-loop μ-loop loop-holds (λ c. omega arith) (λ c. omega arith) (λ c. omega arith) (λ c. omega arith) (λ c. omega arith) loop-again
     same-length returns)

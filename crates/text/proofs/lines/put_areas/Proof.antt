@@ -49,6 +49,5 @@ returns c =
 
 pub put-areas-spec : {M : Type 1} → statement M
 put-areas-spec =
-    tie.close
-    (tie.spec (λ c. search needs) slice-aggregate-put-answer slice-aggregate-put-answer-2 (λ c. search needs) (λ c. search needs) (λ c. search needs)
-    put-answer-requires (λ c. search needs) returns)
+    tie.close (tie.spec (λ c. search needs) slice-aggregate-put-answer slice-aggregate-put-answer-2 (λ c. search needs) (λ c. search needs)
+    (λ c. search needs) put-answer-requires (λ c. search needs) returns)

@@ -8,6 +8,4 @@ returns : tie.Need-returns
 returns c = put-set (c .args .out .now) (c .args .at) (c .args .byte) (c .pre)
 
 pub put-byte-spec : {M : Type 1} → statement M
-put-byte-spec =
-    tie.close
-    (tie.spec (λ c. search needs) (λ c. search needs) (λ c. search needs) returns)
+put-byte-spec = tie.close (tie.spec (λ c. search needs) (λ c. search needs) (λ c. search needs) returns)

@@ -23,6 +23,4 @@ returns-2 c =
     put-as (omega arith) (digit-some (s .args .power) (s .args .x) (k .before .before .if1 .left)) (c .before .before .put-byte .ensures)
 
 pub put-digit-spec : {M : Type 1} → statement M
-put-digit-spec =
-    tie.close
-    (tie.spec returns (λ c. search needs) (λ c. search needs) (λ c. search needs) (λ c κs. search needs) (λ c. search needs) returns-2)
+put-digit-spec = tie.close (tie.spec returns (λ c. search needs) (λ c. search needs) (λ c. search needs) (λ c κs. search needs) (λ c. search needs) returns-2)

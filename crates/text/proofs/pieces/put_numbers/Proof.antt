@@ -54,6 +54,5 @@ returns c =
 
 pub put-numbers-spec : {M : Type 1} → statement M
 put-numbers-spec =
-    tie.close
-    (tie.spec Inv-loop μ-loop loop-holds (λ c. omega arith) cast-put-spaced put-spaced-requires (λ c. omega arith) (λ c. omega arith) loop-again same-length
-    returns)
+    tie.close (tie.spec Inv-loop μ-loop loop-holds (λ c. omega arith) cast-put-spaced put-spaced-requires (λ c. omega arith) (λ c. omega arith) loop-again
+    same-length returns)

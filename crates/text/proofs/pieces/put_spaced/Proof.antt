@@ -11,6 +11,4 @@ returns : tie.Need-returns
 returns c = after-put-number-arg (c .before .before) .before .before .before .put-byte .ensures then c .before .before .put-number .ensures
 
 pub put-spaced-spec : {M : Type 1} → statement M
-put-spaced-spec =
-    tie.close
-    (tie.spec (λ c κs. search needs) (λ c κs. search needs) (λ c. search needs) returns)
+put-spaced-spec = tie.close (tie.spec (λ c κs. search needs) (λ c κs. search needs) (λ c. search needs) returns)

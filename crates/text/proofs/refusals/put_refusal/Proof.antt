@@ -33,6 +33,5 @@ returns c =
 
 pub put-refusal-spec : {M : Type 1} → statement M
 put-refusal-spec =
-    tie.close
-    (tie.spec (λ c κs. search needs) (λ c. search needs) (λ c. search needs) slice-aggregate-put-numbers-line-2 put-numbers-line-requires
+    tie.close (tie.spec (λ c κs. search needs) (λ c. search needs) (λ c. search needs) slice-aggregate-put-numbers-line-2 put-numbers-line-requires
     (λ c. search needs) returns)

@@ -44,6 +44,5 @@ returns c =
 
 pub render-spec : {M : Type 1} → statement M
 render-spec =
-    tie.close
-    (tie.spec (λ c. search needs) read-table-program-requires (λ c. search needs) (λ c κs. search needs) (λ c. search needs) render-accepted-requires
-    (λ c. search needs) returns (λ c. search needs) (λ c. search needs) (λ c. search needs) (λ c. search needs))
+    tie.close (tie.spec (λ c. search needs) read-table-program-requires (λ c. search needs) (λ c κs. search needs) (λ c. search needs)
+    render-accepted-requires (λ c. search needs) returns (λ c. search needs) (λ c. search needs) (λ c. search needs) (λ c. search needs))

@@ -46,7 +46,8 @@ put-areas-requires c κs =
     let told = sym (ap reversed (g .1)) ∙ v .ensures .stated in
     let same : length (v .last .1 .1 .1 .1 .0) ≡ length a = k .before .before .before .answer .given in
     let fits = fraction-fits (s .args .table .now) (s .args .program .now) (s .args .size) (s .args .count) (s .pre .1) (length w) (length a)
-    (s .pre .0 .workspace-length) (s .pre .0 .answer-length) (g .0 .0) (g .0 .1 .0) (g .0 .1 .1 .0) told a (v .last .1 .1 .1 .1 .0) (v .ensures .answer-is) same in
+    (s .pre .0 .workspace-length) (s .pre .0 .answer-length) (g .0 .0) (g .0 .1 .0) (g .0 .1 .1 .0) told a (v .last .1 .1 .1 .1 .0)
+    (v .ensures .answer-is) same in
     let few = count-small (s .args .program .now) (s .args .size) (s .args .count) (s .pre .1 .program-read) in
     let u = after-slice-known7 c .before .before .unpack-letters .ensures .0 in (
       omega (arith, few, u, after-workspace k .workspace .given, s .pre .0 .workspace-length),
@@ -77,7 +78,8 @@ returns-2 c =
     let told = sym (ap reversed (g .1)) ∙ v .ensures .stated in
     let same : length (v .last .1 .1 .1 .1 .0) ≡ length a = k .before .before .before .answer .given in
     let fits = fraction-fits (s .args .table .now) (s .args .program .now) (s .args .size) (s .args .count) (s .pre .1) (length w) (length a)
-    (s .pre .0 .workspace-length) (s .pre .0 .answer-length) (g .0 .0) (g .0 .1 .0) (g .0 .1 .1 .0) told a (v .last .1 .1 .1 .1 .0) (v .ensures .answer-is) same in
+    (s .pre .0 .workspace-length) (s .pre .0 .answer-length) (g .0 .0) (g .0 .1 .0) (g .0 .1 .1 .0) told a (v .last .1 .1 .1 .1 .0)
+    (v .ensures .answer-is) same in
     let few = count-small (s .args .program .now) (s .args .size) (s .args .count) (s .pre .1 .program-read) in
     let u = after-slice-known7 (c .before .before .before) .before .before .unpack-letters in
     reported (c .before .before .put-areas .ensures) (omega (arith, few, fits, same, s .pre .0 .answer-length, s .pre .0 .room))
@@ -87,6 +89,5 @@ returns-2 c =
 
 pub render-accepted-spec : {M : Type 1} → statement M
 render-accepted-spec =
-    tie.close
-    (tie.spec (λ c κs. search needs) (λ c. search needs) (λ c κs. search needs) (λ c. search needs) unpack-letters-requires put-areas-requires
+    tie.close (tie.spec (λ c κs. search needs) (λ c. search needs) (λ c κs. search needs) (λ c. search needs) unpack-letters-requires put-areas-requires
     (λ c. search needs) (λ c. search needs) (λ c. search needs) returns (λ c. search needs) (λ c. search needs) (λ c. search needs) returns-2)

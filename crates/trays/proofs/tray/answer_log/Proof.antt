@@ -13,41 +13,24 @@ use borrow.Author.Needs.{needs}
 use Rattle.trays.proofs.tray.answer_log.Statement.{statement}
 use Rattle.trays.proofs.tray.answer_log.Tie as tie
 
-add-start : tie.Need-add-start
-add-start c = search needs
+abbrev start-from-after-compare-log : tie.After-compare-log → tie.Start
+start-from-after-compare-log c = c .before .before .before .before .before .before .before .before .before
 
-log-length-requires : tie.Need-log-length-requires
-log-length-requires c κs = search needs
-
-add-end : tie.Need-add-end
-add-end c = search needs
-
-sub-compare-log : tie.Need-sub-compare-log
-sub-compare-log c = search needs
-
-part-compare-log-start : tie.Need-part-compare-log-start
-part-compare-log-start c = search needs
-
-part-compare-log-end : tie.Need-part-compare-log-end
-part-compare-log-end c = search needs
-
-compare-log-requires : tie.Need-compare-log-requires
-compare-log-requires c κs = search needs
-
-write-answer-requires : tie.Need-write-answer-requires
-write-answer-requires c κs = search needs
+abbrev after-compare-log : tie.After-write-answer → tie.After-compare-log
+after-compare-log c = c .before .before .before .before
 
 same-length : tie.Need-same-length
-same-length c = c .before .before .before .before .before .before .compare-log .kept .1 .1 .1 .1 .1 .1 .1 .0
+same-length c = after-compare-log (c .before .before) .compare-log .kept .1 .1 .1 .1 .1 .1 .1 .0
 
 same-length-2 : tie.Need-same-length-2
 same-length-2 c = c .before .before .write-answer .kept .0
 
 returns : tie.Need-returns
 returns c =
-    let s = c .before .before .before .before .before .before .before .before .before .before .before .before .before .before .before in
-    let l = c .before .before .before .before .before .before .before .before .before .log-length in
-    let x = c .before .before .before .before .before .before .compare-log in
+    let j = after-compare-log (c .before .before) in
+    let s = start-from-after-compare-log j in
+    let l = j .before .before .before .log-length in
+    let x = j .compare-log in
     let w = c .before .before .write-answer in
     let start = s .args .at + 2 in
     let bytes : start + l .result - start ≡ lengthAt (s .args .tray .now) (s .args .at) = omega (arith, l .ensures) in
@@ -58,21 +41,11 @@ returns c =
       answer = λ T o v e.
           w .ensures
           ∙ ap (λ q. written (s .args .answer .now) (s .args .place) (logBytes q))
-          (x .ensures .verdict T o v e ∙ ap (λ k. logVerdict (s .args .size) T v (s .args .budget) (length (s .args .workspace .now)) (take k (drop start (s .args .tray .now)))) bytes);
+          (x .ensures .verdict T o v e
+          ∙ ap (λ k. logVerdict (s .args .size) T v (s .args .budget) (length (s .args .workspace .now)) (take k (drop start (s .args .tray .now)))) bytes);
     }
 
 pub answer-log-spec : {M : Type 1} → statement M
 answer-log-spec =
-    tie.close
-    (tie.spec
-    add-start
-    log-length-requires
-    add-end
-    sub-compare-log
-    part-compare-log-start
-    part-compare-log-end
-    compare-log-requires
-    write-answer-requires
-    same-length
-    same-length-2
-    returns)
+    tie.close (tie.spec (λ c. search needs) (λ c κs. search needs) (λ c. search needs) (λ c. search needs) (λ c. search needs) (λ c. search needs)
+    (λ c κs. search needs) (λ c κs. search needs) same-length same-length-2 returns)

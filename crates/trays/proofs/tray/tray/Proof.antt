@@ -9,57 +9,55 @@ use borrow.Author.Needs.{needs}
 use Rattle.trays.proofs.tray.tray.Statement.{statement}
 use Rattle.trays.proofs.tray.tray.Tie as tie
 
-read-tray-requires : tie.Need-read-tray-requires
-read-tray-requires c κs = search needs
+abbrev start : tie.After-read-tray → tie.Start
+start c = c .before .before .before .before .before .before
 
-enum-told : tie.Need-enum-told
-enum-told c = search needs
+abbrev after-read-tray : tie.After-read → tie.After-read-tray
+after-read-tray c = c .before .before
 
-enum-told-2 : tie.Need-enum-told-2
-enum-told-2 c = search needs
+abbrev after-read : tie.After-workspace → tie.After-read
+after-read c = c .before .before .before .before .before
 
-enum-known-read : tie.Need-enum-known-read
-enum-known-read c = search needs
+abbrev after-workspace : tie.After-answer → tie.After-workspace
+after-workspace c = c .before .before
 
 tray-under-requires : tie.Need-tray-under-requires
-tray-under-requires c κs = subst (TrayDone (c .before .before .before .before .before .before .before .before .before .before .before .args .tray .now)) (c .before .before .before .read .given .1) (c .before .before .before .before .before .read-tray .ensures)
+tray-under-requires c κs =
+    let k = after-read-tray (c .before .before .before) in
+    subst (TrayDone (start k .args .tray .now)) (c .before .before .before .read .given .1) (k .read-tray .ensures)
 
 returns : tie.Need-returns
 returns c =
-    let s = c .before .before .before .before .before .before .before .before in
-    promised (s .args .table .now) (s .args .tray .now) (s .args .pattern .now) (s .args .allowance) (s .args .workspace .now) _ (s .args .answer .now) _ (Refused TooManyLogs)
+    let s = start (c .before .before) in
+    promised (s .args .table .now) (s .args .tray .now) (s .args .pattern .now) (s .args .allowance) (s .args .workspace .now) _ (s .args .answer .now) _
+    (Refused TooManyLogs)
     (logs-too-many (s .args .table .now) (s .args .tray .now) (s .args .pattern .now) (s .args .allowance) (s .args .workspace .now) (s .args .answer .now)
-    (no-tray (s .args .table .now) (s .args .tray .now) (s .args .pattern .now) (s .args .allowance) (length (s .args .workspace .now)) (length (s .args .answer .now)) TooManyLogs (subst (TrayDone (s .args .tray .now)) (c .enum-told .given .1) (c .before .before .read-tray .ensures))))
+    (no-tray (s .args .table .now) (s .args .tray .now) (s .args .pattern .now) (s .args .allowance) (length (s .args .workspace .now))
+    (length (s .args .answer .now)) TooManyLogs (subst (TrayDone (s .args .tray .now)) (c .enum-told .given .1) (c .before .before .read-tray .ensures))))
 
 returns-2 : tie.Need-returns-2
 returns-2 c =
-    let s = c .before .before .before .before .before .before .before .before in
-    promised (s .args .table .now) (s .args .tray .now) (s .args .pattern .now) (s .args .allowance) (s .args .workspace .now) _ (s .args .answer .now) _ (Refused NotTray)
+    let s = start (c .before .before) in
+    promised (s .args .table .now) (s .args .tray .now) (s .args .pattern .now) (s .args .allowance) (s .args .workspace .now) _ (s .args .answer .now) _
+    (Refused NotTray)
     (tray-broken (s .args .table .now) (s .args .tray .now) (s .args .pattern .now) (s .args .allowance) (s .args .workspace .now) (s .args .answer .now)
-    (no-tray (s .args .table .now) (s .args .tray .now) (s .args .pattern .now) (s .args .allowance) (length (s .args .workspace .now)) (length (s .args .answer .now)) NotTray (subst (TrayDone (s .args .tray .now)) (c .enum-told2 .given .1) (c .before .before .read-tray .ensures))))
+    (no-tray (s .args .table .now) (s .args .tray .now) (s .args .pattern .now) (s .args .allowance) (length (s .args .workspace .now))
+    (length (s .args .answer .now)) NotTray (subst (TrayDone (s .args .tray .now)) (c .enum-told2 .given .1) (c .before .before .read-tray .ensures))))
 
 same-length : tie.Need-same-length
-same-length c = c .before .before .before .before .tray-under .kept .1 .1 .1 .1 .1 .0
+same-length c = after-workspace (c .before) .before .tray-under .kept .1 .1 .1 .1 .1 .0
 
 same-length-2 : tie.Need-same-length-2
-same-length-2 c = c .before .before .before .before .tray-under .kept .1 .1 .1 .1 .1 .1 .0
+same-length-2 c = after-workspace (c .before) .before .tray-under .kept .1 .1 .1 .1 .1 .1 .0
 
 returns-3 : tie.Need-returns-3
 returns-3 c =
-    let s = c .before .before .before .before .before .before .before .before .before .before .before .before .before .before .before .before in
-    promised (s .args .table .now) (s .args .tray .now) (s .args .pattern .now) (s .args .allowance) (s .args .workspace .now) _ (s .args .answer .now) _ (c .before .before .before .before .tray-under .result) (c .before .before .before .before .tray-under .ensures)
+    let k = after-workspace (c .before) in
+    let s = start (after-read-tray (after-read k)) in
+    promised (s .args .table .now) (s .args .tray .now) (s .args .pattern .now) (s .args .allowance) (s .args .workspace .now) _ (s .args .answer .now) _
+    (k .before .tray-under .result) (k .before .tray-under .ensures)
 
 pub tray-spec : {M : Type 1} → statement M
 tray-spec =
-    tie.close
-    (tie.spec
-    read-tray-requires
-    enum-told
-    enum-told-2
-    enum-known-read
-    tray-under-requires
-    returns
-    returns-2
-    same-length
-    same-length-2
-    returns-3)
+    tie.close (tie.spec (λ c κs. search needs) (λ c. search needs) (λ c. search needs) (λ c. search needs) tray-under-requires returns returns-2 same-length
+    same-length-2 returns-3)

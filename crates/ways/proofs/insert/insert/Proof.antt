@@ -10,54 +10,42 @@ use Rattle.ways.proofs.Inserting.{atWord, insert-readable, insert-apart
 use Rattle.ways.proofs.insert.insert.Statement.{statement}
 use Rattle.ways.proofs.insert.insert.Tie as tie
 
-add-count : tie.Need-add-count
-add-count c = search needs
+abbrev start : tie.After-moved-on → tie.Start
+start c = c .before .before .before .before .before .before .before .before .before
 
-add-count-2 : tie.Need-add-count-2
-add-count-2 c = search needs
-
-add-count-3 : tie.Need-add-count-3
-add-count-3 c = search needs
-
-shift-requires : tie.Need-shift-requires
-shift-requires c κs = search needs
-
-moved-on-requires : tie.Need-moved-on-requires
-moved-on-requires c κs = search needs
+abbrev after-moved-on : tie.After-write-word-arg → tie.After-moved-on
+after-moved-on c = c .before
 
 write-word-requires : tie.Need-write-word-requires
 write-word-requires c κs =
-    let s = c .before .before .before .before .before .before .before .before .before .before in
-    let area = c .before .before .before .before .shift .last .0 in
-    let sh = c .before .before .before .before .shift .ensures in
+    let k = after-moved-on c in
+    let s = start k in
+    let area = k .before .before .before .shift .last .0 in
+    let sh = k .before .before .before .shift .ensures in
     let e = sym (c .before .moved-on .ensures) in (
       subst (λ w. Readable area (s .args .cells .now) (atWord (s .args .swap) w)) e
-          (insert-readable (s .args .area .now) (s .args .cells .now) (s .args .swap) (s .args .at) (s .args .used) (s .pre .0) (s .pre .1) (s .pre .2) area sh),
+          (insert-readable (s .args .area .now) (s .args .cells .now) (s .args .swap) (s .args .at) (s .args .used) (s .pre .0) (s .pre .1)
+          (s .pre .2) area sh),
       subst (λ w. Apart (atWord (s .args .swap) w) (s .args .at)) e
           (insert-apart (s .args .area .now) (s .args .cells .now) (s .args .swap) (s .args .at) (s .args .used) (s .pre .0) (s .pre .1) (s .pre .2) area sh),
       omega (arith, s .pre .2, s .pre .1 .place, sh .same-length),
     )
 
 same-length : tie.Need-same-length
-same-length c = c .before .before .write-word .kept .0 ∙ c .before .before .before .before .before .before .before .shift .kept .0
+same-length c = c .before .before .write-word .kept .0 ∙ after-moved-on (c .before .before .before) .before .before .before .shift .kept .0
 
 returns : tie.Need-returns
 returns c =
-    let s = c .before .before .before .before .before .before .before .before .before .before .before .before .before in
-    let area = c .before .before .before .before .before .before .before .shift .last .0 in
-    let sh = c .before .before .before .before .before .before .before .shift .ensures in
-    insert-opened (s .args .area .now) (s .args .cells .now) (s .args .swap) (s .args .at) (s .args .used) (s .pre .0) (s .pre .1) (s .pre .2) area sh (c .before .before .write-word .last .0)
-    (subst (λ w. Put area (s .args .at) (newWord area (s .args .cells .now) (atWord (s .args .swap) w) ++ (untried ∷ [])) (c .before .before .write-word .last .0)) (c .before .before .before .before .moved-on .ensures) (c .before .before .write-word .ensures))
+    let k = after-moved-on (c .before .before .before) in
+    let s = start k in
+    let area = k .before .before .before .shift .last .0 in
+    let sh = k .before .before .before .shift .ensures in
+    insert-opened (s .args .area .now) (s .args .cells .now) (s .args .swap) (s .args .at) (s .args .used) (s .pre .0) (s .pre .1) (s .pre .2) area sh
+    (c .before .before .write-word .last .0)
+    (subst (λ w. Put area (s .args .at) (newWord area (s .args .cells .now) (atWord (s .args .swap) w) ++ (untried ∷ []))
+    (c .before .before .write-word .last .0)) (k .moved-on .ensures) (c .before .before .write-word .ensures))
 
 pub insert-spec : {M : Type 1} → statement M
 insert-spec =
-    tie.close
-    (tie.spec
-    add-count
-    add-count-2
-    add-count-3
-    shift-requires
-    moved-on-requires
-    write-word-requires
-    same-length
-    returns)
+    tie.close (tie.spec (λ c. search needs) (λ c. search needs) (λ c. search needs) (λ c κs. search needs) (λ c κs. search needs) write-word-requires
+    same-length returns)

@@ -10,13 +10,10 @@ returns c =
     let s = c .before in
     sym (moved-before (s .args .byte) (s .args .at) (s .args .by) (c .if1 .taken))
 
-add-result : tie.Need-add-result
-add-result c = search needs
-
 returns-2 : tie.Need-returns-2
 returns-2 c =
     let s = c .before in
     sym (moved-after (s .args .byte) (s .args .at) (s .args .by) (c .if1 .left))
 
 pub moved-on-spec : {M : Type 1} → statement M
-moved-on-spec = tie.close (tie.spec returns add-result returns-2)
+moved-on-spec = tie.close (tie.spec returns (λ c. search needs) returns-2)

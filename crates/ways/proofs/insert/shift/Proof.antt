@@ -16,34 +16,14 @@ abbrev μ-loop : tie.MeasureT-loop
 loop-holds : tie.Need-loop-holds Inv-loop μ-loop
 loop-holds c = (c .pre .0, omega arith, shift-begun (c .args .area .now) (c .args .at) (c .args .used) (c .args .by) (c .pre .1), refl)
 
-sub-area : tie.Need-sub-area Inv-loop μ-loop
-sub-area c = omega arith
-
-slice-read-area : tie.Need-slice-read-area Inv-loop μ-loop
-slice-read-area c = omega arith
-
-sub-area-2 : tie.Need-sub-area-2 Inv-loop μ-loop
-sub-area-2 c = omega arith
-
-add-area : tie.Need-add-area Inv-loop μ-loop
-add-area c = omega arith
-
-slice-write-area : tie.Need-slice-write-area Inv-loop μ-loop
-slice-write-area c = omega arith
-
-sub-end : tie.Need-sub-end Inv-loop μ-loop
-sub-end c = omega arith
-
-loop-less : tie.Need-loop-less Inv-loop μ-loop
-loop-less c = omega arith
-
 loop-again : tie.Need-loop-again Inv-loop μ-loop
 loop-again c =
     let s = c .before .before .before in
     let l = c .before .before .loop in (
       omega (arith, c .before .loop-test .taken),
       omega (arith, l .inv .1),
-      shift-more (s .args .area .now) (s .args .at) (s .args .used) (s .args .by) (s .pre .1) (l .end) (l .area) (omega (arith, c .before .loop-test .taken)) (l .inv .1) (l .inv .2),
+      shift-more (s .args .area .now) (s .args .at) (s .args .used) (s .args .by) (s .pre .1) (l .end) (l .area) (omega (arith, c .before .loop-test .taken))
+          (l .inv .1) (l .inv .2),
       simp length-set (l .inv .3),
     )
 
@@ -58,18 +38,5 @@ returns c =
 
 pub shift-spec : {M : Type 1} → statement M
 shift-spec =
-    tie.close
-    (tie.spec
-    Inv-loop
-    μ-loop
-    loop-holds
-    sub-area
-    slice-read-area
-    sub-area-2
-    add-area
-    slice-write-area
-    sub-end
-    loop-less
-    loop-again
-    same-length
-    returns)
+    tie.close (tie.spec Inv-loop μ-loop loop-holds (λ c. omega arith) (λ c. omega arith) (λ c. omega arith) (λ c. omega arith) (λ c. omega arith)
+    (λ c. omega arith) (λ c. omega arith) loop-again same-length returns)

@@ -16,63 +16,68 @@ Inv-loop area₀ cells swap at letters i₀ area i =
 abbrev μ-loop : tie.MeasureT-loop
 μ-loop area₀ cells swap at letters i₀ area i = letters - i
 
+abbrev start : tie.After-struct-known2 Inv-loop μ-loop → tie.Start Inv-loop μ-loop
+start c = c .before .before .before .before
+
+abbrev after-struct-known2 : tie.At-loop Inv-loop μ-loop → tie.After-struct-known2 Inv-loop μ-loop
+after-struct-known2 c = c .before
+
 add-letters : tie.Need-add-letters Inv-loop μ-loop
 add-letters c = let s = c .before .before .before in omega (arith, s .pre .0 .inside, s .pre .0 .few)
 
 add-letters-2 : tie.Need-add-letters-2 Inv-loop μ-loop
-add-letters-2 c = let s = c .before .before .before .before in omega (arith, s .pre .0 .inside, s .pre .0 .few)
+add-letters-2 c = let s = start c in omega (arith, s .pre .0 .inside, s .pre .0 .few)
 
 loop-holds : tie.Need-loop-holds Inv-loop μ-loop
 loop-holds c =
-    let s = c .before .before .before .before in
+    let s = start c in
     (refl, omega arith, write-begun (s .args .area .now) (s .args .at) (newWord (s .args .area .now) (s .args .cells .now) (s .args .swap)), refl)
 
 new-letter-requires : tie.Need-new-letter-requires Inv-loop μ-loop
 new-letter-requires c κs =
-    let s = c .before .before .before .before .before .before .before in
-    let l = c .before .before .loop in
-    (readable-kept (s .args .area .now) (l .area) (s .args .cells .now) (s .args .swap) (l .inv .3) (s .pre .0), omega (arith, c .before .loop-test .taken, l .inv .0))
+    let s = start (after-struct-known2 (c .before .before)) in
+    let l = c .before .before .loop in (
+      readable-kept (s .args .area .now) (l .area) (s .args .cells .now) (s .args .swap) (l .inv .3) (s .pre .0),
+      omega (arith, c .before .loop-test .taken, l .inv .0),
+    )
 
 add-area : tie.Need-add-area Inv-loop μ-loop
 add-area c =
-    let s = c .before .before .before .before .before .before .before .before in
+    let s = start (after-struct-known2 (c .before .before .before)) in
     let l = c .before .before .before .loop in
     omega (arith, s .pre .2, c .before .before .loop-test .taken, l .inv .0)
 
 slice-write-area : tie.Need-slice-write-area Inv-loop μ-loop
 slice-write-area c =
-    let s = c .before .before .before .before .before .before .before .before in
+    let s = start (after-struct-known2 (c .before .before .before)) in
     let l = c .before .before .before .loop in
     omega (arith, s .pre .2, c .before .before .loop-test .taken, l .inv .0, l .inv .3)
 
-add-i : tie.Need-add-i Inv-loop μ-loop
-add-i c = omega arith
-
-loop-less : tie.Need-loop-less Inv-loop μ-loop
-loop-less c = omega arith
-
 loop-again : tie.Need-loop-again Inv-loop μ-loop
 loop-again c =
-    let s = c .before .before .before .before .before .before .before .before in
+    let s = start (after-struct-known2 (c .before .before .before)) in
     let l = c .before .before .before .loop in
     let v = newWord (s .args .area .now) (s .args .cells .now) (s .args .swap) in (
       refl,
       omega (arith, c .before .before .loop-test .taken),
-      write-more (s .args .area .now) (s .args .at) v (l .i) (l .area) (c .new-letter .result) (omega (arith, s .pre .2, c .before .before .loop-test .taken, l .inv .0))
-          (c .new-letter .ensures ∙ ap (λ w. getD w (l .i) 0) (new-kept (s .args .area .now) (s .args .cells .now) (s .args .swap) (s .args .at) (l .i) v (l .area) (s .pre .0) (s .pre .1) (omega (arith, l .inv .1, l .inv .0)) (l .inv .2)))
+      write-more (s .args .area .now) (s .args .at) v (l .i) (l .area) (c .new-letter .result)
+          (omega (arith, s .pre .2, c .before .before .loop-test .taken, l .inv .0))
+          (c .new-letter .ensures ∙ ap (λ w. getD w (l .i) 0)
+          (new-kept (s .args .area .now) (s .args .cells .now) (s .args .swap) (s .args .at) (l .i) v (l .area) (s .pre .0) (s .pre .1)
+          (omega (arith, l .inv .1, l .inv .0)) (l .inv .2)))
           (l .inv .2),
       simp length-set (l .inv .3),
     )
 
 add-area-2 : tie.Need-add-area-2 Inv-loop μ-loop
 add-area-2 c =
-    let s = c .before .before .before .before .before .before in
+    let s = start (after-struct-known2 (c .before)) in
     let l = c .before .loop in
     omega (arith, s .pre .2)
 
 slice-write-area-2 : tie.Need-slice-write-area-2 Inv-loop μ-loop
 slice-write-area-2 c =
-    let s = c .before .before .before .before .before .before in
+    let s = start (after-struct-known2 (c .before)) in
     let l = c .before .loop in
     omega (arith, s .pre .2, l .inv .3)
 
@@ -81,7 +86,7 @@ same-length c = simp length-set (c .before .loop .inv .3)
 
 returns : tie.Need-returns Inv-loop μ-loop
 returns c =
-    let s = c .before .before .before .before .before .before in
+    let s = start (after-struct-known2 (c .before)) in
     let l = c .before .loop in
     let whole : l .i ≡ newLength (s .args .swap) = omega (arith, l .inv .0, l .inv .1, c .loop-test .left) in
     write-last (s .args .area .now) (s .args .at) (newWord (s .args .area .now) (s .args .cells .now) (s .args .swap)) (newLength (s .args .swap)) (l .area)
@@ -90,20 +95,5 @@ returns c =
 
 pub write-word-spec : {M : Type 1} → statement M
 write-word-spec =
-    tie.close
-    (tie.spec
-    Inv-loop
-    μ-loop
-    add-letters
-    add-letters-2
-    loop-holds
-    new-letter-requires
-    add-area
-    slice-write-area
-    add-i
-    loop-less
-    loop-again
-    add-area-2
-    slice-write-area-2
-    same-length
-    returns)
+    tie.close (tie.spec Inv-loop μ-loop add-letters add-letters-2 loop-holds new-letter-requires add-area slice-write-area (λ c. omega arith)
+    (λ c. omega arith) loop-again add-area-2 slice-write-area-2 same-length returns)

@@ -19,6 +19,27 @@ Inv-loop area₀ cells size first used₀ words₀ end₀ area used words end =
 abbrev μ-loop : tie.MeasureT-loop
 μ-loop area₀ cells size first used₀ words₀ end₀ area used words end = length area - words
 
+abbrev start : tie.After-first-untried Inv-loop μ-loop → tie.Start Inv-loop μ-loop
+start c = c .before .before .before .before
+
+abbrev after-first-untried : tie.In-loop Inv-loop μ-loop → tie.After-first-untried Inv-loop μ-loop
+after-first-untried c = c .before .before
+
+abbrev in-loop : tie.After-word-start Inv-loop μ-loop → tie.In-loop Inv-loop μ-loop
+in-loop c = c .before .before
+
+abbrev after-word-start : tie.After-area Inv-loop μ-loop → tie.After-word-start Inv-loop μ-loop
+after-word-start c = c .before .before .before
+
+abbrev after-area : tie.At-match-keys1 Inv-loop μ-loop → tie.After-area Inv-loop μ-loop
+after-area c = c .before .before
+
+abbrev after-area-from-after-known-told : tie.After-known-told Inv-loop μ-loop → tie.After-area Inv-loop μ-loop
+after-area-from-after-known-told c = c .before .before .before .before
+
+abbrev after-known-told : tie.After-struct-known Inv-loop μ-loop → tie.After-known-told Inv-loop μ-loop
+after-known-told c = c .before
+
 first-untried-requires : tie.Need-first-untried-requires Inv-loop μ-loop
 first-untried-requires c κs =
     let s = c .before .before .before in
@@ -26,7 +47,7 @@ first-untried-requires c κs =
 
 loop-holds : tie.Need-loop-holds Inv-loop μ-loop
 loop-holds c =
-    let s = c .before .before .before .before in
+    let s = start c in
     (s .pre .1 .1 .spells .fits, refl, c .first-untried .ensures, λ k t. t)
 
 word-start-requires : tie.Need-word-start-requires Inv-loop μ-loop
@@ -39,12 +60,14 @@ sub-letters c = omega (arith, c .word-start .ensures .before)
 
 try-word-requires : tie.Need-try-word-requires Inv-loop μ-loop
 try-word-requires c κs =
-    let s = c .before .before .before .before .before .before .before .before .before in
-    let l = c .before .before .before .before .loop in
+    let j = in-loop (c .before) in
+    let s = start (after-first-untried j) in
+    let l = j .before .loop in
     let k = s .pre .0 in
     let t = l .inv .3 k (s .pre .1) in (
       workOn k (next-word k (l .area) (l .used) (l .words) t (l .end) (c .before .before .before .loop-test .taken) (l .inv .2)) (l .words),
-      next-busy k (l .area) (l .used) (l .words) t (l .end) (c .before .before .before .loop-test .taken) (l .inv .2) (c .before .word-start .result) (c .before .word-start .ensures),
+      next-busy k (l .area) (l .used) (l .words) t (l .end) (c .before .before .before .loop-test .taken) (l .inv .2) (c .before .word-start .result)
+          (c .before .word-start .ensures),
     )
 
 enum-told : tie.Need-enum-told Inv-loop μ-loop
@@ -52,95 +75,111 @@ enum-told c = search needs
 
 same-length : tie.Need-same-length Inv-loop μ-loop
 same-length c =
-    let l = c .before .before .before .before .before .before .before .before .before .loop in
-    c .before .before .before .before .try-word .ensures .0 ∙ l .inv .1
+    let k = after-area (c .before) in
+    let l = in-loop (after-word-start k) .before .loop in
+    k .before .try-word .ensures .0 ∙ l .inv .1
 
 returns : tie.Need-returns Inv-loop μ-loop
 returns c =
-    let l = c .before .before .before .before .before .before .before .before .before .loop in (
-      c .before .before .before .before .try-word .ensures .0 ∙ l .inv .1,
+    let j = after-word-start (after-area (c .before)) in
+    let l = in-loop j .before .loop in (
+      after-area (c .before) .before .try-word .ensures .0 ∙ l .inv .1,
       λ k t₀.
           let t = l .inv .3 k t₀ in
-          let g = workOn k (next-word k (l .area) (l .used) (l .words) t (l .end) (c .before .before .before .before .before .before .before .before .loop-test .taken) (l .inv .2)) (l .words) in
-          let b = next-busy k (l .area) (l .used) (l .words) t (l .end) (c .before .before .before .before .before .before .before .before .loop-test .taken) (l .inv .2) (c .before .before .before .before .before .before .word-start .result) (c .before .before .before .before .before .before .word-start .ensures) in
-          subst (TriedMeans g (listOf b) Any (c .before .before .before .before .try-word .last .0)) (c .enum-told .given .1) (c .before .before .before .before .try-word .ensures .1 g b),
+          let g = workOn k (next-word k (l .area) (l .used) (l .words) t (l .end) (in-loop j .loop-test .taken) (l .inv .2)) (l .words) in
+          let b = next-busy k (l .area) (l .used) (l .words) t (l .end) (in-loop j .loop-test .taken) (l .inv .2) (j .word-start .result)
+          (j .word-start .ensures) in
+          subst (TriedMeans g (listOf b) Any (after-area (c .before) .before .try-word .last .0)) (c .enum-told .given .1)
+          (after-area (c .before) .before .try-word .ensures .1 g b),
     )
-
-enum-known-tried : tie.Need-enum-known-tried Inv-loop μ-loop
-enum-known-tried c = search needs
 
 add-mark : tie.Need-add-mark Inv-loop μ-loop
 add-mark c =
-    let s = c .before .before .before .before .before .before .before .before .before .before .before .before .before .before .before .before in
-    let l = c .before .before .before .before .before .before .before .before .before .before .before .loop in
+    let j = after-area-from-after-known-told (after-known-told c) in
+    let s = start (after-first-untried (in-loop (after-word-start j))) in
+    let l = in-loop (after-word-start j) .before .loop in
     let k = s .pre .0 in
     let t = l .inv .3 k (s .pre .1) in
-    let g = workOn k (next-word k (l .area) (l .used) (l .words) t (l .end) (c .before .before .before .before .before .before .before .before .before .before .loop-test .taken) (l .inv .2)) (l .words) in
-    let b = next-busy k (l .area) (l .used) (l .words) t (l .end) (c .before .before .before .before .before .before .before .before .before .before .loop-test .taken) (l .inv .2) (c .before .before .before .before .before .before .before .before .word-start .result) (c .before .before .before .before .before .before .before .before .word-start .ensures) in
-    let p = subst (TriedMeans g (listOf b) Any (c .before .before .before .before .before .before .try-word .last .0)) (c .before .before .tried .given .1) (c .before .before .before .before .before .before .try-word .ensures .1 g b) in
-    let i = busy-inside g (c .before .before .before .before .before .before .try-word .last .0) (c .before .before .tried .given .0 .0) (p .busy) in
+    let g = workOn k (next-word k (l .area) (l .used) (l .words) t (l .end) (in-loop (after-word-start j) .loop-test .taken) (l .inv .2)) (l .words) in
+    let b = next-busy k (l .area) (l .used) (l .words) t (l .end) (in-loop (after-word-start j) .loop-test .taken) (l .inv .2)
+    (after-word-start j .word-start .result) (after-word-start j .word-start .ensures) in
+    let p = subst (TriedMeans g (listOf b) Any (j .before .try-word .last .0)) (c .before .before .tried .given .1) (j .before .try-word .ensures .1 g b) in
+    let i = busy-inside g (j .before .try-word .last .0) (c .before .before .tried .given .0 .0) (p .busy) in
     omega (arith, i, p .busy .sound .spells .fits)
 
 slice-write-area : tie.Need-slice-write-area Inv-loop μ-loop
 slice-write-area c =
-    let s = c .before .before .before .before .before .before .before .before .before .before .before .before .before .before .before .before in
-    let l = c .before .before .before .before .before .before .before .before .before .before .before .loop in
+    let j = after-area-from-after-known-told (after-known-told c) in
+    let s = start (after-first-untried (in-loop (after-word-start j))) in
+    let l = in-loop (after-word-start j) .before .loop in
     let k = s .pre .0 in
     let t = l .inv .3 k (s .pre .1) in
-    let g = workOn k (next-word k (l .area) (l .used) (l .words) t (l .end) (c .before .before .before .before .before .before .before .before .before .before .loop-test .taken) (l .inv .2)) (l .words) in
-    let b = next-busy k (l .area) (l .used) (l .words) t (l .end) (c .before .before .before .before .before .before .before .before .before .before .loop-test .taken) (l .inv .2) (c .before .before .before .before .before .before .before .before .word-start .result) (c .before .before .before .before .before .before .before .before .word-start .ensures) in
-    let p = subst (TriedMeans g (listOf b) Any (c .before .before .before .before .before .before .try-word .last .0)) (c .before .before .tried .given .1) (c .before .before .before .before .before .before .try-word .ensures .1 g b) in
-    let i = busy-inside g (c .before .before .before .before .before .before .try-word .last .0) (c .before .before .tried .given .0 .0) (p .busy) in
+    let g = workOn k (next-word k (l .area) (l .used) (l .words) t (l .end) (in-loop (after-word-start j) .loop-test .taken) (l .inv .2)) (l .words) in
+    let b = next-busy k (l .area) (l .used) (l .words) t (l .end) (in-loop (after-word-start j) .loop-test .taken) (l .inv .2)
+    (after-word-start j .word-start .result) (after-word-start j .word-start .ensures) in
+    let p = subst (TriedMeans g (listOf b) Any (j .before .try-word .last .0)) (c .before .before .tried .given .1) (j .before .try-word .ensures .1 g b) in
+    let i = busy-inside g (j .before .try-word .last .0) (c .before .before .tried .given .0 .0) (p .busy) in
     omega (arith, i, p .busy .sound .spells .fits)
 
 add-words : tie.Need-add-words Inv-loop μ-loop
 add-words c =
-    let s = c .before .before .before .before .before .before .before .before .before .before .before .before .before .before .before .before in
-    let l = c .before .before .before .before .before .before .before .before .before .before .before .loop in
+    let j = in-loop (after-word-start (after-area-from-after-known-told (after-known-told c))) in
+    let s = start (after-first-untried j) in
+    let l = j .before .loop in
     let k = s .pre .0 in
     let t = l .inv .3 k (s .pre .1) in
-    omega (arith, next-count k (l .area) (l .used) (l .words) t (l .end) (c .before .before .before .before .before .before .before .before .before .before .loop-test .taken) (l .inv .2))
+    omega (arith, next-count k (l .area) (l .used) (l .words) t (l .end) (j .loop-test .taken) (l .inv .2))
 
 first-untried-requires-2 : tie.Need-first-untried-requires-2 Inv-loop μ-loop
 first-untried-requires-2 c κs =
-    let s = c .before .before .before .before .before .before .before .before .before .before .before .before .before .before .before .before .before in
-    let l = c .before .before .before .before .before .before .before .before .before .before .before .before .loop in
+    let j = after-area-from-after-known-told (after-known-told (c .before)) in
+    let s = start (after-first-untried (in-loop (after-word-start j))) in
+    let l = in-loop (after-word-start j) .before .loop in
     let k = s .pre .0 in
     let t = l .inv .3 k (s .pre .1) in
-    let g = workOn k (next-word k (l .area) (l .used) (l .words) t (l .end) (c .before .before .before .before .before .before .before .before .before .before .before .loop-test .taken) (l .inv .2)) (l .words) in
-    let b = next-busy k (l .area) (l .used) (l .words) t (l .end) (c .before .before .before .before .before .before .before .before .before .before .before .loop-test .taken) (l .inv .2) (c .before .before .before .before .before .before .before .before .before .word-start .result) (c .before .before .before .before .before .before .before .before .before .word-start .ensures) in
-    let p = subst (TriedMeans g (listOf b) Any (c .before .before .before .before .before .before .before .try-word .last .0)) (c .before .before .before .tried .given .1) (c .before .before .before .before .before .before .before .try-word .ensures .1 g b) in
-    let i = busy-inside g (c .before .before .before .before .before .before .before .try-word .last .0) (c .before .before .before .tried .given .0 .0) (p .busy) in
+    let g = workOn k (next-word k (l .area) (l .used) (l .words) t (l .end) (in-loop (after-word-start j) .loop-test .taken) (l .inv .2)) (l .words) in
+    let b = next-busy k (l .area) (l .used) (l .words) t (l .end) (in-loop (after-word-start j) .loop-test .taken) (l .inv .2)
+    (after-word-start j .word-start .result) (after-word-start j .word-start .ensures) in
+    let p = subst (TriedMeans g (listOf b) Any (j .before .try-word .last .0)) (c .before .before .before .tried .given .1)
+    (j .before .try-word .ensures .1 g b) in
+    let i = busy-inside g (j .before .try-word .last .0) (c .before .before .before .tried .given .0 .0) (p .busy) in
     simp length-set (omega (arith, p .busy .sound .spells .fits))
 
 loop-less : tie.Need-loop-less Inv-loop μ-loop
 loop-less c =
-    let s = c .before .before .before .before .before .before .before .before .before .before .before .before .before .before .before .before .before .before in
-    let l = c .before .before .before .before .before .before .before .before .before .before .before .before .before .loop in
+    let j = after-area-from-after-known-told (after-known-told (c .before .before)) in
+    let s = start (after-first-untried (in-loop (after-word-start j))) in
+    let l = in-loop (after-word-start j) .before .loop in
     let k = s .pre .0 in
     let t = l .inv .3 k (s .pre .1) in
-    let few = next-count k (l .area) (l .used) (l .words) t (l .end) (c .before .before .before .before .before .before .before .before .before .before .before .before .loop-test .taken) (l .inv .2) in
-    simp length-set (omega (arith, few, c .before .before .before .before .before .before .before .before .try-word .ensures .0))
+    let few = next-count k (l .area) (l .used) (l .words) t (l .end) (in-loop (after-word-start j) .loop-test .taken) (l .inv .2) in
+    simp length-set (omega (arith, few, j .before .try-word .ensures .0))
 
 loop-again : tie.Need-loop-again Inv-loop μ-loop
 loop-again c =
-    let s = c .before .before .before .before .before .before .before .before .before .before .before .before .before .before .before .before .before .before in
-    let l = c .before .before .before .before .before .before .before .before .before .before .before .before .before .loop in
+    let j = after-area-from-after-known-told (after-known-told (c .before .before)) in
+    let s = start (after-first-untried (in-loop (after-word-start j))) in
+    let l = in-loop (after-word-start j) .before .loop in
     let k = s .pre .0 in
     let t = l .inv .3 k (s .pre .1) in
-    let g = workOn k (next-word k (l .area) (l .used) (l .words) t (l .end) (c .before .before .before .before .before .before .before .before .before .before .before .before .loop-test .taken) (l .inv .2)) (l .words) in
-    let b = next-busy k (l .area) (l .used) (l .words) t (l .end) (c .before .before .before .before .before .before .before .before .before .before .before .before .loop-test .taken) (l .inv .2) (c .before .before .before .before .before .before .before .before .before .before .word-start .result) (c .before .before .before .before .before .before .before .before .before .before .word-start .ensures) in
-    let p = subst (TriedMeans g (listOf b) Any (c .before .before .before .before .before .before .before .before .try-word .last .0)) (c .before .before .before .before .tried .given .1) (c .before .before .before .before .before .before .before .before .try-word .ensures .1 g b) in
-    let i = busy-inside g (c .before .before .before .before .before .before .before .before .try-word .last .0) (c .before .before .before .before .tried .given .0 .0) (p .busy) in (
+    let g = workOn k (next-word k (l .area) (l .used) (l .words) t (l .end) (in-loop (after-word-start j) .loop-test .taken) (l .inv .2)) (l .words) in
+    let b = next-busy k (l .area) (l .used) (l .words) t (l .end) (in-loop (after-word-start j) .loop-test .taken) (l .inv .2)
+    (after-word-start j .word-start .result) (after-word-start j .word-start .ensures) in
+    let p = subst (TriedMeans g (listOf b) Any (j .before .try-word .last .0)) (after-known-told (c .before .before) .before .tried .given .1)
+    (j .before .try-word .ensures .1 g b) in
+    let i = busy-inside g (j .before .try-word .last .0) (after-known-told (c .before .before) .before .tried .given .0 .0) (p .busy) in (
       simp length-set (omega (arith, p .busy .sound .spells .fits)),
-      simp length-set (c .before .before .before .before .before .before .before .before .try-word .ensures .0 ∙ l .inv .1),
+      simp length-set (j .before .try-word .ensures .0 ∙ l .inv .1),
       c .first-untried2 .ensures,
       λ k t₀.
           let t = l .inv .3 k t₀ in
-          let g = workOn k (next-word k (l .area) (l .used) (l .words) t (l .end) (c .before .before .before .before .before .before .before .before .before .before .before .before .loop-test .taken) (l .inv .2)) (l .words) in
-          let b = next-busy k (l .area) (l .used) (l .words) t (l .end) (c .before .before .before .before .before .before .before .before .before .before .before .before .loop-test .taken) (l .inv .2) (c .before .before .before .before .before .before .before .before .before .before .word-start .result) (c .before .before .before .before .before .before .before .before .before .before .word-start .ensures) in
-          let p = subst (TriedMeans g (listOf b) Any (c .before .before .before .before .before .before .before .before .try-word .last .0)) (c .before .before .before .before .tried .given .1) (c .before .before .before .before .before .before .before .before .try-word .ensures .1 g b) in
-          next-state k (l .area) (l .used) (l .words) t (l .end) (c .before .before .before .before .before .before .before .before .before .before .before .before .loop-test .taken) (l .inv .2) (listOf b) (c .before .before .before .before .before .before .before .before .try-word .last .0) (c .before .before .before .before .tried .given .0 .0) p,
+          let g = workOn k (next-word k (l .area) (l .used) (l .words) t (l .end) (in-loop (after-word-start j) .loop-test .taken) (l .inv .2)) (l .words) in
+          let b = next-busy k (l .area) (l .used) (l .words) t (l .end) (in-loop (after-word-start j) .loop-test .taken) (l .inv .2)
+          (after-word-start j .word-start .result) (after-word-start j .word-start .ensures) in
+          let p = subst (TriedMeans g (listOf b) Any (j .before .try-word .last .0)) (after-known-told (c .before .before) .before .tried .given .1)
+          (j .before .try-word .ensures .1 g b) in
+          next-state k (l .area) (l .used) (l .words) t (l .end) (in-loop (after-word-start j) .loop-test .taken) (l .inv .2) (listOf b)
+          (j .before .try-word .last .0) (after-known-told (c .before .before) .before .tried .given .0 .0) p,
     )
 
 same-length-2 : tie.Need-same-length-2 Inv-loop μ-loop
@@ -157,24 +196,5 @@ returns-2 c =
 
 pub list-words-spec : {M : Type 1} → statement M
 list-words-spec =
-    tie.close
-    (tie.spec
-    Inv-loop
-    μ-loop
-    first-untried-requires
-    loop-holds
-    word-start-requires
-    sub-letters
-    try-word-requires
-    enum-told
-    same-length
-    returns
-    enum-known-tried
-    add-mark
-    slice-write-area
-    add-words
-    first-untried-requires-2
-    loop-less
-    loop-again
-    same-length-2
-    returns-2)
+    tie.close (tie.spec Inv-loop μ-loop first-untried-requires loop-holds word-start-requires sub-letters try-word-requires enum-told same-length returns
+    (λ c. search needs) add-mark slice-write-area add-words first-untried-requires-2 loop-less loop-again same-length-2 returns-2)

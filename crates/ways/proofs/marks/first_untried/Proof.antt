@@ -24,26 +24,20 @@ Inv-loop area used at₀ at = (at ≤ used) × ((i : ℕ) → i < at → getD ar
 abbrev μ-loop : tie.MeasureT-loop
 μ-loop area used at₀ at = used - at
 
+abbrev start : tie.At-loop Inv-loop μ-loop → tie.Start Inv-loop μ-loop
+start c = c .before
+
 loop-holds : tie.Need-loop-holds Inv-loop μ-loop
 loop-holds c = (omega arith, λ i h e. omega arith)
-
-shared-slice-read-if1 : tie.Need-shared-slice-read-if1 Inv-loop μ-loop
-shared-slice-read-if1 c = omega arith
 
 returns : tie.Need-returns Inv-loop μ-loop
 returns c =
     let l = c .before .before .before .loop in
     record { within = omega (arith, l .inv .0); tried = l .inv .1; marked = λ h. c .if1 .taken }
 
-add-at : tie.Need-add-at Inv-loop μ-loop
-add-at c = omega arith
-
-loop-less : tie.Need-loop-less Inv-loop μ-loop
-loop-less c = omega arith
-
 loop-again : tie.Need-loop-again Inv-loop μ-loop
 loop-again c =
-    let s = c .before .before .before .before in
+    let s = start (c .before .before .before) in
     let l = c .before .before .before .loop in
     (omega (arith, c .before .before .loop-test .taken), tried-more (s .args .area .now) (l .at) (c .if1 .left) (l .inv .1))
 
@@ -53,15 +47,4 @@ returns-2 c =
     record { within = l .inv .0; tried = l .inv .1; marked = λ h. absurd (omega (arith, c .loop-test .left)) }
 
 pub first-untried-spec : {M : Type 1} → statement M
-first-untried-spec =
-    tie.close
-    (tie.spec
-    Inv-loop
-    μ-loop
-    loop-holds
-    shared-slice-read-if1
-    returns
-    add-at
-    loop-less
-    loop-again
-    returns-2)
+first-untried-spec = tie.close (tie.spec Inv-loop μ-loop loop-holds (λ c. omega arith) returns (λ c. omega arith) (λ c. omega arith) loop-again returns-2)

@@ -8,6 +8,9 @@ use borrow.Author.Needs.{needs}
 use Rattle.writers.proofs.bit_writer.close.Statement.{statement}
 use Rattle.writers.proofs.bit_writer.close.Tie as tie
 
+abbrev start : tie.Else1 → tie.Start
+start c = c .before .before
+
 -- the shift loses no bit, and what it gives is a byte
 shifted : (c : tie.Start) → c .args .writer .bits * 2 ^ (8 - c .args .writer .held) % 4294967296 ≡ c .args .writer .bits * 2 ^ (8 - c .args .writer .held)
 shifted c = shl-exact (c .args .writer .held) (8 - c .args .writer .held) 32 (c .pre .small) (omega (arith, c .pre .few))
@@ -19,15 +22,9 @@ returns c =
 returns-2 : tie.Need-returns-2
 returns-2 c = record { none = λ e. refl; full = λ e. refl; filled = λ some inside. absurd (omega (arith, c .if2 .taken)) }
 
-sub-area : tie.Need-sub-area
-sub-area c = search needs
-
-shl-area : tie.Need-shl-area
-shl-area c = search needs
-
 cast-area : tie.Need-cast-area
 cast-area c =
-    let s = c .before .before .before .before .before in
+    let s = start (c .before .before .before) in
     let most : s .args .writer .bits * 2 ^ (8 - s .args .writer .held) < 2 ^ (s .args .writer .held + (8 - s .args .writer .held)) =
     shl-lt (s .args .writer .held) (8 - s .args .writer .held) (s .pre .small) in
     let all : 2 ^ (s .args .writer .held + (8 - s .args .writer .held)) ≡ 2 ^ 8 =
@@ -35,15 +32,9 @@ cast-area c =
     (omega (arith, s .pre .few)) in
     omega (arith, shifted s)
 
-slice-write-area : tie.Need-slice-write-area
-slice-write-area c = search needs
-
-same-length : tie.Need-same-length
-same-length c = search needs
-
 returns-3 : tie.Need-returns-3
 returns-3 c =
-    let s = c .before .before .before .before .before in
+    let s = start (c .before .before .before) in
     record {
       none = λ e. absurd (c .before .before .before .if1 .left e);
       full = λ e. absurd (c .before .before .if2 .left e);
@@ -51,6 +42,4 @@ returns-3 c =
     }
 
 pub close-spec : {M : Type 1} → statement M
-close-spec =
-    tie.close
-    (tie.spec returns returns-2 sub-area shl-area cast-area slice-write-area same-length returns-3)
+close-spec = tie.close (tie.spec returns returns-2 (λ c. search needs) (λ c. search needs) cast-area (λ c. search needs) (λ c. search needs) returns-3)

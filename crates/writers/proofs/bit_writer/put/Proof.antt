@@ -19,7 +19,8 @@ start c = c .before .before .before
 shifted : (c : tie.Start) → c .args .writer .bits * 2 ^ c .args .width % 4294967296 ≡ c .args .writer .bits * 2 ^ c .args .width
 shifted c = shl-exact (c .args .writer .held) (c .args .width) 32 (c .pre .0 .small) (omega (arith, c .pre .0 .few, c .pre .1))
 
-gathered : (c : tie.Start) → c .args .writer .bits * 2 ^ c .args .width % 4294967296 + c .args .value ≡ c .args .writer .bits * 2 ^ c .args .width + c .args .value
+gathered : (c : tie.Start)
+    → c .args .writer .bits * 2 ^ c .args .width % 4294967296 + c .args .value ≡ c .args .writer .bits * 2 ^ c .args .width + c .args .value
 gathered c = ap (λ n. n + c .args .value) (shifted c)
 
 few : (c : tie.Else1) → start c .args .writer .held + start c .args .width - 8 < 32
@@ -33,12 +34,6 @@ byte c =
     shr-lt 8 (s .args .writer .held + s .args .width - 8)
     (subst (λ n. s .args .writer .bits * 2 ^ s .args .width + s .args .value < 2 ^ n) many
     (gathered-small (s .args .area .now) (s .args .writer) (s .pre .0) (s .args .width) (s .args .value) (s .pre .1) (s .pre .2)))
-
-add-held : tie.Need-add-held
-add-held c = search needs
-
-shl-bits : tie.Need-shl-bits
-shl-bits c = search needs
 
 add-bits : tie.Need-add-bits
 add-bits c =
@@ -54,9 +49,6 @@ returns c =
     (sym (gathered s))
     (put-held (s .args .area .now) (s .args .writer) (s .pre .0) (s .args .width) (s .args .value) (s .pre .1) (s .pre .2) (omega (arith, c .if1 .taken)))
 
-shl-rest : tie.Need-shl-rest
-shl-rest c = search needs
-
 rem-rest : tie.Need-rem-rest
 rem-rest c = span-some (start c .args .writer .held + start c .args .width - 8) (few c)
 
@@ -66,27 +58,17 @@ returns-2 c =
     let s = start e in
     let left = s .args .writer .held + s .args .width - 8 in
     rw (gathered s, span left (few e))
-    (put-full (s .args .area .now) (s .args .writer) (s .pre .0) (s .args .width) (s .args .value) (s .pre .1) (s .pre .2) left (omega (arith, e .if1 .left)) (c .if2 .taken))
-
-shr-area : tie.Need-shr-area
-shr-area c = search needs
+    (put-full (s .args .area .now) (s .args .writer) (s .pre .0) (s .args .width) (s .args .value) (s .pre .1) (s .pre .2) left (omega (arith, e .if1 .left))
+    (c .if2 .taken))
 
 cast-area : tie.Need-cast-area
 cast-area c =
     let e = c .before in
     let s = start e in
-    let same : (s .args .writer .bits * 2 ^ s .args .width % 4294967296 + s .args .value) / 2 ^ (s .args .writer .held + s .args .width - 8) ≡ (s .args .writer .bits * 2 ^ s .args .width + s .args .value) / 2 ^ (s .args .writer .held + s .args .width - 8) =
+    let same : (s .args .writer .bits * 2 ^ s .args .width % 4294967296 + s .args .value) / 2 ^ (s .args .writer .held + s .args .width - 8)
+    ≡ (s .args .writer .bits * 2 ^ s .args .width + s .args .value) / 2 ^ (s .args .writer .held + s .args .width - 8) =
     ap (λ g. g / 2 ^ (s .args .writer .held + s .args .width - 8)) (gathered s) in
     omega (arith, same, byte e)
-
-slice-write-area : tie.Need-slice-write-area
-slice-write-area c = search needs
-
-add-t12 : tie.Need-add-t12
-add-t12 c = search needs
-
-same-length : tie.Need-same-length
-same-length c = search needs
 
 returns-3 : tie.Need-returns-3
 returns-3 c =
@@ -94,22 +76,10 @@ returns-3 c =
     let s = start e in
     let left = s .args .writer .held + s .args .width - 8 in
     rw (gathered s, span left (few e))
-    (put-byte (s .args .area .now) (s .args .writer) (s .pre .0) (s .args .width) (s .args .value) (s .pre .1) (s .pre .2) left (omega (arith, e .if1 .left)) (omega (arith, c .if2 .left, s .pre .0 .inside)))
+    (put-byte (s .args .area .now) (s .args .writer) (s .pre .0) (s .args .width) (s .args .value) (s .pre .1) (s .pre .2) left (omega (arith, e .if1 .left))
+    (omega (arith, c .if2 .left, s .pre .0 .inside)))
 
 pub put-spec : {M : Type 1} → statement M
 put-spec =
-    tie.close
-    (tie.spec
-    add-held
-    shl-bits
-    add-bits
-    returns
-    shl-rest
-    rem-rest
-    returns-2
-    shr-area
-    cast-area
-    slice-write-area
-    add-t12
-    same-length
-    returns-3)
+    tie.close (tie.spec (λ c. search needs) (λ c. search needs) add-bits returns (λ c. search needs) rem-rest returns-2 (λ c. search needs) cast-area
+    (λ c. search needs) (λ c. search needs) (λ c. search needs) returns-3)

@@ -26,14 +26,17 @@ told c = c .before
 abbrev last : tie.After-struct-known4 → tie.Else1
 last c = c .before .before .before .before
 
-first-byte : (c : tie.After-shared-slice-known2) → getD (start c .args .cells .now) (cellAt (start c .args .a) (start c .args .b)) 0 ≡ getD (start c .args .cells .now) (c .before .before .cell-at .result) 0
+first-byte : (c : tie.After-shared-slice-known2) → getD (start c .args .cells .now) (cellAt (start c .args .a) (start c .args .b)) 0 ≡ getD
+    (start c .args .cells .now) (c .before .before .cell-at .result) 0
 first-byte c = ap (λ i. getD (start c .args .cells .now) i 0) (sym (c .before .before .cell-at .ensures))
 
-second-byte : (c : tie.After-shared-slice-known2) → getD (start c .args .cells .now) (cellAt (start c .args .b) (start c .args .a)) 0 ≡ getD (start c .args .cells .now) (c .before .cell-at2 .result) 0
+second-byte : (c : tie.After-shared-slice-known2) → getD (start c .args .cells .now) (cellAt (start c .args .b) (start c .args .a)) 0 ≡ getD
+    (start c .args .cells .now) (c .before .cell-at2 .result) 0
 second-byte c = ap (λ i. getD (start c .args .cells .now) i 0) (sym (c .before .cell-at2 .ensures))
 
 -- the lengths of the two words of a pair that is not open
-words : (c : tie.Else1) (pair : Complement) → HoldsPair (start (told c) .args .size) (start (told c) .args .cells .now) (start (told c) .args .a) (start (told c) .args .b) pair
+words : (c : tie.Else1) (pair : Complement) → HoldsPair (start (told c) .args .size) (start (told c) .args .cells .now) (start (told c) .args .a)
+    (start (told c) .args .b) pair
     → (x : Positive)
     × (y : Positive)
     × (pair ≡ complement x y)
@@ -56,27 +59,17 @@ words c pair h =
 
 -- those of some pair that the cells hold
 counts : (c : tie.Else1)
-    → getD (start (told c) .args .cells .now) (told c .before .before .cell-at .result) 0 + getD (start (told c) .args .cells .now) (told c .before .cell-at2 .result) 0 ≤ 30
+    → getD (start (told c) .args .cells .now) (told c .before .before .cell-at .result) 0 + getD (start (told c) .args .cells .now)
+    (told c .before .cell-at2 .result) 0 ≤ 30
 counts c =
     let w = words c (start (told c) .pre .0 .pair) (start (told c) .pre .0 .holds) in
     omega (arith, w .3, w .4, w .5, w .6)
 
 letters-near : (c : tie.Else1)
-    → (getD (start (told c) .args .cells .now) (told c .before .before .cell-at .result) 0 + getD (start (told c) .args .cells .now) (told c .before .cell-at2 .result) 0)
+    → (getD (start (told c) .args .cells .now) (told c .before .before .cell-at .result) 0 + getD (start (told c) .args .cells .now)
+    (told c .before .cell-at2 .result) 0)
     * start (told c) .args .form .letters ≤ 240
 letters-near c = mul-le-mul {n₂ = 30} {m₂ = 8} (counts c) (start (told c) .pre .2 .letters-narrow)
-
-cell-at-requires : tie.Need-cell-at-requires
-cell-at-requires c κs = search needs
-
-cell-at-requires-2 : tie.Need-cell-at-requires-2
-cell-at-requires-2 c κs = search needs
-
-shared-slice-read-first : tie.Need-shared-slice-read-first
-shared-slice-read-first c = search needs
-
-cast-result : tie.Need-cast-result
-cast-result c = search needs
 
 returns : tie.Need-returns
 returns c =
@@ -84,7 +77,8 @@ returns c =
     let k = t .before in
     let s = start k in (
       λ pair h.
-          sym (ap (λ p. length (pairAs (s .args .form) p)) (open-pair (s .args .size) (s .args .cells .now) (s .args .a) (s .args .b) pair h (first-byte k ∙ t .if1 .taken))
+          sym (ap (λ p. length (pairAs (s .args .form) p))
+          (open-pair (s .args .size) (s .args .cells .now) (s .args .a) (s .args .b) pair h (first-byte k ∙ t .if1 .taken))
           ∙ length-digits (s .args .form .opens) (s .args .form .mark)),
       omega (arith, s .pre .2 .opens-narrow),
     )
@@ -92,29 +86,11 @@ returns c =
 cast-letters : tie.Need-cast-letters
 cast-letters c = omega (arith, counts c)
 
-shared-slice-read-letters : tie.Need-shared-slice-read-letters
-shared-slice-read-letters c = search needs
-
 cast-letters-2 : tie.Need-cast-letters-2
 cast-letters-2 c = omega (arith, counts (c .before))
 
 add-letters : tie.Need-add-letters
 add-letters c = omega (arith, counts (c .before))
-
-cast-result-2 : tie.Need-cast-result-2
-cast-result-2 c = search needs
-
-cast-result-3 : tie.Need-cast-result-3
-cast-result-3 c = search needs
-
-mul-result : tie.Need-mul-result
-mul-result c = search needs
-
-add-result : tie.Need-add-result
-add-result c = search needs
-
-cast-result-4 : tie.Need-cast-result-4
-cast-result-4 c = search needs
 
 mul-result-2 : tie.Need-mul-result-2
 mul-result-2 c = omega (arith, letters-near (last c))
@@ -137,22 +113,6 @@ returns-2 c =
 
 pub pair-bits-spec : {M : Type 1} → statement M
 pair-bits-spec =
-    tie.close
-    (tie.spec
-    cell-at-requires
-    cell-at-requires-2
-    shared-slice-read-first
-    cast-result
-    returns
-    cast-letters
-    shared-slice-read-letters
-    cast-letters-2
-    add-letters
-    cast-result-2
-    cast-result-3
-    mul-result
-    add-result
-    cast-result-4
-    mul-result-2
-    add-result-2
+    tie.close (tie.spec (λ c κs. search needs) (λ c κs. search needs) (λ c. search needs) (λ c. search needs) returns cast-letters (λ c. search needs)
+    cast-letters-2 add-letters (λ c. search needs) (λ c. search needs) (λ c. search needs) (λ c. search needs) (λ c. search needs) mul-result-2 add-result-2
     returns-2)

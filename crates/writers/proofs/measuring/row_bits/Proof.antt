@@ -26,9 +26,11 @@ abbrev μ-loop : tie.MeasureT-loop
 abbrev start : tie.At-loop Inv-loop μ-loop → tie.Start Inv-loop μ-loop
 start c = c .before .before
 
-pair : (c : tie.In-loop Inv-loop μ-loop) (row : List Complement) → HoldsRow (start (c .before) .args .size) (start (c .before) .args .cells .now) (start (c .before) .args .a) row
+pair : (c : tie.In-loop Inv-loop μ-loop) (row : List Complement) → HoldsRow (start (c .before) .args .size) (start (c .before) .args .cells .now)
+    (start (c .before) .args .a) row
     → length row + start (c .before) .args .a ≡ start (c .before) .args .size
-    → HoldsPair (start (c .before) .args .size) (start (c .before) .args .cells .now) (start (c .before) .args .a) (c .before .loop .b) (getD row (c .before .loop .b - start (c .before) .args .a - 1) undefined)
+    → HoldsPair (start (c .before) .args .size) (start (c .before) .args .cells .now) (start (c .before) .args .a) (c .before .loop .b)
+    (getD row (c .before .loop .b - start (c .before) .args .a - 1) undefined)
 pair c row h v =
     let s = start (c .before) in
     row-pair (s .args .size) (s .args .cells .now) (s .args .a) row h v (c .before .loop .b) (c .before .loop .inv .0) (c .loop-test .taken)
@@ -49,7 +51,11 @@ pair-bits-requires : tie.Need-pair-bits-requires Inv-loop μ-loop
 pair-bits-requires c κs =
     let l = c .before in
     let s = start l in (
-      record { pair = getD (s .pre .0 .row) (l .loop .b - s .args .a - 1) undefined; holds = pair c (s .pre .0 .row) (s .pre .0 .holds) (s .pre .0 .row-length) },
+      record {
+        pair = getD (s .pre .0 .row) (l .loop .b - s .args .a - 1) undefined;
+        holds =
+            pair c (s .pre .0 .row) (s .pre .0 .holds) (s .pre .0 .row-length);
+      },
       (
         record { low = s .pre .0 .positive; high = omega (arith, s .pre .0 .below, s .pre .0 .few) },
         record { low = omega (arith, l .loop .inv .0); high = omega (arith, c .loop-test .taken, s .pre .0 .few) },
@@ -83,7 +89,8 @@ loop-again c =
             l .loop .inv .3 row h v,
             w .ensures .0 (getD row i undefined) (pair n row h v),
             length-append (concatMap (pairAs (s .args .form)) (take i row)) (pairAs (s .args .form) (getD row i undefined)),
-            ap length (row-more (pairAs (s .args .form)) (s .args .size) (s .args .cells .now) (s .args .a) row h v (l .loop .b) (l .loop .inv .0) (n .loop-test .taken)),
+            ap length (row-more (pairAs (s .args .form)) (s .args .size) (s .args .cells .now) (s .args .a) row h v (l .loop .b) (l .loop .inv .0)
+                (n .loop-test .taken)),
           ),
     )
 
@@ -91,7 +98,8 @@ returns : tie.Need-returns Inv-loop μ-loop
 returns c =
     let l = c .before in
     let s = start l in (
-      λ row h v. l .loop .inv .3 row h v ∙ ap length (row-all (pairAs (s .args .form)) (s .args .size) (s .args .cells .now) (s .args .a) row h v (l .loop .b) (c .loop-test .left)),
+      λ row h v. l .loop .inv .3 row h v
+          ∙ ap length (row-all (pairAs (s .args .form)) (s .args .size) (s .args .cells .now) (s .args .a) row h v (l .loop .b) (c .loop-test .left)),
       omega (arith, l .loop .inv .2, l .loop .inv .1, s .pre .0 .positive, s .pre .0 .few),
     )
 

@@ -101,18 +101,4 @@ returns c =
 
 pub table-bits-spec : {M : Type 1} → statement M
 table-bits-spec =
-    tie.close
-    (tie.spec
-    Inv-loop
-    μ-loop
-    cast-bits
-    cast-bits-2
-    mul-bits
-    add-bits
-    loop-holds
-    row-bits-requires
-    add-bits-2
-    add-a
-    loop-less
-    loop-again
-    returns)
+    tie.close (tie.spec Inv-loop μ-loop cast-bits cast-bits-2 mul-bits add-bits loop-holds row-bits-requires add-bits-2 add-a loop-less loop-again returns)

@@ -17,6 +17,9 @@ Inv-loop plain size width area₀ writer₀ i₀ area writer i = (i ≤ length p
 abbrev μ-loop : tie.MeasureT-loop
 μ-loop plain size width area₀ writer₀ i₀ area writer i = length plain - i
 
+abbrev after-area : tie.After-slice-known2 Inv-loop μ-loop → tie.After-area Inv-loop μ-loop
+after-area c = c .before
+
 abbrev counted : tie.At-loop Inv-loop μ-loop → tie.After-put2 Inv-loop μ-loop
 counted c = c .before .before .before
 
@@ -33,10 +36,11 @@ cast-put : tie.Need-cast-put Inv-loop μ-loop
 cast-put c = omega (arith, c .before .before .before .pre .1 .short)
 
 put-requires : tie.Need-put-requires Inv-loop μ-loop
-put-requires c κs = (record { inside = omega arith; few = omega arith; small = omega arith }, omega arith, omega (arith, c .before .before .before .pre .1 .short))
-
-cast-put-2 : tie.Need-cast-put-2 Inv-loop μ-loop
-cast-put-2 c = omega arith
+put-requires c κs = (
+  record { inside = omega arith; few = omega arith; small = omega arith },
+  omega arith,
+  omega (arith, c .before .before .before .pre .1 .short),
+)
 
 put-requires-2 : tie.Need-put-requires-2 Inv-loop μ-loop
 put-requires-2 c κs = (c .before .before .before .put .ensures .writes, omega arith, omega arith)
@@ -46,7 +50,8 @@ loop-holds c =
     let p = c .before .before in
     let s = begun p in (
       omega arith,
-      subst (λ bs. Puts (p .put2 .last .0) (p .put2 .result) bs (p .put2 .last .0) (p .put2 .result)) (first-none (s .args .size) (s .args .width) (s .pre .0 .width-is) (s .args .plain .now))
+      subst (λ bs. Puts (p .put2 .last .0) (p .put2 .result) bs (p .put2 .last .0) (p .put2 .result))
+          (first-none (s .args .size) (s .args .width) (s .pre .0 .width-is) (s .args .plain .now))
           (puts-none (p .put2 .last .0) (p .put2 .result) (p .put2 .ensures .writes)),
     )
 
@@ -84,14 +89,14 @@ same-length : tie.Need-same-length Inv-loop μ-loop
 same-length c =
     let l = c .before in
     let p = counted l in
-    l .loop .inv .1 .same-length ∙ (p .put2 .ensures .same-length ∙ p .before .before .before .before .put .ensures .same-length)
+    l .loop .inv .1 .same-length ∙ (p .put2 .ensures .same-length ∙ after-area (p .before .before) .before .put .ensures .same-length)
 
 returns : tie.Need-returns Inv-loop μ-loop
 returns c =
     let l = c .before in
     let p = counted l in
     let s = begun p in
-    let first = p .before .before .before .before .put in
+    let first = after-area (p .before .before) .before .put in
     let n = length (s .args .plain .now) in
     subst (λ bs. Puts (s .args .area .now) (record { next = 0; held = 0; bits = 0 }) bs (l .loop .area) (l .loop .writer))
     (first-all (s .args .size) (s .args .width) (s .pre .0 .width-is) (s .args .plain .now) (l .loop .i) (omega (arith, c .loop-test .left)))
@@ -102,19 +107,5 @@ returns c =
 
 pub put-program-spec : {M : Type 1} → statement M
 put-program-spec =
-    tie.close
-    (tie.spec
-    Inv-loop
-    μ-loop
-    cast-put
-    put-requires
-    cast-put-2
-    put-requires-2
-    loop-holds
-    shared-slice-read-put-signed
-    put-signed-requires
-    add-i
-    loop-less
-    loop-again
-    same-length
-    returns)
+    tie.close (tie.spec Inv-loop μ-loop cast-put put-requires (λ c. omega arith) put-requires-2 loop-holds shared-slice-read-put-signed put-signed-requires
+    add-i loop-less loop-again same-length returns)

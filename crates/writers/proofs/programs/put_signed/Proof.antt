@@ -10,20 +10,11 @@ use borrow.Author.Needs.{needs}
 use Rattle.writers.proofs.programs.put_signed.Statement.{statement}
 use Rattle.writers.proofs.programs.put_signed.Tie as tie
 
-cast-sign : tie.Need-cast-sign
-cast-sign c = search needs
+abbrev start : tie.After-put → tie.Start
+start c = c .before .before .before
 
 sub-number : tie.Need-sub-number
 sub-number c = named-positive (c .before .args .size) (c .before .args .x) (c .before .pre .2)
-
-cast-number : tie.Need-cast-number
-cast-number c = search needs
-
-add-put : tie.Need-add-put
-add-put c = search needs
-
-shl-put : tie.Need-shl-put
-shl-put c = search needs
 
 add-put-2 : tie.Need-add-put-2
 add-put-2 c =
@@ -36,15 +27,14 @@ put-requires c κs =
     let s = c .before .before in
     (s .pre .0, omega (arith, s .pre .1 .narrow), signed-fits (s .args .size) (s .args .width) (s .args .x) (s .pre .1) (omega (arith, s .fits .x)) (s .pre .2))
 
-same-length : tie.Need-same-length
-same-length c = search needs
-
 returns : tie.Need-returns
 returns c =
-    let s = c .before .before .before .before .before in
+    let s = start (c .before .before) in
     let w = c .before .before .put in
     subst (λ bs. Puts (s .args .area .now) (s .args .begin) bs (w .last .0) (w .result))
     (signed-written (s .args .size) (s .args .width) (s .args .x) (s .pre .1) (omega (arith, s .fits .x)) (s .pre .2)) (w .ensures)
 
 pub put-signed-spec : {M : Type 1} → statement M
-put-signed-spec = tie.close (tie.spec cast-sign sub-number cast-number add-put shl-put add-put-2 put-requires same-length returns)
+put-signed-spec =
+    tie.close (tie.spec (λ c. search needs) sub-number (λ c. search needs) (λ c. search needs) (λ c. search needs) add-put-2 put-requires (λ c. search needs)
+    returns)

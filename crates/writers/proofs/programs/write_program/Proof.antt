@@ -14,6 +14,9 @@ use borrow.Author.Needs.{needs}
 use Rattle.writers.proofs.programs.write_program.Statement.{statement}
 use Rattle.writers.proofs.programs.write_program.Tie as tie
 
+abbrev after-put-program : tie.After-close → tie.After-put-program
+after-put-program c = c .before .before .before .before
+
 abbrev start : tie.After-letter-width → tie.Start
 start c = c .before .before .before
 
@@ -21,24 +24,21 @@ abbrev measured : tie.After-put-program-arg → tie.After-letter-width
 measured c = c .before .before
 
 width-of : (c : tie.After-letter-width) → WidthOf (start c .args .size) (c .letter-width .result)
-width-of c = record { few = start c .pre .1; narrow = subst (λ n. n ≤ 4) (sym (c .letter-width .ensures)) (width-small (start c .args .size)); width-is = c .letter-width .ensures }
+width-of c = record {
+  few = start c .pre .1;
+  narrow = subst (λ n. n ≤ 4) (sym (c .letter-width .ensures)) (width-small (start c .args .size));
+  width-is =
+      c .letter-width .ensures;
+}
 
 bound : (c : tie.After-letter-width) → length (start c .args .plain .now) * (1 + c .letter-width .result) ≤ 20480
 bound c = near (length (start c .args .plain .now)) (c .letter-width .result) (omega (arith, start c .pre .2 .short)) (width-of c .narrow)
 
 -- the bytes that the code counts are those of the image
 counted : (c : tie.After-letter-width)
-    → bytesFor (12 + length (start c .args .plain .now) * (1 + c .letter-width .result)) ≡ bytesFor (length (programBits (start c .args .size) (start c .args .plain .now)))
+    → bytesFor (12 + length (start c .args .plain .now) * (1 + c .letter-width .result)) ≡ bytesFor
+    (length (programBits (start c .args .size) (start c .args .plain .now)))
 counted c = ap bytesFor (sym (program-length (start c .args .size) (c .letter-width .result) (c .letter-width .ensures) (start c .args .plain .now)))
-
-letter-width-requires : tie.Need-letter-width-requires
-letter-width-requires c κs = search needs
-
-cast-bytes : tie.Need-cast-bytes
-cast-bytes c = search needs
-
-add-bytes : tie.Need-add-bytes
-add-bytes c = search needs
 
 mul-bytes : tie.Need-mul-bytes
 mul-bytes c = omega (arith, bound c)
@@ -54,41 +54,23 @@ returns c =
     let s = start (c .before) in
     fills-short (s .args .area .now) (programBits (s .args .size) (s .args .plain .now)) (omega (arith, c .if1 .taken, counted (c .before)))
 
-cast-put-program : tie.Need-cast-put-program
-cast-put-program c = search needs
-
 put-program-requires : tie.Need-put-program-requires
 put-program-requires c κs = (width-of (measured c), start (measured c) .pre .2)
 
-close-requires : tie.Need-close-requires
-close-requires c κs = search needs
-
-same-length : tie.Need-same-length
-same-length c = search needs
-
 returns-2 : tie.Need-returns-2
 returns-2 c =
-    let a = c .before .before .before .before .before .before .before in
+    let k = after-put-program (c .before .before) in
+    let a = k .before in
     let m = measured a in
     let s = start m in
-    let p = c .before .before .before .before .before .before .put-program in
+    let p = k .put-program in
     let z = c .before .before .close in
-    fills-closed (s .args .area .now) (p .last .1 .1 .1 .0) (z .last .0) (p .result) (programBits (s .args .size) (s .args .plain .now)) (program-bits (s .args .size) (s .args .plain .now))
-    (λ i. c .slice-known3 .given i .fits) (p .ensures) (z .ensures) (omega (arith, a .before .if1 .left, counted m)) (bytesFor (12 + length (s .args .plain .now) * (1 + m .letter-width .result))) (counted m)
+    fills-closed (s .args .area .now) (p .last .1 .1 .1 .0) (z .last .0) (p .result) (programBits (s .args .size) (s .args .plain .now))
+    (program-bits (s .args .size) (s .args .plain .now))
+    (λ i. c .slice-known3 .given i .fits) (p .ensures) (z .ensures) (omega (arith, a .before .if1 .left, counted m))
+    (bytesFor (12 + length (s .args .plain .now) * (1 + m .letter-width .result))) (counted m)
 
 pub write-program-spec : {M : Type 1} → statement M
 write-program-spec =
-    tie.close
-    (tie.spec
-    letter-width-requires
-    cast-bytes
-    add-bytes
-    mul-bytes
-    add-bytes-2
-    add-bytes-3
-    returns
-    cast-put-program
-    put-program-requires
-    close-requires
-    same-length
-    returns-2)
+    tie.close (tie.spec (λ c κs. search needs) (λ c. search needs) (λ c. search needs) mul-bytes add-bytes-2 add-bytes-3 returns (λ c. search needs)
+    put-program-requires (λ c κs. search needs) (λ c. search needs) returns-2)

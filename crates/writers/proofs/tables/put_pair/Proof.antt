@@ -20,7 +20,8 @@ use Rattle.writers.proofs.tables.put_pair.Tie as tie
 abbrev start : tie.After-shared-slice-known2 → tie.Start
 start c = c .before .before .before .before .before
 
-first-byte : (c : tie.After-shared-slice-known2) → getD (start c .args .cells .now) (cellAt (start c .args .a) (start c .args .b)) 0 ≡ getD (start c .args .cells .now) (c .before .before .cell-at .result) 0
+first-byte : (c : tie.After-shared-slice-known2) → getD (start c .args .cells .now) (cellAt (start c .args .a) (start c .args .b)) 0 ≡ getD
+    (start c .args .cells .now) (c .before .before .cell-at .result) 0
 first-byte c = ap (λ i. getD (start c .args .cells .now) i 0) (sym (c .before .before .cell-at .ensures))
 
 abbrev told : tie.Else1 → tie.After-shared-slice-known2
@@ -39,7 +40,8 @@ abbrev second-arg : tie.After-slice-known5 → tie.After-put-word-arg2
 second-arg c = c .before .before .before
 
 -- the two words of a pair that is not open, where the code looks for them
-words : (c : tie.Else1) (pair : Complement) → HoldsPair (start (told c) .args .size) (start (told c) .args .cells .now) (start (told c) .args .a) (start (told c) .args .b) pair
+words : (c : tie.Else1) (pair : Complement) → HoldsPair (start (told c) .args .size) (start (told c) .args .cells .now) (start (told c) .args .a)
+    (start (told c) .args .b) pair
     → (x : Positive)
     × (y : Positive)
     × (pair ≡ complement x y)
@@ -56,30 +58,13 @@ words c pair h =
       subst (λ i. HoldsWord (s .args .size) (s .args .cells .now) i (w .1)) (sym (k .before .cell-at2 .ensures)) (w .4),
     )
 
-inside : (c : tie.After-shared-slice-known2) → (c .before .before .cell-at .result + 16 ≤ length (start c .args .cells .now)) × (c .before .cell-at2 .result + 16 ≤ length (start c .args .cells .now))
+inside : (c : tie.After-shared-slice-known2) → (c .before .before .cell-at .result + 16 ≤ length (start c .args .cells .now))
+    × (c .before .cell-at2 .result + 16 ≤ length (start c .args .cells .now))
 inside c =
     let s = start c in (
       omega (arith, c .before .before .cell-at .ensures, s .pre .1 .0 .high, s .pre .1 .1 .high, s .pre .3),
       omega (arith, c .before .cell-at2 .ensures, s .pre .1 .0 .high, s .pre .1 .1 .high, s .pre .3),
     )
-
-cell-at-requires : tie.Need-cell-at-requires
-cell-at-requires c κs = search needs
-
-cell-at-requires-2 : tie.Need-cell-at-requires-2
-cell-at-requires-2 c κs = search needs
-
-shared-slice-read-if1 : tie.Need-shared-slice-read-if1
-shared-slice-read-if1 c = search needs
-
-cast-put : tie.Need-cast-put
-cast-put c = search needs
-
-put-requires : tie.Need-put-requires
-put-requires c κs = search needs
-
-same-length : tie.Need-same-length
-same-length c = search needs
 
 returns : tie.Need-returns
 returns c pair h =
@@ -89,12 +74,6 @@ returns c pair h =
     let w = c .before .before .put in
     subst (λ pair. Puts (s .args .area .now) (s .args .begin) (pairAs (s .args .form) pair) (w .last .0) (w .result))
     (sym (open-pair (s .args .size) (s .args .cells .now) (s .args .a) (s .args .b) pair h (first-byte k ∙ t .if1 .taken))) (w .ensures)
-
-cast-put-2 : tie.Need-cast-put-2
-cast-put-2 c = search needs
-
-put-requires-2 : tie.Need-put-requires-2
-put-requires-2 c κs = search needs
 
 put-word-requires : tie.Need-put-word-requires
 put-word-requires c κs =
@@ -110,9 +89,6 @@ put-word-requires-2 c κs =
     let w = words e (s .pre .0 .pair) (s .pre .0 .holds) in
     (record { word = w .1; holds = w .4 }, s .pre .2, inside (told e) .1, c .before .before .before .put-word .ensures (w .0) (w .3) .writes)
 
-same-length-2 : tie.Need-same-length-2
-same-length-2 c = search needs
-
 returns-2 : tie.Need-returns-2
 returns-2 c pair h =
     let a = second-arg c in
@@ -127,18 +103,5 @@ returns-2 c pair h =
 
 pub put-pair-spec : {M : Type 1} → statement M
 put-pair-spec =
-    tie.close
-    (tie.spec
-    cell-at-requires
-    cell-at-requires-2
-    shared-slice-read-if1
-    cast-put
-    put-requires
-    same-length
-    returns
-    cast-put-2
-    put-requires-2
-    put-word-requires
-    put-word-requires-2
-    same-length-2
-    returns-2)
+    tie.close (tie.spec (λ c κs. search needs) (λ c κs. search needs) (λ c. search needs) (λ c. search needs) (λ c κs. search needs) (λ c. search needs)
+    returns (λ c. search needs) (λ c κs. search needs) put-word-requires put-word-requires-2 (λ c. search needs) returns-2)

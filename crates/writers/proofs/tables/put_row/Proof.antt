@@ -19,7 +19,8 @@ abbrev Inv-loop : tie.InvT-loop
 Inv-loop cells size a form area₀ writer₀ b₀ area writer b =
     (a < b)
     × (b ≤ size + 1)
-    × ((row : List Complement) → HoldsRow size cells a row → length row + a ≡ size → Puts area₀ writer₀ (concatMap (pairAs form) (take (b - a - 1) row)) area writer)
+    × ((row : List Complement) → HoldsRow size cells a row → length row + a ≡ size → Puts area₀ writer₀ (concatMap (pairAs form) (take (b - a - 1) row)) area
+    writer)
 
 abbrev μ-loop : tie.MeasureT-loop
 μ-loop cells size a form area₀ writer₀ b₀ area writer b = size + 1 - b
@@ -33,9 +34,11 @@ turn c = c .before .before .before .before
 passed : (c : tie.At-loop Inv-loop μ-loop) → Writes (c .loop .area) (c .loop .writer)
 passed c = c .loop .inv .2 (start c .pre .0 .row) (start c .pre .0 .holds) (start c .pre .0 .row-length) .writes
 
-pair : (c : tie.In-loop Inv-loop μ-loop) (row : List Complement) → HoldsRow (start (c .before) .args .size) (start (c .before) .args .cells .now) (start (c .before) .args .a) row
+pair : (c : tie.In-loop Inv-loop μ-loop) (row : List Complement) → HoldsRow (start (c .before) .args .size) (start (c .before) .args .cells .now)
+    (start (c .before) .args .a) row
     → length row + start (c .before) .args .a ≡ start (c .before) .args .size
-    → HoldsPair (start (c .before) .args .size) (start (c .before) .args .cells .now) (start (c .before) .args .a) (c .before .loop .b) (getD row (c .before .loop .b - start (c .before) .args .a - 1) undefined)
+    → HoldsPair (start (c .before) .args .size) (start (c .before) .args .cells .now) (start (c .before) .args .a) (c .before .loop .b)
+    (getD row (c .before .loop .b - start (c .before) .args .a - 1) undefined)
 pair c row h v =
     let s = start (c .before) in
     row-pair (s .args .size) (s .args .cells .now) (s .args .a) row h v (c .before .loop .b) (c .before .loop .inv .0) (c .loop-test .taken)
@@ -50,7 +53,8 @@ loop-holds c =
       omega (arith, s .pre .0 .below),
       λ row h v.
           let z : s .args .a + 1 - s .args .a - 1 ≡ 0 = omega arith in
-          subst (λ k. Puts (s .args .area .now) (s .args .begin) (concatMap (pairAs (s .args .form)) (take k row)) (s .args .area .now) (s .args .begin)) (sym z)
+          subst (λ k. Puts (s .args .area .now) (s .args .begin) (concatMap (pairAs (s .args .form)) (take k row)) (s .args .area .now) (s .args .begin))
+          (sym z)
           (puts-none (s .args .area .now) (s .args .begin) (s .pre .3)),
     )
 
@@ -59,7 +63,11 @@ put-pair-requires c κs =
     let n = c .before in
     let l = n .before in
     let s = start l in (
-      record { pair = getD (s .pre .0 .row) (l .loop .b - s .args .a - 1) undefined; holds = pair n (s .pre .0 .row) (s .pre .0 .holds) (s .pre .0 .row-length) },
+      record {
+        pair = getD (s .pre .0 .row) (l .loop .b - s .args .a - 1) undefined;
+        holds =
+            pair n (s .pre .0 .row) (s .pre .0 .holds) (s .pre .0 .row-length);
+      },
       (
         record { low = s .pre .0 .positive; high = omega (arith, s .pre .0 .below, s .pre .0 .few) },
         record { low = omega (arith, l .loop .inv .0); high = omega (arith, n .loop-test .taken, s .pre .0 .few) },
@@ -102,16 +110,4 @@ returns c row h v =
     (row-all (pairAs (s .args .form)) (s .args .size) (s .args .cells .now) (s .args .a) row h v (l .loop .b) (c .loop-test .left)) (l .loop .inv .2 row h v)
 
 pub put-row-spec : {M : Type 1} → statement M
-put-row-spec =
-    tie.close
-    (tie.spec
-    Inv-loop
-    μ-loop
-    add-b
-    loop-holds
-    put-pair-requires
-    add-b-2
-    loop-less
-    loop-again
-    same-length
-    returns)
+put-row-spec = tie.close (tie.spec Inv-loop μ-loop add-b loop-holds put-pair-requires add-b-2 loop-less loop-again same-length returns)

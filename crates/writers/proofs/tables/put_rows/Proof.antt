@@ -62,7 +62,8 @@ loop-again c =
           subst (λ bs. Puts (s .args .area .now) (s .args .begin) bs (w .last .1 .1 .1 .1 .0) (w .result))
           (table-more (pairAs (s .args .form)) (s .args .size) (s .args .cells .now) rows h (l .loop .a) (l .loop .inv .0) (n .loop-test .taken))
           (puts-more (s .pre .3 .inside) (l .loop .inv .2 rows h)
-          (w .ensures (getD rows (l .loop .a - 1) []) (table-row (s .args .size) (s .args .cells .now) rows h (l .loop .a) (l .loop .inv .0) (n .loop-test .taken))
+          (w .ensures (getD rows (l .loop .a - 1) [])
+          (table-row (s .args .size) (s .args .cells .now) rows h (l .loop .a) (l .loop .inv .0) (n .loop-test .taken))
           (table-width (s .args .size) (s .args .cells .now) rows h (l .loop .a) (l .loop .inv .0) (n .loop-test .taken)))),
     )
 

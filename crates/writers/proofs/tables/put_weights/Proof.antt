@@ -44,7 +44,8 @@ light c =
     let n = turn c in
     let s = start (n .before) in
     subst (λ i. getD (s .args .cells .now) i 0 < 2 ^ 3) (sym (placed c))
-    (weight-light (s .args .size) (s .args .cells .now) (s .pre .0 .excess) (s .pre .0 .weights) (n .before .loop .a) (n .before .loop .inv .0) (n .loop-test .taken))
+    (weight-light (s .args .size) (s .args .cells .now) (s .pre .0 .excess) (s .pre .0 .weights) (n .before .loop .a) (n .before .loop .inv .0)
+    (n .loop-test .taken))
 
 loop-holds : tie.Need-loop-holds Inv-loop μ-loop
 loop-holds c =
@@ -107,18 +108,5 @@ returns c excess h =
 
 pub put-weights-spec : {M : Type 1} → statement M
 put-weights-spec =
-    tie.close
-    (tie.spec
-    Inv-loop
-    μ-loop
-    loop-holds
-    weight-at-requires
-    shared-slice-read-put
-    add-put
-    cast-put
-    put-requires
-    add-a
-    loop-less
-    loop-again
-    same-length
-    returns)
+    tie.close (tie.spec Inv-loop μ-loop loop-holds weight-at-requires shared-slice-read-put add-put cast-put put-requires add-a loop-less loop-again
+    same-length returns)

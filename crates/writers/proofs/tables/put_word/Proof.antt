@@ -42,7 +42,8 @@ few c = omega (arith, c .pre .0 .holds .count, c .pre .0 .holds .in-range .short
 letter : (c : tie.In-loop Inv-loop μ-loop) → InRange (begun c .args .size) (getD (begun c .args .cells .now) (begun c .args .cell + 1 + c .before .loop .k) 0)
 letter c =
     let s = begun c in
-    letter-in (s .args .size) (s .args .cells .now) (s .args .cell) (s .pre .0 .word) (s .pre .0 .holds) (c .before .loop .k) (omega (arith, c .loop-test .taken, s .pre .0 .holds .count))
+    letter-in (s .args .size) (s .args .cells .now) (s .args .cell) (s .pre .0 .word) (s .pre .0 .holds) (c .before .loop .k)
+    (omega (arith, c .loop-test .taken, s .pre .0 .holds .count))
 
 passed : (c : tie.At-loop Inv-loop μ-loop) → Writes (c .loop .area) (c .loop .writer)
 passed c = c .loop .inv .1 (start (read-at c) .pre .0 .word) (start (read-at c) .pre .0 .holds) .writes
@@ -102,7 +103,8 @@ loop-again c =
       omega (arith, n .loop-test .taken),
       λ x h.
           subst (λ bs. Puts (first .last .0) (first .result) bs (w .last .0) (w .result))
-          (letters-more (s .args .size) (s .args .cells .now) (s .args .cell) x h (letterAs (s .args .form)) (l .loop .k) (omega (arith, n .loop-test .taken, h .count)))
+          (letters-more (s .args .size) (s .args .cells .now) (s .args .cell) x h (letterAs (s .args .form)) (l .loop .k)
+          (omega (arith, n .loop-test .taken, h .count)))
           (puts-more (first .ensures .writes .inside) (l .loop .inv .1 x h) (w .ensures)),
     )
 
@@ -118,30 +120,14 @@ returns c x h =
     let s = start (read-at l) in
     let first = l .before .before .before .put in
     puts-more (s .pre .3 .inside)
-    (subst (λ n. Puts (s .args .area .now) (s .args .begin) (Rattle.model.specs.Bits.digits (s .args .form .lengths) n) (first .last .0) (first .result)) (h .count) (first .ensures))
+    (subst (λ n. Puts (s .args .area .now) (s .args .begin) (Rattle.model.specs.Bits.digits (s .args .form .lengths) n) (first .last .0) (first .result))
+    (h .count) (first .ensures))
     (subst (λ bs. Puts (first .last .0) (first .result) bs (l .loop .area) (l .loop .writer))
-    (letters-all (s .args .size) (s .args .cells .now) (s .args .cell) x h (letterAs (s .args .form)) (l .loop .k) (omega (arith, c .loop-test .left, h .count)))
+    (letters-all (s .args .size) (s .args .cells .now) (s .args .cell) x h (letterAs (s .args .form)) (l .loop .k)
+    (omega (arith, c .loop-test .left, h .count)))
     (l .loop .inv .1 x h))
 
 pub put-word-spec : {M : Type 1} → statement M
 put-word-spec =
-    tie.close
-    (tie.spec
-    Inv-loop
-    μ-loop
-    shared-slice-read-first
-    cast-count
-    cast-put
-    put-requires
-    loop-holds
-    add-a
-    add-a-2
-    shared-slice-read-a
-    sub-put
-    cast-put-2
-    put-requires-2
-    add-k
-    loop-less
-    loop-again
-    same-length
-    returns)
+    tie.close (tie.spec Inv-loop μ-loop shared-slice-read-first cast-count cast-put put-requires loop-holds add-a add-a-2 shared-slice-read-a sub-put
+    cast-put-2 put-requires-2 add-k loop-less loop-again same-length returns)
