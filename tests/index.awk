@@ -234,8 +234,8 @@ function promise_done() {
     field = ""
 }
 kind == "specs" && /^[^ ]/ { promise_done(); promise = "" }
-kind == "specs" && promise != "" && /^  pub [a-z-]+ : / { promise_done(); field = $2; field_text = $0; sub(/^  pub [a-z-]+ : /, "", field_text) }
-kind == "specs" && promise != "" && /^    / && field != "" { field_text = field_text " " $0 }
+kind == "specs" && promise != "" && /^ +pub [a-z-]+ :/ { promise_done(); field = $2; field_text = "" }
+kind == "specs" && promise != "" && field != "" { field_text = field_text " " $0 }
 kind == "specs" && /^pub record [A-Za-z]+Promise / { promise = crate SUBSEP file SUBSEP $3 }
 
 # DEFINITIONS

@@ -27,7 +27,7 @@ use Rattle.model.proofs.Equiv.{Homogeneous}
 use Rattle.theory.proofs.Clearing.{clear-homogeneous}
 use Rattle.theory.proofs.Passages.{lead-joins}
 use Rattle.theory.proofs.Comparison.{answered-clear}
-use Rattle.theory.specs.Verdicts.{DemandThree}
+use Rattle.theory.specs.Verdicts.{VerdictMeaning}
 use Rattle.theory.proofs.Verdicts.{demand-three-told}
 use Rattle.model.specs.Range.{ProgramInRange, Lettered}
 use Rattle.model.proofs.Outcomes.{still-refused}
@@ -36,15 +36,15 @@ use Rattle.images.proofs.RoundTrip.{chain-reads-back, program-in-range}
 use Rattle.cells.specs.Stands.{Of}
 use Rattle.cells.proofs.Rules.{of-few, weight-within}
 use Rattle.engine.proofs.Lettering.{length-positive, length-negative}
-use Rattle.chains.specs.Listing.{Chained}
-use Rattle.chains.specs.Listing.{Compared as Listed-from}
+use Rattle.chain_listing.specs.Listing.{Chained}
+use Rattle.chain_listing.specs.Listing.{Compared as Listed-from}
 use Rattle.model.specs.Services.{Images, readImages}
-use Rattle.comparing.specs.Compare.{Ended, Judged, Meaning}
+use Rattle.comparing.specs.Compare.{Ended, Judged, CompareSays}
 use Rattle.loading.specs.Reversing.{LoadedPrograms}
 use Rattle.chaining.specs.Chain.{Area, ListedAs, JoinsChecked, ListedChecks}
 use Rattle.loading.proofs.Outcomes.{AsFound}
 use Rattle.loading.proofs.Reading.{programs-refused, programs-run}
-use Rattle.checking.proofs.CheckService.{check-runs}
+use Rattle.chain_check.proofs.CheckService.{check-runs}
 
 -- what is listed tells the verdict back
 verdict-back : (n : ℕ) (o : Outcome Verdict) → mapped verdictIn (mapped (chainAnswer n) o) ≡ o
@@ -186,9 +186,9 @@ module _ (table first second : List ℕ) (steps width area : ℕ) where
   shown n (different-after k) y e = cc
 
   pub chain-means : (o : Outcome ChainAnswer) → o ≡ chain table first second steps width area
-      → Meaning table first second steps width (λ T v. listable (T .size) area v) (mapped verdictIn o)
+      → CompareSays table first second steps width (λ T v. listable (T .size) area v) (mapped verdictIn o)
   chain-means o e T u v c =
-      subst (DemandThree T u v steps width (listable (T .size) area))
+      subst (VerdictMeaning T u v steps width (listable (T .size) area))
       (sym (ap (mapped verdictIn) (e ∙ chain-runs T u v c) ∙ verdict-back (T .size) (comparison T u v steps width >>= listable (T .size) area)))
       (demand-three-told T u v steps width (listable (T .size) area) (shown (T .size)) (λ k. refl))
 

@@ -15,7 +15,7 @@ use Rattle.cells.specs.Stands.{Of}
 use Rattle.model.specs.Outcome.{mapped}
 use Rattle.model.specs.Services.{chain, verdictIn}
 use Rattle.model.specs.Areas.{ChainArea}
-use Rattle.comparing.specs.Compare.{Meaning}
+use Rattle.comparing.specs.Compare.{CompareSays}
 
 -- the answer area: a chain after `same`, else as it was
 abbrev pub Area : Presentation → Positive → Positive → List ℕ → List ℕ → Outcome Verdict → Type 0
@@ -54,4 +54,4 @@ pub record ChainPromise (table first second : List ℕ) (allowance : ℕ) (works
     pub workspace-is : workspace′ ≡ workspaceAfter (chain table first second allowance (length workspace) (length answer)) workspace
     pub area : ChainArea table first second answer answer′ outcome
     pub checks : ListedChecks table first second answer answer′ outcome
-    pub meaning : Meaning table first second allowance (length workspace) (λ T v. listable (T .size) (length answer) v) (mapped verdictIn outcome)
+    pub meaning : CompareSays table first second allowance (length workspace) (λ T v. listable (T .size) (length answer) v) (mapped verdictIn outcome)

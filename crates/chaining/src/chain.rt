@@ -9,7 +9,7 @@ ghost use Rattle.loading.specs.Weighing.{Weigh};
 ghost use Rattle.chaining.specs.Chain.{Lists, ChainPromise};
 use areas::bytes::wipe;
 use cells::layout::CELLS;
-use chains::listing::list;
+use chain_listing::listing::list;
 use comparing::compare::compare_programs;
 use engine::gap::Gap;
 use entries::entry::chain_bytes;

@@ -13,10 +13,10 @@ use Rattle.model.specs.declared.answers.Refusal.the-variants.{UnequalWeights}
 use Rattle.model.specs.declared.answers.Cleared.{Cleared}
 use Rattle.model.specs.declared.answers.Cleared.the-variants.{Refused}
 use Rattle.model.proofs.Outcomes.{still-refused, goes-on}
-use Rattle.checks.specs.Table.{triplesAs, WeightsMean, TriplesMean}
-use Rattle.checks.specs.declared.table.Weights.the-variants.{Equal, Unequal}
-use Rattle.checks.specs.declared.table.Triples.{Triples}
-use Rattle.checks.specs.declared.table.Triples.the-variants.{Hold, Fail, Halt}
+use Rattle.table_checks.specs.Table.{triplesAs, WeightsMean, TriplesMean}
+use Rattle.table_checks.specs.declared.table.Weights.the-variants.{Equal, Unequal}
+use Rattle.table_checks.specs.declared.table.Triples.{Triples}
+use Rattle.table_checks.specs.declared.table.Triples.the-variants.{Hold, Fail, Halt}
 use Rattle.clearing.specs.BothChecks.{triplesRefusal, toldOf, CubesMean, BothMean}
 use Rattle.clearing.specs.declared.both_checks.TriplesOf.{TriplesOf}
 use Rattle.clearing.specs.declared.both_checks.TriplesOf.the-variants.{Table, Mirror}

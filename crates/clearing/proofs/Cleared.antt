@@ -25,8 +25,8 @@ use Rattle.loading.proofs.Outcomes.{AsFound}
 use Rattle.loading.proofs.Reading.{table-refused}
 use Rattle.clearing.specs.BothChecks.{BothMean}
 use Rattle.clearing.specs.Clearing.{clearedBy, ClearsBy, clearBy}
-use Rattle.clearing.specs.Clear.{ChecksMeaning, ClearMeaning}
-use Rattle.clearing.specs.MirrorClear.{MirrorClearMeaning}
+use Rattle.clearing.specs.Clear.{ChecksMeaning, ClearSays}
+use Rattle.clearing.specs.MirrorClear.{MirrorClearSays}
 use Rattle.clearing.specs.declared.both_checks.TriplesOf.{TriplesOf}
 use Rattle.clearing.specs.declared.both_checks.TriplesOf.the-variants.{Table, Mirror}
 
@@ -65,9 +65,9 @@ module _ (table : List ℕ) (steps width : ℕ) where
   clear-runs Table T e = goes-on (readTable table) T e _
   clear-runs Mirror T e = goes-on (readTable table) T e _
 
-  pub clear-means : ClearMeaning table (clear table steps width)
+  pub clear-means : ClearSays table (clear table steps width)
   clear-means T t =
       subst (ChecksMeaning T) (sym (clear-runs Table T t)) (record { weights = weight-meaning T steps width; cube = cube-exactly T steps width })
 
-  pub mirror-means : MirrorClearMeaning table steps width (mirrorClear table steps width)
+  pub mirror-means : MirrorClearSays table steps width (mirrorClear table steps width)
   mirror-means T t = subst (MirrorMeaning T steps width) (sym (clear-runs Mirror T t)) (mirror-meaning T (table-in-range table T t) steps width)

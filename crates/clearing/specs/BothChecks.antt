@@ -19,8 +19,8 @@ use Rattle.model.specs.declared.answers.Refusal.the-variants.{CubeFails, Mirror
 use Rattle.model.specs.declared.answers.Cleared.{Cleared}
 use Rattle.model.specs.declared.answers.Cleared.the-variants.{Passed, Refused}
 use Rattle.cells.specs.Stands.{Of}
-use Rattle.checks.specs.declared.table.Triples.{Triples}
-use Rattle.checks.specs.declared.table.Triples.the-variants.{Hold, Fail, Halt}
+use Rattle.table_checks.specs.declared.table.Triples.{Triples}
+use Rattle.table_checks.specs.declared.table.Triples.the-variants.{Hold, Fail, Halt}
 use Rattle.clearing.specs.declared.both_checks.TriplesOf.{TriplesOf}
 use Rattle.clearing.specs.declared.both_checks.TriplesOf.the-variants.{Table, Mirror}
 

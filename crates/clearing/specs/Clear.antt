@@ -17,11 +17,11 @@ pub record ChecksMeaning (T : Presentation) (outcome : Outcome (Unit {0})) : Typ
   pub cube : CubeMeaning T outcome
 
 -- of the table in the image
-abbrev pub ClearMeaning : List ℕ → Outcome (Unit {0}) → Type 0
-ClearMeaning table outcome = (T : Presentation) → readTable table ≡ answered T → ChecksMeaning T outcome
+abbrev pub ClearSays : List ℕ → Outcome (Unit {0}) → Type 0
+ClearSays table outcome = (T : Presentation) → readTable table ≡ answered T → ChecksMeaning T outcome
 
 -- THE SERVICE'S PROMISE (6.3): the outcome that is told, the workspace after the call, and what the outcome means
 pub record ClearPromise (table : List ℕ) (allowance : ℕ) (workspace workspace′ : List ℕ) (outcome : Outcome (Unit {0})) : Type 0 where
   pub stated : outcome ≡ clear table allowance (length workspace)
   pub workspace-is : workspace′ ≡ workspaceAfter (clear table allowance (length workspace)) workspace
-  pub meaning : ClearMeaning table outcome
+  pub meaning : ClearSays table outcome

@@ -11,11 +11,11 @@ use Rattle.model.specs.Services.{mirrorClear}
 use Rattle.model.specs.Areas.{workspaceAfter}
 
 -- of the mirror of the table in the image
-abbrev pub MirrorClearMeaning : List ℕ → ℕ → ℕ → Outcome (Unit {0}) → Type 0
-MirrorClearMeaning table steps width outcome = (T : Presentation) → readTable table ≡ answered T → MirrorMeaning T steps width outcome
+abbrev pub MirrorClearSays : List ℕ → ℕ → ℕ → Outcome (Unit {0}) → Type 0
+MirrorClearSays table steps width outcome = (T : Presentation) → readTable table ≡ answered T → MirrorMeaning T steps width outcome
 
 -- THE SERVICE'S PROMISE (6.13): the outcome that is told, the workspace after the call, and what the outcome means
 pub record MirrorPromise (table : List ℕ) (allowance : ℕ) (workspace workspace′ : List ℕ) (outcome : Outcome (Unit {0})) : Type 0 where
   pub stated : outcome ≡ mirrorClear table allowance (length workspace)
   pub workspace-is : workspace′ ≡ workspaceAfter (mirrorClear table allowance (length workspace)) workspace
-  pub meaning : MirrorClearMeaning table allowance (length workspace) outcome
+  pub meaning : MirrorClearSays table allowance (length workspace) outcome

@@ -6,15 +6,15 @@ ghost use Rattle.model.specs.Stated.{clearedAs};
 ghost use Rattle.cells.specs.Stands.{Sized};
 ghost use Rattle.clearing.specs.BothChecks.{placeOf, triplesRefusal, CubesMean, BothMean};
 use areas::bytes::wipe;
-use checks::table::Triples;
-use checks::table::Weights;
-use checks::table::check_triples;
-use checks::table::check_weights;
 use model::answers::Cleared;
 use model::answers::Place;
 use model::answers::Refusal;
 use model::answers::Stop;
 use model::answers::Triple;
+use table_checks::table::Triples;
+use table_checks::table::Weights;
+use table_checks::table::check_triples;
+use table_checks::table::check_weights;
 
 // Whose triples the cube check goes through.
 pub enum TriplesOf {

@@ -19,11 +19,11 @@ use Rattle.model.specs.declared.answers.Ending.{Ending as EndingAnswer}
 use Rattle.model.specs.declared.answers.Refusal.{Refusal}
 use Rattle.model.specs.declared.answers.Ending.the-variants.{Finished}
 use Rattle.model.proofs.Impossible.{impossible}
-use Rattle.theory.specs.Verdicts.{DemandThree}
-use Rattle.theory.proofs.Verdicts.{demand-three}
+use Rattle.theory.specs.Verdicts.{VerdictMeaning}
+use Rattle.theory.proofs.Verdicts.{verdict-meaning}
 use Rattle.engine.specs.Run.{Reverses}
 use Rattle.model.specs.Services.{Images, readImages}
-use Rattle.comparing.specs.Compare.{judgement, Ended, EndedIf, Judged, Meaning}
+use Rattle.comparing.specs.Compare.{judgement, Ended, EndedIf, Judged, CompareSays}
 use Rattle.model.specs.declared.answers.Compared.{Compared}
 use Rattle.model.specs.declared.answers.Compared.the-variants.{Same, Different, Refused}
 use Rattle.model.proofs.Outcomes.{still-refused, goes-on}
@@ -140,5 +140,5 @@ module _ (table first second : List ℕ) (steps width : ℕ) where
   compare-runs = programs-run table first second judges
 
   -- what a verdict means, of the outcome
-  pub compare-means : (o : Outcome Verdict) → o ≡ compare table first second steps width → Meaning table first second steps width (λ T v. answered v) o
-  compare-means o e T u v c = subst (DemandThree T u v steps width answered) (sym (e ∙ compare-runs T u v c)) (demand-three T u v steps width)
+  pub compare-means : (o : Outcome Verdict) → o ≡ compare table first second steps width → CompareSays table first second steps width (λ T v. answered v) o
+  compare-means o e T u v c = subst (VerdictMeaning T u v steps width answered) (sym (e ∙ compare-runs T u v c)) (verdict-meaning T u v steps width)

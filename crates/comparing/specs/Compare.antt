@@ -16,7 +16,7 @@ use Rattle.model.specs.declared.answers.Ending.{Ending}
 use Rattle.model.specs.declared.answers.Ending.the-variants.{Finished, Undefined, Stopped}
 use Rattle.model.specs.declared.answers.Compared.{Compared}
 use Rattle.model.specs.declared.answers.Compared.the-variants.{Same, Different, Refused}
-use Rattle.theory.specs.Verdicts.{DemandThree}
+use Rattle.theory.specs.Verdicts.{VerdictMeaning}
 use Rattle.cells.specs.Stands.{Of}
 use Rattle.model.specs.Stated.{stopRefusal, compared}
 use Rattle.model.specs.Services.{compare}
@@ -54,12 +54,12 @@ pub record Decides (cells : List ℕ) (size : ℕ) (first second : List ℕ) (bu
       → compared r ≡ forwardVerdict T u v budget (length before)
 
 -- WHAT A VERDICT MEANS (specification 6.5), of the programs in the images; `after` is how the service tells a verdict under a table
-abbrev pub Meaning : List ℕ → List ℕ → List ℕ → ℕ → ℕ → (Presentation → Verdict → Outcome Verdict) → Outcome Verdict → Type 0
-Meaning table first second steps width after outcome =
-    (T : Presentation) (u v : Positive) → Compares table first second T u v → DemandThree T u v steps width (after T) outcome
+abbrev pub CompareSays : List ℕ → List ℕ → List ℕ → ℕ → ℕ → (Presentation → Verdict → Outcome Verdict) → Outcome Verdict → Type 0
+CompareSays table first second steps width after outcome =
+    (T : Presentation) (u v : Positive) → Compares table first second T u v → VerdictMeaning T u v steps width (after T) outcome
 
 -- THE SERVICE'S PROMISE (6.4): the outcome that is told, the workspace after the call, and what the outcome means
 pub record ComparePromise (table first second : List ℕ) (allowance : ℕ) (workspace workspace′ : List ℕ) (outcome : Outcome Verdict) : Type 0 where
   pub stated : outcome ≡ compare table first second allowance (length workspace)
   pub workspace-is : workspace′ ≡ workspaceAfter (compare table first second allowance (length workspace)) workspace
-  pub meaning : Meaning table first second allowance (length workspace) (λ T v. answered v) outcome
+  pub meaning : CompareSays table first second allowance (length workspace) (λ T v. answered v) outcome

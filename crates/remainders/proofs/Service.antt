@@ -21,7 +21,7 @@ use Rattle.theory.proofs.Remainders.{lighter, as-heavy, quotient-meaning}
 use Rattle.model.specs.Services.{Images, readImages}
 use Rattle.loading.proofs.Outcomes.{AsFound}
 use Rattle.loading.proofs.Reading.{programs-refused, programs-run}
-use Rattle.remainders.specs.Remainder.{States, movesLeft, RemainderMeaning}
+use Rattle.remainders.specs.Remainder.{States, movesLeft, RemainderSays}
 
 -- TWO PROGRAMS UNDER A LOADED TABLE
 
@@ -69,7 +69,7 @@ module _ (table done pattern : List ℕ) (steps width area : ℕ) where
 
   pub remainder-says : (told : Outcome (Remainder ℕ)) (before after : List ℕ) → told ≡ mapped counted (remainder table done pattern steps width area)
       → after ≡ outputAfter remainderBytes (remainder table done pattern steps width area) before
-      → RemainderMeaning table done pattern steps width area told after
+      → RemainderSays table done pattern steps width area told after
   remainder-says told before after t a T u v c =
       let left = ap₂ (λ x y. mapped (movesLeft x) y) a t ∙ (left-outcome (remainder table done pattern steps width area) before ∙ remainder-runs T u v c) in
       subst (QuotientMeaning T u v steps width area) (sym left) (quotient-meaning T u v steps width area)

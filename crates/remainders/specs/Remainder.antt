@@ -40,8 +40,8 @@ movesLeft area (moves-after n k) = moves-after (take n area) k
 movesLeft area (none-after k) = none-after k
 
 -- WHAT AN ANSWER MEANS (specification 6.10): what was told and written into an area of `area` bytes, of the table and the programs in the images
-abbrev pub RemainderMeaning : List ℕ → List ℕ → List ℕ → ℕ → ℕ → ℕ → Outcome (Remainder ℕ) → List ℕ → Type 0
-RemainderMeaning table done pattern steps width area told left =
+abbrev pub RemainderSays : List ℕ → List ℕ → List ℕ → ℕ → ℕ → ℕ → Outcome (Remainder ℕ) → List ℕ → Type 0
+RemainderSays table done pattern steps width area told left =
     (T : Presentation) (u v : Positive) → Compares table done pattern T u v → QuotientMeaning T u v steps width area (mapped (movesLeft left) told)
 
 -- THE SERVICE'S PROMISE (6.10): the outcome that is told, both areas after the call, and what the outcome means
@@ -50,4 +50,4 @@ pub record RemainderPromise (table done pattern : List ℕ) (allowance : ℕ) (w
   pub stated : outcome ≡ mapped counted (remainder table done pattern allowance (length workspace) (length answer))
   pub answer-is : answer′ ≡ outputAfter remainderBytes (remainder table done pattern allowance (length workspace) (length answer)) answer
   pub workspace-is : workspace′ ≡ workspaceAfter (remainder table done pattern allowance (length workspace) (length answer)) workspace
-  pub meaning : RemainderMeaning table done pattern allowance (length workspace) (length answer) outcome answer′
+  pub meaning : RemainderSays table done pattern allowance (length workspace) (length answer) outcome answer′

@@ -25,7 +25,7 @@ use Rattle.model.proofs.Outcomes.{goes-on}
 use Rattle.engine.specs.Run.{Reverses}
 use Rattle.engine.proofs.Ended.{end, done, met, halted}
 use Rattle.reversal.specs.Asked.{Answers}
-use Rattle.reversal.specs.Commit.{CommitMeaning, CommitPromise}
+use Rattle.reversal.specs.Commit.{CommitSays, CommitPromise}
 use Rattle.loading.proofs.Late.{Late, late-refusal, late-cond, late-then}
 use Rattle.reversal.proofs.Answers.{fraction-late}
 use Rattle.reversal.proofs.EnquireService.{sizes-late}

@@ -12,7 +12,7 @@ use Rattle.model.specs.Outcome.{unplaced, Outcome, answered, refused, _>>=_, un
 use Rattle.model.specs.Images.{readProgram}
 use Rattle.model.specs.Services.{readTableWith, Fraction, fractionOf, reverse, Sizes, sizesOf, enquire, agree, committedOf, commit}
 use Rattle.model.proofs.Impossible.{impossible}
-use Rattle.reversal.specs.Enquire.{Foretells, EnquireMeaning}
+use Rattle.reversal.specs.Enquire.{Foretells, EnquireSays}
 
 -- AN ENDING
 
@@ -66,7 +66,7 @@ module _ (area : ℕ) where
   after (refused n place) f g h p =
       record { answers = λ z e. impossible (cc); short-area = λ z e. impossible (cc); refuses = λ i there e. (cc, λ z. cc) }
 
-pub foretells : (table program : List ℕ) (steps width : ℕ) → EnquireMeaning table program steps width (enquire table program steps width)
+pub foretells : (table program : List ℕ) (steps width : ℕ) → EnquireSays table program steps width (enquire table program steps width)
 unfolding reverse enquire commit
 foretells table program steps width area =
     after area (readTableWith readProgram table program) _ _ _ (λ l. of-ending area (reversing (l .table) steps width (l .word)))

@@ -31,7 +31,7 @@ use Rattle.reversal.proofs.Answered.{answered-states, run-states, image
 use Rattle.reversal.specs.declared.asked.Asked.the-variants.{LeftReverse}
 use Rattle.reversal.specs.Asked.{Answers}
 use Rattle.reversal.specs.Answering.{States}
-use Rattle.reversal.specs.LeftReverse.{underMirror, turnedFraction, LeftMeaning, LeftPromise}
+use Rattle.reversal.specs.LeftReverse.{underMirror, turnedFraction, LeftSays, LeftPromise}
 
 -- A PROGRAM UNDER A TABLE THAT WAS LOADED
 
@@ -90,7 +90,7 @@ module _ (table program : List ℕ) (steps : ℕ) (workspace before : List ℕ) 
       → workspace′ ≡ workspaceAfter outcome workspace → LeftPromise table program steps workspace workspace′ before after told
   promised workspace′ after told t a k = record { stated = t; answer-is = a; workspace-is = k; meaning = says }
     where
-      says : LeftMeaning table program steps (length workspace) before after told
+      says : LeftSays table program steps (length workspace) before after told
       says T e w f m =
           let o = images-run table program steps (length workspace) (length before) LeftReverse T e w f
           ∙ under-mirror T w steps (length workspace) (length before) m in

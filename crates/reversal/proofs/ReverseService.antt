@@ -9,7 +9,7 @@ use Rattle.model.specs.Services.{Sizes, sizes, Fraction, reverse}
 use Rattle.model.specs.Areas.{begins, fractionBytes, outputAfter}
 use Rattle.theory.specs.Orders.{OrderMeaning}
 use Rattle.theory.proofs.Orders.{order-meaning}
-use Rattle.reversal.specs.Reverse.{fractionLeft, ReverseMeaning}
+use Rattle.reversal.specs.Reverse.{fractionLeft, ReverseSays}
 use Rattle.reversal.specs.declared.asked.Asked.the-variants.{Reverse}
 use Rattle.reversal.proofs.Answered.{images-run}
 
@@ -32,7 +32,7 @@ left-outcome (refused i numbers) before = refl
 
 module _ (table program : List ℕ) (steps width area : ℕ) where
   pub reverse-says : (told : Outcome Sizes) (before after : List ℕ) → told ≡ mapped sizes (reverse table program steps width area)
-      → after ≡ outputAfter fractionBytes (reverse table program steps width area) before → ReverseMeaning table program told after
+      → after ≡ outputAfter fractionBytes (reverse table program steps width area) before → ReverseSays table program told after
   reverse-says told before after t a T e w f =
       let run = images-run table program steps width area Reverse T e w f in
       let left = ap₂ (λ x y. mapped (fractionLeft x) y) a t ∙ (left-outcome (reverse table program steps width area) before ∙ run) in

@@ -11,7 +11,7 @@ use Rattle.model.specs.Areas.{workspaceAfter}
 
 -- with the numbers of an answered enquiry, and an area as long as both lengths together, commit answers with them, and writes what reverse would write; and
 -- whatever it answers, reverse would answer and write
-pub record CommitMeaning (table program : List ℕ) (steps width : ℕ) (z : Sizes) (before after : List ℕ) (told : Outcome Sizes) : Type 0 where
+pub record CommitSays (table program : List ℕ) (steps width : ℕ) (z : Sizes) (before after : List ℕ) (told : Outcome Sizes) : Type 0 where
   pub answers : enquire table program steps width ≡ answered z → z .numerator + z .denominator ≤ length before
       → (told ≡ answered z) × (after ≡ outputAfter fractionBytes (reverse table program steps width (length before)) before)
   pub as-reverse : (y : Sizes) → told ≡ answered y
@@ -24,4 +24,4 @@ pub record CommitPromise (table program : List ℕ) (allowance : ℕ) (numbers :
   pub stated : outcome ≡ mapped sizes (commit table program allowance (length workspace) numbers (length answer))
   pub answer-is : answer′ ≡ outputAfter fractionBytes (commit table program allowance (length workspace) numbers (length answer)) answer
   pub workspace-is : workspace′ ≡ workspaceAfter (commit table program allowance (length workspace) numbers (length answer)) workspace
-  pub meaning : CommitMeaning table program allowance (length workspace) numbers answer answer′ outcome
+  pub meaning : CommitSays table program allowance (length workspace) numbers answer answer′ outcome

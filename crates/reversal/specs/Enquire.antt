@@ -43,12 +43,12 @@ pub record Foretells (told : Outcome Sizes) (area : ℕ) (reversing : Outcome Fr
   pub refuses : (n : ℕ) (place : Place) → told ≡ refused n place → (reversing ≡ refused n place) × ((z : Sizes) → committing z ≡ refused n place)
 
 -- WHAT AN ANSWER MEANS (specification 6.15): what was told, of the same images, allowance and workspace, and of every answer area
-abbrev pub EnquireMeaning : List ℕ → List ℕ → ℕ → ℕ → Outcome Sizes → Type 0
-EnquireMeaning table program steps width told =
+abbrev pub EnquireSays : List ℕ → List ℕ → ℕ → ℕ → Outcome Sizes → Type 0
+EnquireSays table program steps width told =
     (area : ℕ) → Foretells told area (reverse table program steps width area) (λ z. commit table program steps width z area)
 
 -- THE SERVICE'S PROMISE (6.15): the outcome that is told, the workspace after the call, and what the outcome means
 pub record EnquirePromise (table program : List ℕ) (allowance : ℕ) (workspace workspace′ : List ℕ) (outcome : Outcome Sizes) : Type 0 where
   pub stated : outcome ≡ enquire table program allowance (length workspace)
   pub workspace-is : workspace′ ≡ workspaceAfter (enquire table program allowance (length workspace)) workspace
-  pub meaning : EnquireMeaning table program allowance (length workspace) outcome
+  pub meaning : EnquireSays table program allowance (length workspace) outcome

@@ -34,8 +34,8 @@ pub record MirrorSays (T : Presentation) (w : Word) (steps width : ℕ) (before 
   -- of the word and both words of the answer, each read backward, it says under the mirror what reverse says of every order
   pub orders-say : OrderMeaning (mirror T) (reverse w) (mapped turnedFraction (mapped (fractionLeft after) told))
 
-abbrev pub LeftMeaning : List ℕ → List ℕ → ℕ → ℕ → List ℕ → List ℕ → Outcome Sizes → Type 0
-LeftMeaning table program steps width before after told =
+abbrev pub LeftSays : List ℕ → List ℕ → ℕ → ℕ → List ℕ → List ℕ → Outcome Sizes → Type 0
+LeftSays table program steps width before after told =
     (T : Presentation) → readTable table ≡ answered T → (w : Word) → readProgram (T .size) program ≡ answered w → mirrorCheck T ≡ answered tt
     → MirrorSays T w steps width before after told
 
@@ -44,4 +44,4 @@ pub record LeftPromise (table program : List ℕ) (allowance : ℕ) (workspace w
   pub stated : outcome ≡ mapped sizes (leftReverse table program allowance (length workspace) (length answer))
   pub answer-is : answer′ ≡ outputAfter fractionBytes (leftReverse table program allowance (length workspace) (length answer)) answer
   pub workspace-is : workspace′ ≡ workspaceAfter (leftReverse table program allowance (length workspace) (length answer)) workspace
-  pub meaning : LeftMeaning table program allowance (length workspace) answer answer′ outcome
+  pub meaning : LeftSays table program allowance (length workspace) answer answer′ outcome

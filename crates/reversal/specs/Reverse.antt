@@ -19,8 +19,8 @@ fractionLeft area z =
     record { numerator = take (z .numerator) area; denominator = take (z .denominator) (drop (z .numerator) area); steps = z .steps }
 
 -- what was told and written says of every order of steps, of the table and the program in the images
-abbrev pub ReverseMeaning : List ℕ → List ℕ → Outcome Sizes → List ℕ → Type 0
-ReverseMeaning table program told area =
+abbrev pub ReverseSays : List ℕ → List ℕ → Outcome Sizes → List ℕ → Type 0
+ReverseSays table program told area =
     (T : Presentation) → readTable table ≡ answered T → (w : Word) → readProgram (T .size) program ≡ answered w
     → OrderMeaning T w (mapped (fractionLeft area) told)
 
@@ -29,4 +29,4 @@ pub record ReversePromise (table program : List ℕ) (allowance : ℕ) (workspac
   pub stated : outcome ≡ mapped sizes (reverse table program allowance (length workspace) (length answer))
   pub answer-is : answer′ ≡ outputAfter fractionBytes (reverse table program allowance (length workspace) (length answer)) answer
   pub workspace-is : workspace′ ≡ workspaceAfter (reverse table program allowance (length workspace) (length answer)) workspace
-  pub meaning : ReverseMeaning table program outcome answer′
+  pub meaning : ReverseSays table program outcome answer′

@@ -1,6 +1,6 @@
 -- Specification 6.5 of the model's `comparison`, for every presentation, positive words, budget and room; and of every way to tell its verdict.
 -- Reversing decides equivalence under a table that clears ([D3] Prop. 4.4; [D2] Prop. 6.1); the parts are proved in Comparison.antt.
--- Main names: `demand-three`; `demand-three-told` for a service that may refuse a verdict, as chain does with 13.
+-- Main names: `verdict-meaning`; `demand-three-told` for a service that may refuse a verdict, as chain does with 13.
 use mathlib.Core.Path.{_≡_, refl, ap}
 use Prim.Native.Nat.{ℕ}
 use native.Mathlib.Omega.{arith}
@@ -11,7 +11,7 @@ use Rattle.model.specs.Outcome.{unplaced, Outcome, answered, refused, _>>=_}
 use Rattle.model.specs.Checks.{cleared}
 use Rattle.model.specs.Services.{Verdict, same-after, different-after, comparison}
 use Rattle.model.proofs.Impossible.{impossible}
-use Rattle.theory.specs.Verdicts.{Settled, settled, by-allowance, by-memory, DemandThree}
+use Rattle.theory.specs.Verdicts.{Settled, settled, by-allowance, by-memory, VerdictMeaning}
 use Rattle.theory.proofs.Comparison.{Meaning, same, different, out-of-budget, out-of-room, joined-empties, joined-same-after, comparison-means}
 use Rattle.theory.proofs.Comparison.{same-joined, different-apart}
 
@@ -33,8 +33,8 @@ module _ (T : Presentation) (u v : Positive) (steps width : ℕ) where
   as-compared : cleared T steps width ≡ answered tt → Settled answered (comparison T u v steps width)
   as-compared clear = as-settled (comparison-means T u v steps width clear)
 
-  pub demand-three : DemandThree T u v steps width answered (comparison T u v steps width)
-  demand-three =
+  pub verdict-meaning : VerdictMeaning T u v steps width answered (comparison T u v steps width)
+  verdict-meaning =
       record {
         same-joined = same-joined T u v steps width;
         different-apart = different-apart T u v steps width;
@@ -56,9 +56,9 @@ module _ (T : Presentation) (u v : Positive) (steps width : ℕ) where
     settled-through by-allowance = by-allowance
     settled-through by-memory = by-memory
 
-    pub demand-three-told : DemandThree T u v steps width tell (comparison T u v steps width >>= tell)
+    pub demand-three-told : VerdictMeaning T u v steps width tell (comparison T u v steps width >>= tell)
     demand-three-told =
-        let d = demand-three in
+        let d = verdict-meaning in
         record {
           same-joined = λ k r h. d .same-joined k r (verdict-of (comparison T u v steps width) (same-after k r) h);
           different-apart = λ k h. d .different-apart k (verdict-of (comparison T u v steps width) (different-after k) h);

@@ -1,6 +1,6 @@
 -- Specification 6.5, whole, as one statement: what the outcome of a comparison says of the two words.
--- The promises of compare and chain cite it. After [D3] Prop. 4.4 and [D2] Prop. 6.1; proved as `demand-three` in proofs/Verdicts.antt.
--- Main name: `DemandThree`.
+-- The promises of compare and chain cite it. After [D3] Prop. 4.4 and [D2] Prop. 6.1; proved as `verdict-meaning` in proofs/Verdicts.antt.
+-- Main name: `VerdictMeaning`.
 use mathlib.Core.List.{[], _++_}
 use mathlib.Core.Path.{_≡_}
 use Prim.Native.Nat.{ℕ}
@@ -19,7 +19,7 @@ pub data Settled (tell : Verdict → Outcome Verdict) : Outcome Verdict → Type
   by-memory : Settled tell (refused 12 unplaced)
 
 -- `tell` is how the service tells a verdict: chain may refuse one with 13
-pub record DemandThree (T : Presentation) (u v : Positive) (steps width : ℕ) (tell : Verdict → Outcome Verdict) (outcome : Outcome Verdict) : Type 0 where
+pub record VerdictMeaning (T : Presentation) (u v : Positive) (steps width : ℕ) (tell : Verdict → Outcome Verdict) (outcome : Outcome Verdict) : Type 0 where
   -- `same` only if a chain of swaps joins the two words
   pub same-joined : (k r : ℕ) → outcome ≡ answered (same-after k r) → Joined T u v
   -- `different` only if none does

@@ -23,8 +23,8 @@ use Rattle.model.specs.declared.answers.TrayCompared.{TrayCompared}
 use Rattle.model.specs.declared.answers.TrayCompared.the-variants.{Answered, Refused}
 use Rattle.model.proofs.Impossible.{impossible, answer-of, same-answer, not-refused}
 use Rattle.model.proofs.Outcomes.{still-refused, goes-on}
-use Rattle.theory.specs.Verdicts.{Settled, settled, by-allowance, by-memory, DemandThree}
-use Rattle.theory.proofs.Verdicts.{demand-three}
+use Rattle.theory.specs.Verdicts.{Settled, settled, by-allowance, by-memory, VerdictMeaning}
+use Rattle.theory.proofs.Verdicts.{verdict-meaning}
 use Rattle.loading.proofs.Early.{Early}
 use Rattle.loading.proofs.Outcomes.{refused-stated, refused-output, refused-workspace}
 use Rattle.loading.proofs.Reading.{program-still-refused, program-runs}
@@ -164,7 +164,7 @@ told o (settled (different-after k)) = told-different (k / 256) (k % 256)
 told o by-allowance = stopped-by-allowance
 told o by-memory = stopped-by-memory
 
-module _ (T : Presentation) (u v : Positive) (steps width : ℕ) (o : Outcome Verdict) (d : DemandThree T u v steps width answered o) where
+module _ (T : Presentation) (u v : Positive) (steps width : ℕ) (o : Outcome Verdict) (d : VerdictMeaning T u v steps width answered o) where
   zero-joined : (q : Outcome Verdict) → o ≡ q → Settled answered q → (high low : ℕ) → logBytes q ≡ 0 ∷ high ∷ low ∷ [] → Joined T u v
   zero-joined q e (settled (same-after k r)) high low b = d .same-joined k r e
   zero-joined q e (settled (different-after k)) high low b = let z = first-byte b in absurd (omega (arith, z))
@@ -267,7 +267,7 @@ module _ (table logs pattern : List ℕ) (steps width : ℕ) (before : List ℕ)
         ap (λ w. logVerdict (T .size) T w steps width log) same ∙ goes-on (readForward (T .size) log) u (c .first-read) _
         ∙ forward-compared T u v steps width (p .clear) in
         subst (LogSays T u v steps width) (sym (told-here T (p .word) (p .verdicts-are) ∙ ap logBytes here))
-        (log-says T u v steps width (comparison T u v steps width) (demand-three T u v steps width) (p .clear));
+        (log-says T u v steps width (comparison T u v steps width) (verdict-meaning T u v steps width) (p .clear));
   }
 
 pub tray-says : (table logs pattern : List ℕ) (steps width : ℕ) (before : List ℕ) (o : Outcome (List (Outcome Verdict)))

@@ -37,8 +37,8 @@ use Rattle.images.specs.Programs.{ForwardOf}
 use Rattle.model.specs.Services.{readTableWith}
 use Rattle.loading.proofs.Early.{Early}
 use Rattle.loading.proofs.Reading.{program-still-refused, program-runs}
-use Rattle.checks.specs.declared.table.Weights.{Weights}
-use Rattle.checks.specs.Table.{weightsAs, WeightsMean}
+use Rattle.table_checks.specs.declared.table.Weights.{Weights}
+use Rattle.table_checks.specs.Table.{weightsAs, WeightsMean}
 use Rattle.cells.specs.Stands.{Of}
 use Rattle.theory.specs.Ways.{Weighed}
 use Rattle.theory.proofs.Letters.{lettered-positive}
@@ -48,7 +48,7 @@ use Rattle.ways.specs.Marks.{untried}
 use Rattle.ways.specs.Area.{words, Legible}
 use Rattle.ways.specs.State.{current}
 use Rattle.ways.specs.Listing.{Task, State, ListedAll}
-use Rattle.ways.specs.Service.{Answers, Passed, WaysMeaning, WaysSay, WaysPromise}
+use Rattle.ways.specs.Service.{Answers, Passed, WaysMeaning, WaysSays, WaysPromise}
 use Rattle.spans.proofs.Runs.{letter-ends-none}
 
 -- THE PROGRAM'S WORD
@@ -242,7 +242,7 @@ read-letters n few bytes u h = go (readProgram n bytes) refl h
     go (refused i ps) q e = impossible (cc)
 
 module _ (table program before after : List ℕ) (r : Ways) (a : Answers (ways table program (length before)) before after r) where
-  pub ways-say : WaysSay table program (listedAs r) after
+  pub ways-say : WaysSays table program (listedAs r) after
   ways-say T e u p c told =
       let t = told-words (ways table program (length before)) c (sym (a .result) ∙ told) in
       by (weightCheck T (pairs (T .size))) refl (t .0) (t .1) (t .2)

@@ -48,8 +48,8 @@ pub record WaysMeaning (T : Presentation) (u : Positive) (told : Counts) (area :
   pub lists : ListingMeaning T u
   pub in-order : WordsInOrder T
 
-abbrev pub WaysSay : List ℕ → List ℕ → Outcome Counts → List ℕ → Type 0
-WaysSay table program told area =
+abbrev pub WaysSays : List ℕ → List ℕ → Outcome Counts → List ℕ → Type 0
+WaysSays table program told area =
     (T : Presentation) → readTable table ≡ answered T → (u : Positive) → readForward (T .size) program ≡ answered u
     → (c : Counts) → told ≡ answered c → WaysMeaning T u c area
 
@@ -57,4 +57,4 @@ WaysSay table program told area =
 pub record WaysPromise (table program answer answer′ : List ℕ) (outcome : Outcome Counts) : Type 0 where
   pub stated : outcome ≡ mapped counts (ways table program (length answer))
   pub answer-is : answer′ ≡ waysArea (ways table program (length answer)) answer
-  pub meaning : WaysSay table program outcome answer′
+  pub meaning : WaysSays table program outcome answer′

@@ -7,14 +7,14 @@ use crate::listing::list_words;
 use crate::marks::UNTRIED;
 use areas::bytes::wipe;
 use cells::layout::CELLS;
-use checks::table::Weights;
-use checks::table::check_weights;
 use images::programs::Signs;
 use images::programs::unpack_letters;
 use loading::loading::TableProgram;
 use loading::loading::read_table_program;
 use model::answers::Refusal;
 use model::answers::Ways;
+use table_checks::table::Weights;
+use table_checks::table::check_weights;
 
 // An accepted program under a table that passed the weight check. Where the listing is longer than the area, the area is wiped.
 pub fn list_program(cells: &[u8], size: u8, program: &[u8], count: u16, answer: &mut [u8]) -> Ways

@@ -1,8 +1,8 @@
 -- `clearing::both_checks::check_both` meets its contract.
 use mathlib.Core.Path.{_≡_, refl, sym, subst, _∙_}
 use lib.ListN.{length}
-use Rattle.checks.specs.Table.{WeightsMean}
-use Rattle.checks.specs.declared.table.Weights.{Weights}
+use Rattle.table_checks.specs.Table.{WeightsMean}
+use Rattle.table_checks.specs.declared.table.Weights.{Weights}
 use Rattle.clearing.proofs.BothChecks.{weights-refuse, cubes-follow}
 use borrow.Author.Needs.{needs}
 use Rattle.clearing.proofs.both_checks.check_both.Statement.{statement}

@@ -4,7 +4,7 @@ use Rattle.model.specs.declared.answers.Stop.{Stop}
 use Rattle.model.specs.declared.answers.Triple.{Triple}
 use Rattle.model.specs.declared.answers.Refusal.the-variants.{AllowanceUsed, WorkspaceShort}
 use Rattle.model.specs.declared.answers.Cleared.the-variants.{Refused}
-use Rattle.checks.specs.declared.table.Triples.the-variants.{Halt}
+use Rattle.table_checks.specs.declared.table.Triples.the-variants.{Halt}
 use Rattle.clearing.specs.BothChecks.{triplesRefusal}
 use borrow.Author.Needs.{needs}
 use Rattle.clearing.proofs.both_checks.triples_answer.Statement.{statement}

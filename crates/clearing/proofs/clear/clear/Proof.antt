@@ -1,7 +1,7 @@
 -- `clearing::clear::clear` meets its contract.
 use mathlib.Core.Path.{sym, subst}
 use lib.ListN.{length}
-use Rattle.clearing.specs.Clear.{ClearMeaning}
+use Rattle.clearing.specs.Clear.{ClearSays}
 use Rattle.clearing.proofs.Cleared.{clear-means}
 use borrow.Author.Needs.{needs}
 use Rattle.clearing.proofs.clear.clear.Statement.{statement}
@@ -15,7 +15,7 @@ returns c =
     let z = c .before .before .clear-image .ensures in
     let a = start (c .before .before) .args in
     let means = clear-means (a .table .now) (a .allowance) (length (a .workspace .now)) in
-    record { stated = z .stated; workspace-is = z .workspace; meaning = subst (ClearMeaning (a .table .now)) (sym (z .stated)) means }
+    record { stated = z .stated; workspace-is = z .workspace; meaning = subst (ClearSays (a .table .now)) (sym (z .stated)) means }
 
 pub clear-spec : {M : Type 1} → statement M
 clear-spec = tie.close (tie.spec (λ c κs. search needs) (λ c. search needs) returns)

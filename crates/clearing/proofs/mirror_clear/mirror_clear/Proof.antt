@@ -1,7 +1,7 @@
 -- `clearing::mirror_clear::mirror_clear` meets its contract.
 use mathlib.Core.Path.{sym, subst}
 use lib.ListN.{length}
-use Rattle.clearing.specs.MirrorClear.{MirrorClearMeaning}
+use Rattle.clearing.specs.MirrorClear.{MirrorClearSays}
 use Rattle.clearing.proofs.Cleared.{mirror-means}
 use borrow.Author.Needs.{needs}
 use Rattle.clearing.proofs.mirror_clear.mirror_clear.Statement.{statement}
@@ -20,7 +20,7 @@ returns c =
       stated = z .stated;
       workspace-is = z .workspace;
       meaning =
-          subst (MirrorClearMeaning (a .table .now) (a .allowance) width) (sym (z .stated)) means;
+          subst (MirrorClearSays (a .table .now) (a .allowance) width) (sym (z .stated)) means;
     }
 
 pub mirror-clear-spec : {M : Type 1} → statement M

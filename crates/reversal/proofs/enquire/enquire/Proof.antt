@@ -6,7 +6,7 @@ use Rattle.model.specs.Areas.{workspaceAfter}
 use Rattle.images.specs.declared.programs.Signs.the-variants.{Any}
 use Rattle.loading.specs.Loading.{TableProgramDone}
 use Rattle.loading.specs.declared.loading.TableProgram.{TableProgram}
-use Rattle.reversal.specs.Enquire.{EnquireMeaning}
+use Rattle.reversal.specs.Enquire.{EnquireSays}
 use Rattle.reversal.proofs.Foretelling.{foretells}
 use Rattle.reversal.proofs.EnquireService.{sizes-late, enquire-refused, enquire-runs}
 use Rattle.cells.proofs.Rules.{blank-zeros}
@@ -47,7 +47,7 @@ returns c =
     record {
       stated = o .stated;
       workspace-is = o .workspace (a .workspace .now);
-      meaning = subst (EnquireMeaning (a .table .now) (a .program .now) (a .allowance) width) (sym (o .stated)) means;
+      meaning = subst (EnquireSays (a .table .now) (a .program .now) (a .allowance) width) (sym (o .stated)) means;
     }
 
 returns-2 : tie.Need-returns-2
@@ -66,7 +66,7 @@ returns-2 c =
     record {
       stated = stated;
       workspace-is = z .wiped ∙ sym (ap (λ x. workspaceAfter x (a .workspace .now)) o ∙ zero);
-      meaning = subst (EnquireMeaning (a .table .now) (a .program .now) (a .allowance) width) (sym stated) means;
+      meaning = subst (EnquireSays (a .table .now) (a .program .now) (a .allowance) width) (sym stated) means;
     }
 
 pub enquire-spec : {M : Type 1} → statement M

@@ -8,8 +8,8 @@ use Rattle.model.specs.declared.answers.Ways.the-variants.{Refused}
 use Rattle.model.specs.Services.{readForward}
 use Rattle.images.proofs.RoundTrip.{table-in-range}
 use Rattle.cells.proofs.Rules.{blank-zeros}
-use Rattle.checks.specs.declared.table.Weights.the-variants.{Equal, Unequal}
-use Rattle.checks.specs.Table.{WeightsMean}
+use Rattle.table_checks.specs.declared.table.Weights.the-variants.{Equal, Unequal}
+use Rattle.table_checks.specs.Table.{WeightsMean}
 use Rattle.images.specs.declared.programs.Signs.the-variants.{Forward as ForwardAlone}
 use Rattle.model.specs.Services.{readTableWith}
 use Rattle.loading.specs.Loading.{TableProgramDone}

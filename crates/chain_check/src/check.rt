@@ -1,0 +1,130 @@
+// Check a chain (specification 6.7), which may come from anywhere; the table need not clear.
+ghost use mathlib.Core.Path.{_≡_};
+ghost use lib.ListN.{length};
+ghost use Rattle.model.specs.Services.{check};
+ghost use Rattle.model.specs.Stated.{checked};
+ghost use Rattle.chain_check.specs.Check.{ForwardChain, PassageMeans, Checks, CheckPromise};
+use areas::bytes::wipe;
+use cells::layout::CELLS;
+use engine::gap::Gap;
+use images::chains::ChainRead;
+use images::chains::read_chain;
+use images::programs::Signs;
+use images::programs::unpack_letters;
+use loading::loading::ProgramsRead;
+use loading::loading::read_programs;
+use model::answers::Checked;
+use model::answers::Place;
+use model::answers::Refusal;
+use swaps::follow::Followed;
+use swaps::follow::follow;
+use swaps::follow::spells;
+use swaps::held::carry;
+
+// Follows the entries from the first program, loaded at the workspace's end, and compares the word they lead to with the second.
+pub fn pass(
+    cells: &[u8],
+    size: u8,
+    first: &[u8],
+    m: u16,
+    second: &[u8],
+    n: u16,
+    entries: &[u8],
+    count: u16,
+    workspace: &mut [u8],
+) -> Checked
+    requires { ⌜ ForwardChain (now cells) size (now first) m (now second) n (now entries) count ⌝ }
+    ensures length { λ r. ⌜ length (now (workspace .exit)) ≡ length (now (workspace .entry)) ⌝ }
+    ensures passage { λ r. ⌜ PassageMeans (now (cells .entry)) size (now (first .entry)) (now (second .entry)) (now (entries .entry))
+        (length (now (workspace .entry))) r ⌝ }
+{
+    let end = workspace.len();
+    let letters = m as usize;
+    if end < letters {
+        return Checked::Refused(Refusal::WorkspaceShort(Place::Programs));
+    }
+    let right = end - letters;
+    unpack_letters(first, size, m, workspace, right);
+    let followed = follow(
+        cells,
+        size,
+        entries,
+        count,
+        workspace,
+        Gap { left: 0, right },
+    );
+    match followed {
+        Followed::Breaks(k) => Checked::Breaks { entry: k as usize },
+        Followed::Short => Checked::Refused(Refusal::WorkspaceShort(Place::Programs)),
+        Followed::Ended(last) => {
+            let all = last.left + (end - last.right);
+            carry(workspace, last, all);
+            let same = spells(workspace, all, second, size, n);
+            if same {
+                return Checked::Joins;
+            }
+            Checked::EndsElsewhere
+        }
+    }
+}
+
+// Two accepted forward programs and an accepted chain under a table that was loaded. The workspace is wiped.
+pub fn check_programs(
+    cells: &[u8],
+    size: u8,
+    first: &[u8],
+    m: u16,
+    second: &[u8],
+    n: u16,
+    entries: &[u8],
+    count: u16,
+    workspace: &mut [u8],
+) -> Checked
+    requires { ⌜ ForwardChain (now cells) size (now first) m (now second) n (now entries) count ⌝ }
+    ensures { λ r. ⌜ Checks (now (cells .entry)) size (now (first .entry)) (now (second .entry)) (now (entries .entry)) (now (workspace .entry))
+        (now (workspace .exit)) r ⌝ }
+{
+    let answer = pass(cells, size, first, m, second, n, entries, count, workspace);
+    wipe(workspace);
+    answer
+}
+
+pub fn check(
+    table: &[u8],
+    first: &[u8],
+    second: &[u8],
+    entries: &[u8],
+    workspace: &mut [u8],
+) -> Checked
+    ensures { λ r. ⌜ CheckPromise (now (table .entry)) (now (first .entry)) (now (second .entry)) (now (entries .entry)) (now (workspace .entry))
+        (now (workspace .exit)) (checked r) ⌝ }
+{
+    let mut cells = [0u8; CELLS];
+    let read = read_programs(table, first, second, Signs::Forward, &mut cells);
+    match read {
+        ProgramsRead::Refused(refusal) => Checked::Refused(refusal),
+        ProgramsRead::Programs {
+            size,
+            m,
+            n,
+            first_weight: _,
+            second_weight: _,
+        } => {
+            let list = read_chain(entries, size);
+            match list {
+                ChainRead::Refused(refusal) => Checked::Refused(refusal),
+                ChainRead::Chain { count } => check_programs(
+                    &cells,
+                    size,
+                    first,
+                    m,
+                    second,
+                    n,
+                    entries,
+                    count,
+                    workspace,
+                ),
+            }
+        }
+    }
+}

@@ -1,0 +1,185 @@
+-- The top face is done: its entry takes a slot, and C(b,a) goes to the front of the rest, in the workspace and the answer area.
+use mathlib.Core.Path.{_≡_, sym, ap, ap₂, subst, _∙_}
+use mathlib.Core.List.{List, [], _∷_, _++_}
+use Prim.Native.Nat.{ℕ, suc, _+_, _-_, _^_, _≤_, _<_}
+use native.Mathlib.Omega.{arith}
+use lib.ListN.{length, take, drop, getD, length-append}
+use Rattle.model.specs.Word.{Positive, positive, negative, inverse}
+use Rattle.model.specs.Equivalence.{Entry}
+use Rattle.model.specs.Images.{offsetWidth, entryBits, entryPosition}
+use Rattle.engine.specs.Gap.{letters}
+use Rattle.engine.specs.Turn.{Pushed}
+use Rattle.cells.specs.Layout.{cellAt}
+use Rattle.model.specs.Range.{InRange}
+use Rattle.engine.proofs.Lettering.{length-positive, length-negative}
+use Rattle.engine.proofs.Stepping.{cell-letters}
+use Rattle.chain_listing.specs.declared.moves.Progress.{Progress}
+use Rattle.chain_listing.specs.Faces.{Face, below, passedOf}
+use Rattle.chain_listing.specs.Layout.{Layout}
+use Rattle.entries.specs.Entry.{EntryInside}
+use Rattle.bits.specs.Fields.{Appended}
+use Rattle.chain_listing.specs.Course.{Task, Course, Situation, TopDone}
+use Rattle.chain_listing.proofs.Ends.{relations-within}
+use Rattle.chain_listing.proofs.Marks.{marked, markedDone, passed-marked, slots-marked, length-marked}
+use Rattle.chain_listing.proofs.Courses.{a-named, b-named, to-cell, from-cell, passed-short, listed, all-done, emitted}
+use Rattle.bits.proofs.Appending.{appended-as}
+use Rattle.chain_listing.proofs.Layouts.{given-up}
+use Rattle.chain_listing.proofs.Rests.{held-length, left-length, pushed-rest, pushed-left}
+use Rattle.chain_listing.proofs.Restated.{course-of, layout-of, passed-of, stacked-of}
+use Rattle.chain_listing.proofs.Meeting.{wide, sized, cell-inside, slot-in}
+
+below-long : (faces : List Face) (left : Positive) → length left ≤ length (below faces left)
+below-long [] left = omega (arith, length-positive left)
+below-long (f ∷ fs) left =
+    omega (
+      arith,
+      below-long fs left,
+      length-append (positive (f .left)) (negative (f .other) ++ below fs left),
+      length-append (negative (f .other)) (below fs left),
+    )
+
+module _ {t : Task} {cells : List ℕ} {size total : ℕ} {bytes answer : List ℕ} {at : Progress} (s : Situation t cells size total [] bytes answer at) {a b : ℕ}
+    (top : TopDone (s .faces) a b) where
+  abbrev f : Face
+  f = top .face
+
+  course : Course t size total [] (s .rest) (top .face ∷ top .others) (s .done) (s .left) (s .entries)
+  course = course-of s (top .top)
+
+  face-a : InRange size (f .a)
+  face-a = sized (s .settled) (a-named (s .settled) course)
+
+  face-b : InRange size (f .b)
+  face-b = sized (s .settled) (b-named (s .settled) course)
+
+  pub a-top : InRange size a
+  a-top = subst (InRange size) (top .is-a) face-a
+
+  pub b-top : InRange size b
+  b-top = subst (InRange size) (top .is-b) face-b
+
+  pub pair-a : InRange 16 a
+  pair-a = wide (s .settled) a-top
+
+  pub pair-b : InRange 16 b
+  pair-b = wide (s .settled) b-top
+
+  pub to-inside : cellAt a b + 16 ≤ length cells
+  to-inside = cell-inside (s .settled) a-top b-top
+
+  pub from-inside : cellAt b a + 16 ≤ length cells
+  from-inside = cell-inside (s .settled) b-top a-top
+
+  to-is : (to : ℕ) → to ≡ cellAt a b → to ≡ cellAt (f .a) (f .b)
+  to-is to e = e ∙ ap₂ (λ i j. cellAt i j) (sym (top .is-a)) (sym (top .is-b))
+
+  from-is : (from : ℕ) → from ≡ cellAt b a → from ≡ cellAt (f .b) (f .a)
+  from-is from e = e ∙ ap₂ (λ i j. cellAt i j) (sym (top .is-b)) (sym (top .is-a))
+
+  pub to-count : (to : ℕ) → to ≡ cellAt a b → getD cells to 0 ≡ length (f .done)
+  to-count to e =
+      ap (λ i. getD cells i 0) (to-is to e) ∙ (to-cell (s .settled) course .count ∙ ap length (all-done (s .settled) course (top .none-left)))
+
+  pub from-count : (from : ℕ) → from ≡ cellAt b a → getD cells from 0 ≡ length (f .other)
+  from-count from e = ap (λ i. getD cells i 0) (from-is from e) ∙ from-cell (s .settled) course .count
+
+  pub from-short : (from : ℕ) → from ≡ cellAt b a → getD cells from 0 ≤ 15
+  from-short from e = omega (arith, from-count from e, from-cell (s .settled) course .short)
+
+  pub passed-is : at .passed ≡ length (passedOf (top .others) (s .done)) + suc (length (f .done))
+  passed-is = passed-of s (top .top) ∙ length-append (passedOf (top .others) (s .done)) (f .a ∷ f .done)
+
+  pub passed-few : at .passed < 2 ^ offsetWidth
+  passed-few = omega (arith, passed-of s (top .top), passed-short (s .settled) course)
+
+  pub stacked-some : 1 ≤ at .stacked
+  stacked-some = omega (arith, stacked-of s (top .top))
+
+  pub slots-over : at .emitted < total
+  slots-over = omega (arith, s .held .emitted, relations-within t total (course .running))
+
+  pub slot-over : EntryInside size (at .emitted) answer
+  slot-over = slot-in (s .settled) (s .held .layout .same-length) (at .emitted) slots-over
+
+  -- C(b,a) fits between the rest and what is left of the second word
+  room-here : at .left + length (f .other) ≤ at .right
+  room-here =
+      let w = length-append (negative (s .rest)) (positive (f .left) ++ (negative (f .other) ++ below (top .others) (s .left))) in
+      let x = length-append (positive (f .left)) (negative (f .other) ++ below (top .others) (s .left)) in
+      let y = length-append (negative (f .other)) (below (top .others) (s .left)) in
+      omega (
+        arith,
+        course .running .fits,
+        w,
+        x,
+        y,
+        length-negative (s .rest),
+        length-negative (f .other),
+        below-long (top .others) (s .left),
+        held-length bytes (at .left) (s .rest) (omega (arith, s .held .ordered, s .held .inside)) (s .held .rest-held),
+        left-length bytes (at .right) (s .left) (s .held .left-held),
+        s .held .wide,
+        s .held .inside,
+      )
+
+  pub room : (from : ℕ) → from ≡ cellAt b a → at .left + getD cells from 0 ≤ at .right
+  room from e = omega (arith, room-here, from-count from e)
+
+  module _ (to from offset : ℕ) (et : to ≡ cellAt a b) (ef : from ≡ cellAt b a) (eo : offset ≡ at .passed - getD cells to 0 - 1) where
+    pub offset-is : offset ≡ length (passedOf (top .others) (s .done))
+    offset-is = omega (arith, passed-is, to-count to et)
+
+    pub emitted-here : {after pushed : List ℕ} → Appended answer (entryPosition size (at .emitted)) (entryBits size (record { offset = offset; a = a; b = b }))
+        after
+        → Pushed (inverse (letters (take (getD cells from 0) (drop (from + 1) cells)))) bytes (at .left + getD cells from 0) (getD cells from 0) pushed
+        → Situation t cells size total [] pushed after
+        (record {
+          left = at .left + getD cells from 0;
+          right = at .right;
+          passed = offset + 1;
+          emitted = at .emitted + 1;
+          stacked = at .stacked - 1;
+        })
+    emitted-here {after} {pushed} p q =
+        let word : inverse (letters (take (getD cells from 0) (drop (from + 1) cells))) ≡ negative (f .other) =
+        ap inverse (cell-letters (s .settled .stands .few) (from-cell (s .settled) course) (from + 1) (getD cells from 0) (ap (λ i. i + 1) (from-is from ef))
+        (from-count from ef)) in
+        record {
+          settled = s .settled;
+          rest = f .other ++ s .rest;
+          faces = marked (f .b) (top .others);
+          done = markedDone (f .b) (top .others) (s .done);
+          left = s .left;
+          entries = s .entries ++ (listed (s .settled) course ∷ []);
+          course = emitted (s .settled) course (top .none-left);
+          held =
+              record {
+                wide = q .same-length ∙ s .held .wide;
+                ordered = room from ef;
+                inside = omega (arith, q .same-length, s .held .inside);
+                rest-held =
+                    pushed-rest bytes pushed (at .left) (getD cells from 0) (s .rest) (f .other) _ word (from-count from ef)
+                    (omega (arith, s .held .ordered, s .held .inside)) (s .held .rest-held) q;
+                left-held =
+                    pushed-left bytes pushed (at .left) (getD cells from 0) (s .rest) (f .other) _ word (from-count from ef)
+                    (omega (arith, s .held .ordered, s .held .inside)) (s .held .rest-held) q (at .right) (room from ef)
+                    ∙ s .held .left-held;
+                passed =
+                    omega (
+                      arith,
+                      offset-is,
+                      ap length (passed-marked (f .b) (top .others) (s .done)),
+                      length-append (passedOf (top .others) (s .done)) (f .b ∷ []),
+                    );
+                emitted = omega (arith, s .held .emitted, length-append (s .entries) (listed (s .settled) course ∷ []));
+                stacked = omega (arith, stacked-of s (top .top), length-marked (f .b) (top .others));
+                layout =
+                    subst (λ l. Layout size total (t .area) (s .entries ++ (listed (s .settled) course ∷ [])) l after) (sym (slots-marked (f .b) (top .others)))
+                    (given-up size total (t .area) (s .entries) (layout-of s (top .top)) (listed (s .settled) course)
+                    (appended-as (ap (entryPosition size) (s .held .emitted))
+                    (ap₂ (λ o g. entryBits size (record { offset = o; a = g .a; b = g .b })) offset-is same-pair) p));
+              };
+        }
+      where
+        same-pair : _≡_ {A = Entry} (record { offset = 0; a = a; b = b }) (record { offset = 0; a = f .a; b = f .b })
+        same-pair = ap₂ (λ i j. record { offset = 0; a = i; b = j }) (sym (top .is-a)) (sym (top .is-b))

@@ -1,0 +1,135 @@
+ghost use mathlib.Core.List.{[], _∷_};
+ghost use mathlib.Core.Path.{_≡_};
+ghost use Prim.Native.Nat.{_≤_};
+ghost use lib.ListN.{length};
+ghost use Rattle.chain_listing.specs.Course.{Somewhere, Emittable, Moves, Emits};
+use cells::layout::cell_at;
+use engine::step::push_inverse;
+use entries::entry::ChainEntry;
+use entries::entry::read_entry;
+use entries::entry::write_entry;
+use model::plain::BACK;
+
+// How far a listing has come. The bytes before `left` are the inverse of the first word's rest, those from `right` on the letters left of
+// the second; `passed` letters stand before the rest in the word that the `emitted` entries have led to, and `stacked` faces are not done.
+pub struct Progress {
+    pub left: usize,
+    pub right: usize,
+    pub passed: usize,
+    pub emitted: usize,
+    pub stacked: usize,
+}
+
+// The rest's first letter a meets the letter b that was taken off. Where they differ, their face waits for the letters of C(a,b).
+pub fn meet(
+    cells: &[u8],
+    size: u8,
+    total: usize,
+    bytes: &[u8],
+    at: Progress,
+    b: u8,
+    answer: &mut [u8],
+) -> Progress
+    requires { ⌜ Somewhere (now cells) size total (b ∷ []) (now bytes) (now answer) at ⌝ }
+    ensures { λ r. ⌜ Moves (now (cells .entry)) size total (b ∷ []) (now (bytes .entry)) (now (answer .entry)) at (now (bytes .entry))
+        (now (answer .exit)) r ⌝ }
+{
+    let left = at.left - 1;
+    let a = bytes[left] - BACK;
+    let passed = at.passed + 1;
+    if a == b {
+        return Progress {
+            left,
+            right: at.right,
+            passed,
+            emitted: at.emitted,
+            stacked: at.stacked,
+        };
+    }
+    let to = cell_at(a, b);
+    let offset = cells[to] as u16;
+    let stacked = at.stacked + 1;
+    write_entry(answer, size, total - stacked, ChainEntry { offset, a, b });
+    Progress {
+        left,
+        right: at.right,
+        passed,
+        emitted: at.emitted,
+        stacked,
+    }
+}
+
+// The top face is done: its entry is written, and C(b,a) goes to the front of the rest.
+pub fn emit(
+    cells: &[u8],
+    size: u8,
+    bytes: &mut [u8],
+    at: Progress,
+    a: u8,
+    b: u8,
+    answer: &mut [u8],
+) -> Progress
+    requires { ⌜ Emittable (now cells) size (now bytes) (now answer) at a b ⌝ }
+    ensures length { λ r. ⌜ length (now (bytes .exit)) ≡ length (now (bytes .entry)) ⌝ }
+    ensures emits { λ r. ⌜ Emits (now (cells .entry)) size (now (bytes .entry)) (now (answer .entry)) at a b (now (bytes .exit)) (now (answer .exit)) r ⌝ }
+{
+    let to = cell_at(a, b);
+    let from = cell_at(b, a);
+    let x = cells[to] as usize;
+    let y = cells[from] as usize;
+    let start = at.passed - x - 1;
+    let passed = start + 1;
+    let left = at.left + y;
+    let index = at.emitted;
+    let emitted = index + 1;
+    let stacked = at.stacked - 1;
+    let offset = start as u16;
+    let entry = ChainEntry { offset, a, b };
+    write_entry(answer, size, index, entry);
+    push_inverse(bytes, left, cells, from);
+    Progress {
+        left,
+        right: at.right,
+        passed,
+        emitted,
+        stacked,
+    }
+}
+
+// The next letter is one of the top face's, where one is left; else the face is done.
+pub fn turn(
+    cells: &[u8],
+    size: u8,
+    total: usize,
+    bytes: &mut [u8],
+    at: Progress,
+    answer: &mut [u8],
+) -> Progress
+    requires somewhere { ⌜ Somewhere (now cells) size total [] (now bytes) (now answer) at ⌝ }
+    requires stacked { ⌜ 1 ≤ at .stacked ⌝ }
+    ensures length { λ r. ⌜ length (now (bytes .exit)) ≡ length (now (bytes .entry)) ⌝ }
+    ensures moves { λ r. ⌜ Moves (now (cells .entry)) size total [] (now (bytes .entry)) (now (answer .entry)) at (now (bytes .exit)) (now (answer .exit)) r ⌝ }
+{
+    let index = total - at.stacked;
+    let face = read_entry(answer, size, index);
+    let count = face.offset;
+    let a = face.a;
+    let b = face.b;
+    if count == 0 {
+        return emit(cells, size, bytes, at, a, b, answer);
+    }
+    let to = cell_at(a, b);
+    let x = cells[to] as usize;
+    let next = cells[to + 1 + x - (count as usize)];
+    write_entry(
+        answer,
+        size,
+        index,
+        ChainEntry {
+            offset: count - 1,
+            a,
+            b,
+        },
+    );
+    meet(cells, size, total, bytes, at, next, answer)
+}
