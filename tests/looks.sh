@@ -143,7 +143,7 @@ mkdir -p "$work/tree/crates/x/src" "$work/tree/target/log" "$work/tree/.ci"
 printf 'pub fn one(x: u8) -> u8 {\n    x\n}\n' > "$work/tree/crates/x/src/x.rt"
 sees promises 'a public function without a promise'
 services
-sed 's/^    ensures stated /    requires { ⌜ Unit ⌝ }\n    ensures stated /' crates/clearing/src/clear.rt > "$work/tree/crates/clearing/src/clear.rt"
+sed 's/^    ensures /    requires { ⌜ Unit ⌝ }\n    ensures /' crates/clearing/src/clear.rt > "$work/tree/crates/clearing/src/clear.rt"
 sees asks_nothing 'a service that asks something'
 printf '#[no_mangle]\npub extern "C" fn one(x: u8) -> u8\n    requires { x }\n    ensures { x }\n{\n    x\n}\n' > "$work/tree/crates/x/src/x.rt"
 services

@@ -47,7 +47,10 @@ FNR == 1 {
 /^(ghost )?use / { imports(FILENAME, $0); next }
 { line = $0 }
 code { sub(/\/\/.*/, "", line) }
-code && line ~ /⌜/ { root[++count] = line; root_file[count] = FILENAME }
+# a clause of a contract may go on over several lines
+code && clause != "" { clause = clause " " line }
+code && clause == "" && line ~ /⌜/ { clause = line }
+code && clause != "" && line ~ /⌝/ { root[++count] = clause; root_file[count] = FILENAME; clause = "" }
 code { next }
 { sub(/(^|[ \t])--.*/, "", line) }
 line ~ /^[ \t]*$/ { next }

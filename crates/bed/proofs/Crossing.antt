@@ -15,6 +15,7 @@ use Rattle.model.specs.Range.{InRange}
 use Rattle.model.specs.Enumeration.{pairs}
 use Rattle.model.specs.Bed.{Bed, exchanged, position, crossing, crossed}
 use Rattle.model.proofs.Beds.{exchanged-length, sum-within, bobbin-named, bobbins-differ}
+use Rattle.model.specs.Plain.{mostLetters}
 use Rattle.bed.specs.declared.moves.Bed.{Bed as BedStruct}
 use Rattle.bed.specs.Shown.{Shows, Shown}
 
@@ -27,7 +28,7 @@ mag-within (negsuc a) = omega arith
 small : (z : ℤ) → natAbs z ≤ 4096 → SFits w16 z
 small z h = record { sfits = omega (arith, mag-within z) }
 
-module _ (x d : ℤ) (few : natAbs x ≤ 4095) (one : natAbs d ≤ 1) where
+module _ (x d : ℤ) (few : natAbs x ≤ mostLetters) (one : natAbs d ≤ 1) where
   as-read : toZ w16 (ofZ w16 x) +ℤ toZ w16 (ofZ w16 d) ≡ x +ℤ d
   as-read = ap (λ z. z +ℤ toZ w16 (ofZ w16 d)) (toZ-ofZ w16 x (small x (omega arith))) ∙ ap (λ z. x +ℤ z) (toZ-ofZ w16 d (small d (omega arith)))
 
@@ -64,7 +65,7 @@ module _ (v : BedStruct) (places : ℕ) (B : Bed) (h : Shown v places B) where
   total-at k l =
       sym (getD-take (length (B .totals)) (v .totals) k (pos 0) l) ∙ ap (λ l. getD l k (pos 0)) (h .shows .totals)
 
-  pub total-within : (k : ℕ) → k < length (B .totals) → natAbs (getD (v .totals) k (pos 0)) ≤ 4095
+  pub total-within : (k : ℕ) → k < length (B .totals) → natAbs (getD (v .totals) k (pos 0)) ≤ mostLetters
   total-within k l = rw (total-at k l) (omega (arith, h .sound .within k, h .few))
 
   -- the first bobbins after two stores

@@ -15,6 +15,7 @@ use Rattle.model.specs.Bed.{Sound, firstBed, crossed, laid}
 use Rattle.model.proofs.Positions.{pairs-many, pairs-few}
 use Rattle.model.proofs.Beds.{range-length, first-sound, laid-sound, laid-append}
 use Rattle.images.proofs.RoundTrip.{program-in-range}
+use Rattle.model.specs.Plain.{mostLetters}
 use Rattle.bed.specs.declared.moves.Bed.{Bed as BedStruct}
 use Rattle.bed.specs.Shown.{Shows, Shown, Crosses, CrossedBy, Moves, MovedBy}
 
@@ -74,7 +75,7 @@ letter-of n (x ∷ w) zero h l = l .0
 letter-of n (x ∷ w) (suc i) h l = letter-of n w i (omega arith) (l .1)
 
 module _ (program : List ℕ) (size : ℕ) (few : size ≤ 16) (w : Word) (read : readProgram size program ≡ answered w) (i : ℕ) (h : i < length w) where
-  short : length w ≤ 4095
+  short : length w ≤ mostLetters
   short = omega (arith, program-in-range size few program w read .short)
 
   done : length (take i w) ≡ i

@@ -22,11 +22,11 @@ use Rattle.model.proofs.Impossible.{impossible}
 use Rattle.model.proofs.Fitted.{short-area, long-area}
 use Rattle.model.proofs.Outcomes.{still-refused}
 use Rattle.images.proofs.RoundTrip.{table-in-range, program-in-range}
-use Rattle.images.specs.Tables.{TableOf}
 use Rattle.theory.specs.Beds.{BedMeaning}
 use Rattle.theory.proofs.Totals.{bed-meaning}
 use Rattle.bed.specs.BraidTable.{BraidOf}
 use Rattle.bed.specs.Shown.{Answers}
+use Rattle.images.specs.Tables.{Loaded}
 use Rattle.bed.specs.Meaning.{BedSays, BedPromise}
 
 -- THE TABLE
@@ -46,7 +46,7 @@ module _ (image : List ℕ) (T : Presentation) (e : readTable image ≡ answered
   pub braid-refused : isBraid T ≡ false → readBraid image ≡ refusal NotBraidTable
   braid-refused b = read-is ∙ ap (λ t. unless (not t) 15 T) b
 
-pub braid-of : (image cells : List ℕ) (size : ℕ) (t : TableOf image cells size) → isBraid (t .table) ≡ true → BraidOf image cells size
+pub braid-of : (image cells : List ℕ) (size : ℕ) (t : Loaded (readTable image) cells size) → isBraid (t .table) ≡ true → BraidOf image cells size
 braid-of image cells size t b = record { table = t .table; read = braid-read image (t .table) (t .read) b; of = t .of }
 
 -- THE OUTCOME

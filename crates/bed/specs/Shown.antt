@@ -14,6 +14,7 @@ use Rattle.model.specs.Services.{fitted}
 use Rattle.model.specs.Areas.{begins, outputAfter}
 use Rattle.model.specs.Stated.{packedAs}
 use Rattle.model.specs.Bed.{Bed, Sound, crossed, moved, bedAfter, bedBytes}
+use Rattle.model.specs.Plain.{mostLetters}
 use Rattle.bed.specs.declared.moves.Bed.{Bed as BedStruct}
 
 -- its first bobbins and totals are those of the bed
@@ -26,7 +27,7 @@ pub record Shown (v : BedStruct) (places : ℕ) (B : Bed) : Type 0 where
   pub shows : Shows v B
   pub c : ℕ
   pub sound : Sound places c B
-  pub few : c < 4095
+  pub few : c < mostLetters
   pub small : places ≤ 17
 
 pub record Crosses (v : BedStruct) (places i : ℕ) : Type 0 where

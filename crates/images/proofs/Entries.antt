@@ -7,7 +7,7 @@ use lib.ListN.{length, getD}
 use Rattle.model.specs.Equivalence.{Entry}
 use Rattle.model.specs.Outcome.{unplaced, Outcome, answered, refused, _>>=_}
 use Rattle.model.specs.Bits.{Read, field, bitsOf}
-use Rattle.model.specs.Images.{letterField, entryWidth, entryPosition, entryField, readChain}
+use Rattle.model.specs.Images.{letterField, entryWidth, entryPosition, entryField, readChain, offsetWidth}
 use Rattle.model.proofs.Impossible.{same-answer}
 use Rattle.bits.proofs.Bytes.{bits-are-bits}
 use Rattle.bits.proofs.Fields.{bits-drop}
@@ -31,28 +31,29 @@ module _ (image : List ℕ) (at size width : ℕ) where
   unfolding second
   first o = letterField 4 5 size (o .rest) >>= second (o .value)
 
-  pub offset-ends : ((early : ℕ) → field early 15 (from image at) ≡ refused early unplaced) → entryField size (from image at) ≡ refused 4 unplaced
+  pub offset-ends : ((early : ℕ) → field early offsetWidth (from image at) ≡ refused early unplaced) → entryField size (from image at) ≡ refused 4 unplaced
   unfolding first second last
   offset-ends e = ap (λ o. o >>= first) (e 4)
 
-  module _ (offset : ℕ) (h : FieldAt image at 15 offset) where
-    after-offset : entryField size (from image at) ≡ (letterField 4 5 size (from image (at + 15)) >>= second offset)
+  module _ (offset : ℕ) (h : FieldAt image at offsetWidth offset) where
+    after-offset : entryField size (from image at) ≡ (letterField 4 5 size (from image (at + offsetWidth)) >>= second offset)
     unfolding first second last
     after-offset = ap (λ o. o >>= first) (h .read 4)
 
-    pub first-refused : (n : ℕ) → letterField 4 5 size (from image (at + 15)) ≡ refused n unplaced → entryField size (from image at) ≡ refused n unplaced
+    pub first-refused : (n : ℕ) → letterField 4 5 size (from image (at + offsetWidth)) ≡ refused n unplaced
+        → entryField size (from image at) ≡ refused n unplaced
     first-refused n e = after-offset ∙ ap (λ o. o >>= second offset) e
 
-    module _ (a : ℕ) (x : LetterAt image (at + 15) size width a) where
-      after-first : entryField size (from image at) ≡ (letterField 4 5 size (from image (at + 15 + width)) >>= last offset a)
+    module _ (a : ℕ) (x : LetterAt image (at + offsetWidth) size width a) where
+      after-first : entryField size (from image at) ≡ (letterField 4 5 size (from image (at + offsetWidth + width)) >>= last offset a)
       unfolding second last
       after-first = after-offset ∙ ap (λ o. o >>= second offset) (x .read 4 5)
 
-      pub second-refused : (n : ℕ) → letterField 4 5 size (from image (at + 15 + width)) ≡ refused n unplaced
+      pub second-refused : (n : ℕ) → letterField 4 5 size (from image (at + offsetWidth + width)) ≡ refused n unplaced
           → entryField size (from image at) ≡ refused n unplaced
       second-refused n e = after-first ∙ ap (λ o. o >>= last offset a) e
 
-      pub entry-read : (b : ℕ) → LetterAt image (at + 15 + width) size width b → EntryAt image at size width (record { offset = offset; a = a; b = b })
+      pub entry-read : (b : ℕ) → LetterAt image (at + offsetWidth + width) size width b → EntryAt image at size width (record { offset = offset; a = a; b = b })
       unfolding last
       entry-read b y = record { inside = y .inside; read = after-first ∙ ap (λ o. o >>= last offset a) (y .read 4 5) }
 

@@ -19,6 +19,7 @@ use Rattle.bits.proofs.Digits.{AreBits}
 use Rattle.bits.proofs.Width.{letter-fits}
 use Rattle.model.specs.Range.{All, InRange, LetterInRange, WordInRange, PairInRange, EntryInRange}
 use Rattle.model.proofs.Impossible.{answer-of, same-answer, not-refused}
+use Rattle.model.specs.Images.{offsetWidth}
 use Rattle.images.proofs.Codec.{Codec, then, field-codec, several-codec, input-rest, bits-suffix}
 
 -- a count, then as many of one kind
@@ -230,11 +231,11 @@ module _ (n : ℕ) (few : n ≤ 16) where
 
   entry-reads : (e : Entry) → EntryInRange n e → (rest : List ℕ) → entryField n (entryBits n e ++ rest) ≡ answered (record { value = e; rest = rest })
   entry-reads e h rest =
-      ap (entryField n) (append-assoc (digits 15 (e .offset)) (letterBits n (e .a) ++ letterBits n (e .b)) rest
-      ∙ ap (λ l. digits 15 (e .offset) ++ l) (append-assoc (letterBits n (e .a)) (letterBits n (e .b)) rest))
-      ∙ then (field 4 15 (digits 15 (e .offset) ++ (letterBits n (e .a) ++ (letterBits n (e .b) ++ rest)))) _
+      ap (entryField n) (append-assoc (digits offsetWidth (e .offset)) (letterBits n (e .a) ++ letterBits n (e .b)) rest
+      ∙ ap (λ l. digits offsetWidth (e .offset) ++ l) (append-assoc (letterBits n (e .a)) (letterBits n (e .b)) rest))
+      ∙ then (field 4 offsetWidth (digits offsetWidth (e .offset) ++ (letterBits n (e .a) ++ (letterBits n (e .b) ++ rest)))) _
       (record { value = e .offset; rest = letterBits n (e .a) ++ (letterBits n (e .b) ++ rest) }) _
-      (field-codec 4 15 .reads-back (e .offset) (h .offset-small) (letterBits n (e .a) ++ (letterBits n (e .b) ++ rest)))
+      (field-codec 4 offsetWidth .reads-back (e .offset) (h .offset-small) (letterBits n (e .a) ++ (letterBits n (e .b) ++ rest)))
       (then (letterField 4 5 n (letterBits n (e .a) ++ (letterBits n (e .b) ++ rest))) _ (record { value = e .a; rest = letterBits n (e .b) ++ rest }) _
       (letter-codec 4 5 .reads-back (e .a) (h .a-names) (letterBits n (e .b) ++ rest))
       (then (letterField 4 5 n (letterBits n (e .b) ++ rest))
@@ -245,22 +246,22 @@ module _ (n : ℕ) (few : n ≤ 16) where
       → (input ≡ entryBits n (r .value) ++ r .rest) × EntryInRange n (r .value)
   unfolding lettersOf secondLetter
   entry-parts input i r e =
-      let s = answer-of (field 4 15 input) lettersOf r e in
-      let j = input-rest AreBits bits-suffix (field-codec 4 15) input i (s .0) (s .1) in
+      let s = answer-of (field 4 offsetWidth input) lettersOf r e in
+      let j = input-rest AreBits bits-suffix (field-codec 4 offsetWidth) input i (s .0) (s .1) in
       let a = answer-of (letterField 4 5 n (s .0 .rest)) (secondLetter (s .0 .value)) r (s .2) in
       let k = input-rest AreBits bits-suffix (letter-codec 4 5) (s .0 .rest) j (a .0) (a .1) in
       let b = answer-of (letterField 4 5 n (a .0 .rest))
       (λ b. answered (record { value = record { offset = s .0 .value; a = a .0 .value; b = b .value }; rest = b .rest })) r (a .2) in
       subst (λ r. (input ≡ entryBits n (r .value) ++ r .rest) × EntryInRange n (r .value))
       (same-answer (record { value = record { offset = s .0 .value; a = a .0 .value; b = b .0 .value }; rest = b .0 .rest }) r (b .2)) (
-        field-codec 4 15 .stood-there input i (s .0) (s .1)
-            ∙ (ap (λ l. digits 15 (s .0 .value) ++ l)
+        field-codec 4 offsetWidth .stood-there input i (s .0) (s .1)
+            ∙ (ap (λ l. digits offsetWidth (s .0 .value) ++ l)
             (letter-codec 4 5 .stood-there (s .0 .rest) j (a .0) (a .1)
             ∙ (ap (λ l. letterBits n (a .0 .value) ++ l) (letter-codec 4 5 .stood-there (a .0 .rest) k (b .0) (b .1))
             ∙ sym (append-assoc (letterBits n (a .0 .value)) (letterBits n (b .0 .value)) (b .0 .rest))))
-            ∙ sym (append-assoc (digits 15 (s .0 .value)) (letterBits n (a .0 .value) ++ letterBits n (b .0 .value)) (b .0 .rest))),
+            ∙ sym (append-assoc (digits offsetWidth (s .0 .value)) (letterBits n (a .0 .value) ++ letterBits n (b .0 .value)) (b .0 .rest))),
         record {
-          offset-small = field-codec 4 15 .in-range input i (s .0) (s .1);
+          offset-small = field-codec 4 offsetWidth .in-range input i (s .0) (s .1);
           a-names = letter-codec 4 5 .in-range (s .0 .rest) j (a .0) (a .1);
           b-names = letter-codec 4 5 .in-range (a .0 .rest) k (b .0) (b .1);
         },

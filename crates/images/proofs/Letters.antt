@@ -12,7 +12,7 @@ use lib.Seq.{drop-cons, drop-length, paste, paste-suc, take-all}
 use Rattle.model.specs.Word.{forward, back, Word, byte}
 use Rattle.model.specs.Outcome.{unplaced, answered, refused}
 use Rattle.model.specs.Bits.{letterWidth}
-use Rattle.model.specs.Images.{signed, signedField, readProgram}
+use Rattle.model.specs.Images.{signed, signedField, readProgram, countWidth}
 use Rattle.model.specs.Plain.{plainProgram}
 use Rattle.model.specs.Services.{isForward}
 use Rattle.bits.proofs.Width.{width-small}
@@ -34,25 +34,26 @@ module _ (image : List ℕ) (size width i : ℕ) (p : HasLetter image size width
   index-small = omega (arith, p .inside, program-in-range size (p .few) image (p .word) (p .read) .short)
 
   stands : (w : Word) → readProgram size image ≡ answered w
-      → signedField size (from image (12 + i * (1 + width))) ≡ answered
-      (record { value = getD w i (forward 0); rest = from image (12 + i * (1 + width) + (1 + width)) })
+      → signedField size (from image (countWidth + i * (1 + width))) ≡ answered
+      (record { value = getD w i (forward 0); rest = from image (countWidth + i * (1 + width) + (1 + width)) })
   stands w e =
       let l : i < length w = subst (λ w. i < length w) (same-answer (p .word) w (sym (p .read) ∙ e)) (p .inside) in
-      subst (λ k. signedField size (from image (12 + i * (1 + k))) ≡ answered
-      (record { value = getD w i (forward 0); rest = from image (12 + i * (1 + k) + (1 + k)) }))
+      subst (λ k. signedField size (from image (countWidth + i * (1 + k))) ≡ answered
+      (record { value = getD w i (forward 0); rest = from image (countWidth + i * (1 + k) + (1 + k)) }))
       (sym (p .width-is)) (letter-placed size (p .few) image w e i l (forward 0))
 
-  pub ends-inside : 12 + i * (1 + width) + (1 + width) ≤ 8 * length image
+  pub ends-inside : countWidth + i * (1 + width) + (1 + width) ≤ 8 * length image
   ends-inside =
-      subst (λ k. 12 + i * (1 + k) + (1 + k) ≤ 8 * length image) (sym (p .width-is)) (letter-inside size (p .few) image (p .word) (p .read) i (p .inside))
+      subst (λ k. countWidth + i * (1 + k) + (1 + k) ≤ 8 * length image) (sym (p .width-is))
+      (letter-inside size (p .few) image (p .word) (p .read) i (p .inside))
 
-  pub letter-answer : (x : ℕ) → SignedAt image (12 + i * (1 + width)) size width x → (w : Word) → readProgram size image ≡ answered w
+  pub letter-answer : (x : ℕ) → SignedAt image (countWidth + i * (1 + width)) size width x → (w : Word) → readProgram size image ≡ answered w
       → x ≡ byte (getD w i (forward 0))
   letter-answer x s w e =
       sym (s .written) ∙ ap (λ r. byte (r .value))
-      (same-answer _ (record { value = getD w i (forward 0); rest = from image (12 + i * (1 + width) + (1 + width)) }) (sym (s .read) ∙ stands w e))
+      (same-answer _ (record { value = getD w i (forward 0); rest = from image (countWidth + i * (1 + width) + (1 + width)) }) (sym (s .read) ∙ stands w e))
 
-  pub letter-stands : (n : ℕ) → signedField size (from image (12 + i * (1 + width))) ≡ refused n unplaced → ⊥
+  pub letter-stands : (n : ℕ) → signedField size (from image (countWidth + i * (1 + width))) ≡ refused n unplaced → ⊥
   letter-stands n e =
       let a = stands (p .word) (p .read) in
       let z : _≡_ {A = ℕ} 0 1 = cc in omega arith

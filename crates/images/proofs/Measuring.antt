@@ -13,6 +13,7 @@ use Rattle.model.specs.Services.{isForward}
 use Rattle.cells.specs.Layout.{weightAt}
 use Rattle.cells.specs.Stands.{Of}
 use Rattle.cells.proofs.Rules.{of-few, held-weight, light-letter}
+use Rattle.model.specs.Images.{countWidth}
 use Rattle.images.specs.Fields.{FieldAt}
 use Rattle.images.specs.BitReader.{place, Reads}
 use Rattle.images.specs.declared.bit_reader.BitReader.{BitReader}
@@ -60,11 +61,12 @@ pub record Passed (image cells : List ℕ) (size count : ℕ) (reader : BitReade
   pub some : turned ≤ i
   pub light : weight ≤ 8 * i
 
-pub passed-none : (image cells : List ℕ) (size count : ℕ) (reader : BitReader) → FieldAt image 0 12 count → place reader ≡ 12 → Reads image reader
+pub passed-none : (image cells : List ℕ) (size count : ℕ) (reader : BitReader) → FieldAt image 0 countWidth count → place reader ≡ countWidth
+    → Reads image reader
     → Passed image cells size count reader 0 0 0
 unfolding validated-none
 passed-none image cells size count reader first here reads =
-    let v : Validated (program size) image count 12 0 = validated-none (program size) image count first in
+    let v : Validated (program size) image count countWidth 0 = validated-none (program size) image count first in
     record {
       validated = record {
         some-left = v .some-left;
@@ -112,7 +114,7 @@ module _ (image cells : List ℕ) (size : ℕ) (T : Presentation) (o : Of cells 
         record { low = passed-named .low; high = omega (arith, number-is, s .signed .named .high, o .sized) } in
         omega (arith, held-weight cells T (o .stands) (x % 128) named, light-letter cells T (o .stands) (x % 128) named)
 
-    pub passed-more : (count : ℕ) → FieldAt image 0 12 count → (reader : BitReader) → place reader ≡ at → width ≤ 4 → (turned weight i : ℕ)
+    pub passed-more : (count : ℕ) → FieldAt image 0 countWidth count → (reader : BitReader) → place reader ≡ at → width ≤ 4 → (turned weight i : ℕ)
         → Passed image cells size count reader turned weight i → i < count
         → Passed image cells size count r (turned + x / 128) (weight + suc (getD cells (weightAt (x % 128)) 0)) (i + 1)
     unfolding validated-more

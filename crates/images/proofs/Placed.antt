@@ -11,7 +11,7 @@ use Rattle.model.specs.Word.{Letter, forward, back, Word}
 use Rattle.model.specs.Equivalence.{Entry}
 use Rattle.model.specs.Outcome.{unplaced, Outcome, answered, refused, _>>=_}
 use Rattle.model.specs.Bits.{Read, field, finish, filling, bitsOf, letterWidth}
-use Rattle.model.specs.Images.{several, signedField, signedBits, readProgram, entryWidth, entryPosition, entryField, entryBits, readChain}
+use Rattle.model.specs.Images.{several, signedField, signedBits, readProgram, entryWidth, entryPosition, entryField, entryBits, readChain, countWidth}
 use Rattle.model.proofs.Impossible.{answer-of, same-answer}
 use Rattle.bits.proofs.Digits.{AreBits, length-digits}
 use Rattle.bits.proofs.Bytes.{bits-are-bits}
@@ -88,20 +88,23 @@ length-signed n (back a) = ap suc (length-digits (letterWidth n) (a - 1)) ∙ om
 
 module _ (n : ℕ) (few : n ≤ 16) (image : List ℕ) where
   pub letter-placed : (w : Word) → readProgram n image ≡ answered w → (i : ℕ) → i < length w → (d : Letter)
-      → signedField n (from image (12 + i * (1 + letterWidth n))) ≡ answered
-      (record { value = getD w i d; rest = from image (12 + i * (1 + letterWidth n) + (1 + letterWidth n)) })
+      → signedField n (from image (countWidth + i * (1 + letterWidth n))) ≡ answered
+      (record { value = getD w i d; rest = from image (countWidth + i * (1 + letterWidth n) + (1 + letterWidth n)) })
   unfolding readProgram
-  letter-placed w e i h d = placed 12 6 4 (1 + letterWidth n) (signedField n) (signedBits n) _ (signed-codec n few) (length-signed n) image w e i h d
+  letter-placed w e i h d = placed countWidth 6 4 (1 + letterWidth n) (signedField n) (signedBits n) _ (signed-codec n few) (length-signed n) image w e i h d
 
   pub letter-inside : (w : Word) → readProgram n image ≡ answered w → (i : ℕ) → i < length w
-      → 12 + i * (1 + letterWidth n) + (1 + letterWidth n) ≤ 8 * length image
+      → countWidth + i * (1 + letterWidth n) + (1 + letterWidth n) ≤ 8 * length image
   unfolding readProgram
-  letter-inside w e i h = omega
-      (arith, placed-inside 12 6 4 (1 + letterWidth n) (signedField n) (signedBits n) _ (signed-codec n few) (length-signed n) image w e i h (forward 0))
+  letter-inside w e i h = omega (
+    arith,
+    placed-inside countWidth 6 4 (1 + letterWidth n) (signedField n) (signedBits n) _ (signed-codec n few) (length-signed n) image w e i h
+        (forward 0),
+  )
 
-  pub count-inside : (w : Word) → readProgram n image ≡ answered w → 12 ≤ 8 * length image
+  pub count-inside : (w : Word) → readProgram n image ≡ answered w → countWidth ≤ 8 * length image
   unfolding readProgram
-  count-inside w e = counted 12 6 4 (1 + letterWidth n) (signedField n) (signedBits n) _ (signed-codec n few) (length-signed n) image w e
+  count-inside w e = counted countWidth 6 4 (1 + letterWidth n) (signedField n) (signedBits n) _ (signed-codec n few) (length-signed n) image w e
 
   pub entry-placed : (es : List Entry) → readChain n image ≡ answered es → (i : ℕ) → i < length es → (d : Entry)
       → entryField n (from image (entryPosition n i)) ≡ answered (record { value = getD es i d; rest = from image (entryPosition n i + entryWidth n) })

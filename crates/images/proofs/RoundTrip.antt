@@ -19,6 +19,7 @@ use Rattle.bits.proofs.Bytes.{bits-are-bits}
 use Rattle.model.specs.Range.{AreBytes, All, Rows, LetterInRange, PairInRange, EntryInRange, ProgramInRange, TableInRange, ChainInRange}
 use Rattle.model.proofs.Impossible.{answer-of, same-answer}
 use Rattle.bits.proofs.Packing.{pack-bits, pack-filling, packed-of}
+use Rattle.model.specs.Images.{countWidth, offsetWidth}
 use Rattle.images.proofs.Several.{bind-assoc}
 use Rattle.images.proofs.Codec.{Codec, then, several-codec, field-codec, rows-codec, input-rest, bits-suffix}
 use Rattle.images.proofs.Inverse.{counted, counted-codec, signed-codec, pair-codec, entry-codec}
@@ -75,23 +76,23 @@ signed-are-bits n (forward a) = (omega arith, letter-are-bits n a)
 signed-are-bits n (back a) = (omega arith, letter-are-bits n a)
 
 entry-are-bits : (n : ℕ) (e : Entry) → AreBits (entryBits n e)
-entry-are-bits n e = bits-append (digits 15 (e .offset)) (letterBits n (e .a) ++ letterBits n (e .b)) (digits-are-bits 15 (e .offset))
+entry-are-bits n e = bits-append (digits offsetWidth (e .offset)) (letterBits n (e .a) ++ letterBits n (e .b)) (digits-are-bits offsetWidth (e .offset))
     (bits-append (letterBits n (e .a)) (letterBits n (e .b)) (letter-are-bits n (e .a)) (letter-are-bits n (e .b)))
 
 -- PROGRAMS
 module _ (n : ℕ) (few : n ≤ 16) where
-  program-codec : Codec AreBits (counted 4 12 (signedField n) (signedBits n) (LetterInRange n) (signed-codec n few))
-      (λ w. digits 12 (length w) ++ concatMap (signedBits n) w) (λ w. (length w < 2 ^ 12) × All (LetterInRange n) w)
-  program-codec = counted-codec 4 12 (signedField n) (signedBits n) (LetterInRange n) (signed-codec n few)
+  program-codec : Codec AreBits (counted 4 countWidth (signedField n) (signedBits n) (LetterInRange n) (signed-codec n few))
+      (λ w. digits countWidth (length w) ++ concatMap (signedBits n) w) (λ w. (length w < 2 ^ countWidth) × All (LetterInRange n) w)
+  program-codec = counted-codec 4 countWidth (signedField n) (signedBits n) (LetterInRange n) (signed-codec n few)
 
-  program-bits : (w : Word) → AreBits (digits 12 (length w) ++ concatMap (signedBits n) w)
-  program-bits w = bits-append (digits 12 (length w)) (concatMap (signedBits n) w) (digits-are-bits 12 (length w))
+  program-bits : (w : Word) → AreBits (digits countWidth (length w) ++ concatMap (signedBits n) w)
+  program-bits w = bits-append (digits countWidth (length w)) (concatMap (signedBits n) w) (digits-are-bits countWidth (length w))
       (concat-bits (signedBits n) (signed-are-bits n) w)
 
   program-is : (bytes : List ℕ)
-      → readProgram n bytes ≡ (counted 4 12 (signedField n) (signedBits n) (LetterInRange n) (signed-codec n few) (bitsOf bytes) >>= finish 6)
+      → readProgram n bytes ≡ (counted 4 countWidth (signedField n) (signedBits n) (LetterInRange n) (signed-codec n few) (bitsOf bytes) >>= finish 6)
   unfolding readProgram
-  program-is bytes = sym (bind-assoc (field 4 12 (bitsOf bytes)) (λ k. several (signedField n) (k .value) (k .rest)) (finish 6))
+  program-is bytes = sym (bind-assoc (field 4 countWidth (bitsOf bytes)) (λ k. several (signedField n) (k .value) (k .rest)) (finish 6))
 
   pub program-reads-back : (w : Word) → ProgramInRange n w → readProgram n (programImage n w) ≡ answered w
   unfolding programImage

@@ -109,10 +109,7 @@ LoadedAs outcome cells (Refused r) = outcome ≡ refusal r
 abbrev pub RowsDone : List ℕ → ℕ → Form → ℕ → List ℕ → List ℕ → TableRead → Type 0
 RowsDone input at f size before after r = (excess : List ℕ) → HoldsWeights size before excess → LoadedAs (rowsIn f size excess (from input at)) after r
 
--- the cells stand for the table that the image holds
-abbrev pub TableOf : List ℕ → List ℕ → ℕ → Type 0
-TableOf image cells size = Loaded (readTable image) cells size
-
+-- the cells stand for the table that the image holds, or the refusal is its own
 abbrev pub TableDone : List ℕ → List ℕ → TableRead → Type 0
 TableDone image cells r = LoadedAs (readTable image) cells r
 

@@ -17,7 +17,7 @@ use Rattle.model.specs.Presentation.{Presentation}
 use Rattle.model.specs.Outcome.{Place, unplaced, Outcome, answered, refused, _>>=_, unless, mapped}
 use Rattle.model.specs.Bits.{Read}
 use Rattle.model.specs.Images.{readTable}
-use Rattle.model.specs.Plain.{plainProgram}
+use Rattle.model.specs.Plain.{plainProgram, mostLetters}
 use Rattle.model.specs.Areas.{begins, outputAfter}
 use Rattle.model.specs.Stated.{refusal, packedAs}
 use Rattle.model.specs.Notation.{Pattern, mostNested, meaning, moves, highest, noPattern, readPattern, readText, imported, import}
@@ -73,19 +73,20 @@ module _ (n : ℕ) (p : Pattern) (area : ℕ) where
   move-above h = ap (λ b. unless b 5 p >>= rest) (lt-ltb n (highest p) h)
     where
       rest : Pattern → Outcome Word
-      rest p = unless (ltb 4095 (moves p)) 20 p >>= λ p. unless (ltb area (moves p)) 13 (meaning p)
+      rest p = unless (ltb mostLetters (moves p)) 20 p >>= λ p. unless (ltb area (moves p)) 13 (meaning p)
 
   module _ (low : highest p ≤ n) where
-    named : imported n p area ≡ (unless (ltb 4095 (moves p)) 20 p >>= λ p. unless (ltb area (moves p)) 13 (meaning p))
+    named : imported n p area ≡ (unless (ltb mostLetters (moves p)) 20 p >>= λ p. unless (ltb area (moves p)) 13 (meaning p))
     unfolding imported
-    named = ap (λ b. unless b 5 p >>= λ p. unless (ltb 4095 (moves p)) 20 p >>= λ p. unless (ltb area (moves p)) 13 (meaning p)) (le-ltb n (highest p) low)
+    named = ap (λ b. unless b 5 p >>= λ p. unless (ltb mostLetters (moves p)) 20 p >>= λ p. unless (ltb area (moves p)) 13 (meaning p))
+        (le-ltb n (highest p) low)
 
-    pub too-many : 4095 < moves p → imported n p area ≡ refusal TooManyMoves
-    too-many h = named ∙ ap (λ b. unless b 20 p >>= λ p. unless (ltb area (moves p)) 13 (meaning p)) (lt-ltb 4095 (moves p) h)
+    pub too-many : mostLetters < moves p → imported n p area ≡ refusal TooManyMoves
+    too-many h = named ∙ ap (λ b. unless b 20 p >>= λ p. unless (ltb area (moves p)) 13 (meaning p)) (lt-ltb mostLetters (moves p) h)
 
-    module _ (few : moves p ≤ 4095) where
+    module _ (few : moves p ≤ mostLetters) where
       counted : imported n p area ≡ unless (ltb area (moves p)) 13 (meaning p)
-      counted = named ∙ ap (λ b. unless b 20 p >>= λ p. unless (ltb area (moves p)) 13 (meaning p)) (le-ltb 4095 (moves p) few)
+      counted = named ∙ ap (λ b. unless b 20 p >>= λ p. unless (ltb area (moves p)) 13 (meaning p)) (le-ltb mostLetters (moves p) few)
 
       pub too-short : area < moves p → imported n p area ≡ refusal AnswerShort
       too-short h = counted ∙ ap (λ b. unless b 13 (meaning p)) (lt-ltb area (moves p) h)
@@ -94,11 +95,11 @@ module _ (n : ℕ) (p : Pattern) (area : ℕ) where
       laid-out h = counted ∙ ap (λ b. unless b 13 (meaning p)) (le-ltb area (moves p) h)
 
 -- more moves than a program has were counted, or all of them
-pub capped-above : (m : ℕ) → 4095 < capped m → 4095 < m
-capped-above m h = elim (decLt 4095 m) [ yes more ↦ more | no few ↦ absurd (omega (arith, capped-low m (omega (arith, few)), h, few)) ]
+pub capped-above : (m : ℕ) → mostLetters < capped m → mostLetters < m
+capped-above m h = elim (decLt mostLetters m) [ yes more ↦ more | no few ↦ absurd (omega (arith, capped-low m (omega (arith, few)), h, few)) ]
 
-pub capped-exact : (m : ℕ) → capped m ≤ 4095 → capped m ≡ m
-capped-exact m h = elim (decLt 4095 m) [
+pub capped-exact : (m : ℕ) → capped m ≤ mostLetters → capped m ≡ m
+capped-exact m h = elim (decLt mostLetters m) [
   | yes more ↦ absurd (omega (arith, capped-high m (omega (arith, more)), h))
   | no few ↦ capped-low m
       (omega (arith, few))
@@ -142,7 +143,7 @@ module _ (text : List ℕ) (n : ℕ) (before : List ℕ) where
     )
 
 -- the pattern's moves have room, and are laid out
-pub text-fits : (text : List ℕ) (s : Span) (t : TextOf text s) (room : ℕ) → moves (t .pattern) ≤ 4095 → moves (t .pattern) ≤ room
+pub text-fits : (text : List ℕ) (s : Span) (t : TextOf text s) (room : ℕ) → moves (t .pattern) ≤ mostLetters → moves (t .pattern) ≤ room
     → PatternFits (readPattern mostNested text) 0 room
 text-fits text s t room few inside = subst (λ o. PatternFits o 0 room) (sym (t .pattern-read)) (few, omega (arith, inside))
 
@@ -200,19 +201,19 @@ module _ (table text before after : List ℕ) (r : Packed) (a : Answers (import 
       many : length (meaning p) ≡ moves p
       many = notation-meaning .counted p
 
-      means-more : highest p ≤ T .size → 4095 < moves p → Come (packedAs r)
+      means-more : highest p ≤ T .size → mostLetters < moves p → Come (packedAs r)
       means-more low h =
           told-by (refused 20 unplaced) (outcome-of (answered p) e ∙ too-many (T .size) p (length before) low h)
           (Comes.too-many T read p is (omega (arith, many)))
 
-      lacks-room : highest p ≤ T .size → moves p ≤ 4095 → length before < moves p → Come (packedAs r)
+      lacks-room : highest p ≤ T .size → moves p ≤ mostLetters → length before < moves p → Come (packedAs r)
       lacks-room low few h =
           let o = outcome-of (answered p) e ∙ too-short (T .size) p (length before) low few h in
           let same : length after ≡ length before = ap length (left-by (refused 13 unplaced) o) in
           told-by (refused 13 unplaced) o (Comes.too-short T read p is (omega (arith, many)))
 
       -- a pattern, by the three tests in their order
-      by-tests : Dec (T .size < highest p) → Dec (4095 < moves p) → Dec (length before < moves p) → Come (packedAs r)
+      by-tests : Dec (T .size < highest p) → Dec (mostLetters < moves p) → Dec (length before < moves p) → Come (packedAs r)
       by-tests (yes h) second third =
           told-by (refused 5 unplaced) (outcome-of (answered p) e ∙ move-above (T .size) p (length before) h) (Comes.above T read p is h)
       by-tests (no low) (yes h) third = means-more (omega arith) h
@@ -225,7 +226,7 @@ module _ (table text before after : List ℕ) (r : Packed) (a : Answers (import 
           ∙ take-at (plainProgram (meaning p)) (drop (length (plainProgram (meaning p))) before) (length (meaning p)) (length-map (meaning p) byte)))
 
     from-text : (o : Outcome Pattern) → readText text ≡ o → Come (packedAs r)
-    from-text (answered p) e = by-tests p e (decLt (T .size) (highest p)) (decLt 4095 (moves p)) (decLt (length before) (moves p))
+    from-text (answered p) e = by-tests p e (decLt (T .size) (highest p)) (decLt mostLetters (moves p)) (decLt (length before) (moves p))
     from-text (refused n place) e = by-text n place e
 
   from-table : (o : Outcome Presentation) → readTable table ≡ o → Come (packedAs r)

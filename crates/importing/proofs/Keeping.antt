@@ -16,25 +16,26 @@ use Rattle.model.specs.Notation.{Pattern, nothing, _then_, Item, item, Body, mo
 use Rattle.model.specs.Notation.{bodyHighest, closingByte, countByte, noPattern, readNumber, readMinus, readCount, readMove, readClose, readBody, readItem}
 use Rattle.model.proofs.Impossible.{impossible}
 use Rattle.model.proofs.Numbers.{below-or}
+use Rattle.model.specs.Plain.{mostLetters}
 use Rattle.importing.specs.Reading.{capped, Kept, keptOf, keptBody, keptItem, keptPattern, closed, closing, timesKept, counted, counting, standsFirst}
 use Rattle.importing.proofs.Readers.{withCount, count-there, count-none, closeAfter, before}
 
 -- NUMBERS OF MOVES
 
 -- a number is as it is, or more than a program has
-pub capped-low : (m : ℕ) → m ≤ 4095 → capped m ≡ m
-capped-low m h = test (ltb 4095 m) refl
+pub capped-low : (m : ℕ) → m ≤ mostLetters → capped m ≡ m
+capped-low m h = test (ltb mostLetters m) refl
   where
-    test : (b : Bool) → ltb 4095 m ≡ b → cond b 4096 m ≡ m
-    test true e = absurd (omega (arith, ltb-true 4095 m e, h))
+    test : (b : Bool) → ltb mostLetters m ≡ b → cond b 4096 m ≡ m
+    test true e = absurd (omega (arith, ltb-true mostLetters m e, h))
     test false e = refl
 
 pub capped-high : (m : ℕ) → 4096 ≤ m → capped m ≡ 4096
-capped-high m h = test (ltb 4095 m) refl
+capped-high m h = test (ltb mostLetters m) refl
   where
-    test : (b : Bool) → ltb 4095 m ≡ b → cond b 4096 m ≡ 4096
+    test : (b : Bool) → ltb mostLetters m ≡ b → cond b 4096 m ≡ 4096
     test true e = refl
-    test false e = absurd (omega (arith, ltb-false 4095 m e, h))
+    test false e = absurd (omega (arith, ltb-false mostLetters m e, h))
 
 pub capped-sum : (a b : ℕ) → capped (a + capped b) ≡ capped (a + b)
 capped-sum a b = ⊎-elim low high (below-or b 4096)

@@ -12,6 +12,7 @@ use Rattle.model.specs.Bits.{Read}
 use Rattle.model.specs.Notation.{Pattern, nothing, _then_, Item, meaning, itemMeaning, moves, itemMoves, spaceByte, readItem, readOn, readPattern}
 use Rattle.model.proofs.Impossible.{impossible}
 use Rattle.theory.proofs.Notation.{notation-meaning}
+use Rattle.model.specs.Plain.{mostLetters}
 use Rattle.importing.specs.declared.writing.Laid.{Laid}
 use Rattle.importing.specs.Reading.{standsFirst, endsFirst, within}
 use Rattle.importing.specs.Laying.{WordPut, ItemFits, ItemLaid, PatternFits, PatternLaid}
@@ -24,7 +25,7 @@ use Rattle.importing.proofs.Laying.{put-nothing, put-kept, put-append}
 pub record Fitting (o : Outcome (Read Pattern)) (from room : ℕ) : Type 0 where
   pub pattern : Read Pattern
   pub read : o ≡ answered pattern
-  pub few : moves (pattern .value) ≤ 4095
+  pub few : moves (pattern .value) ≤ mostLetters
   pub inside : from + moves (pattern .value) ≤ room
 
 pub fitting : (o : Outcome (Read Pattern)) (from room : ℕ) → PatternFits o from room → Fitting o from room

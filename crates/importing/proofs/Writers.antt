@@ -19,6 +19,7 @@ use Rattle.model.proofs.Impossible.{impossible}
 use Rattle.model.proofs.Booleans.{both-true}
 use Rattle.theory.proofs.Notation.{item-counted, body-counted}
 use Rattle.engine.specs.Gap.{letters}
+use Rattle.model.specs.Plain.{mostLetters}
 use Rattle.importing.specs.declared.writing.Laid.{Laid}
 use Rattle.importing.specs.Reading.{standsFirst, Kept, keptItem, within}
 use Rattle.importing.specs.Laying.{WordPut, Repeatable, Finishes, ItemFits, ItemLaid, PatternFits, PatternLaid}
@@ -144,7 +145,7 @@ module _ (text : List ℕ) (at depth from : ℕ) (a : List ℕ) (k : Kept) (e : 
   abbrev pub the-item : Item
   the-item = was-read .value
 
-  few : (itemMoves the-item ≤ 4095) × (from + itemMoves the-item ≤ length a)
+  few : (itemMoves the-item ≤ mostLetters) × (from + itemMoves the-item ≤ length a)
   few = subst (λ o. ItemFits o from (length a)) (was-read .read) fits
 
   -- none of its moves was left uncounted

@@ -18,11 +18,11 @@ use Rattle.images.specs.Programs.{Measured, ForwardMeasured, MeasuredAs, readAs
 use Rattle.images.specs.declared.programs.Signs.{Signs}
 use Rattle.images.specs.declared.programs.Signs.the-variants.{Any, Forward as ForwardAlone}
 use Rattle.cells.specs.Stands.{Sized}
-use Rattle.images.specs.Tables.{TableOf}
 use Rattle.cells.proofs.Rules.{of-some, of-few}
 use Rattle.loading.specs.Loading.{ProgramLoaded, ForwardLoaded, LoadedAs, ProgramsLoaded, SignedLoaded, BothAs}
 use Rattle.loading.proofs.Early.{Early, early-then, wider, table-early, forward-early}
 use Rattle.loading.proofs.Outcomes.{AsFound, reading-refused}
+use Rattle.images.specs.Tables.{Loaded}
 use Rattle.loading.proofs.Weights.{measured-weighs}
 
 -- A TABLE ALONE, as clear and mirror_clear begin
@@ -36,7 +36,7 @@ module _ {W : Type 0} (read : ℕ → List ℕ → Outcome W) (table program : L
   pub no-table : (r : Refusal) → readTable table ≡ refusal r → readTableWith read table program ≡ refusal r
   no-table r e = still-refused (readTable table) r e _
 
-  module _ {cells : List ℕ} {size : ℕ} (t : TableOf table cells size) where
+  module _ {cells : List ℕ} {size : ℕ} (t : Loaded (readTable table) cells size) where
     sized : read (t .table .size) program ≡ read size program
     sized = ap (λ i. read i program) (t .of .sized)
 
@@ -68,7 +68,7 @@ module _ {W : Type 0} (read : ℕ → List ℕ → Outcome W) (table program : L
     pub program-runs : (T : Presentation) (w : W) → readTable table ≡ answered T → read (T .size) program ≡ answered w → program-service ≡ rest T w
     program-runs T w e f = goes-on (readTableWith read table program) _ (reads-both T w e f) _
 
-module _ (table program : List ℕ) {cells : List ℕ} {size : ℕ} (t : TableOf table cells size) (count weight : ℕ) where
+module _ (table program : List ℕ) {cells : List ℕ} {size : ℕ} (t : Loaded (readTable table) cells size) (count weight : ℕ) where
   program-loaded : {all : Bool} → Measured program cells size count all weight → ProgramLoaded table program cells size count weight
   program-loaded m =
       record {

@@ -1,7 +1,7 @@
 -- Specification 5.7 and 5.8: the plain forms of a table and of a program, which is a byte a letter.
 use mathlib.Core.List.{List, [], _∷_, _++_, map}
 use mathlib.Core.Bool.{Bool, not, _&&_, _||_, cond}
-use Prim.Native.Nat.{ℕ, suc, _-_, _%_}
+use Prim.Native.Nat.{ℕ, suc, _-_, _%_, _^_}
 use lib.Dec.{leb, ltb, eqb}
 use lib.ListN.{length}
 use Rattle.model.specs.Word.{Word, Positive, backByte, byte, letter}
@@ -9,7 +9,7 @@ use Rattle.model.specs.Presentation.{Presentation, Complement, undefined
 use Rattle.model.specs.Enumeration.{concatMap}
 use Rattle.model.specs.Outcome.{unplaced, Outcome, answered, refused, _>>=_, unless}
 use Rattle.model.specs.Bits.{Read}
-use Rattle.model.specs.Images.{several, rowsOf}
+use Rattle.model.specs.Images.{countWidth, several, rowsOf}
 
 -- 1.3, 5.7: the byte of an open pair, the largest weight of a letter and the most letters of a program
 abbrev pub openByte : ℕ
@@ -19,7 +19,7 @@ abbrev pub mostWeight : ℕ
 mostWeight = 8
 
 abbrev pub mostLetters : ℕ
-mostLetters = 4095
+mostLetters = 2 ^ countWidth - 1
 
 -- WRITING (5.7, 5.8)
 

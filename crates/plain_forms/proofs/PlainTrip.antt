@@ -12,7 +12,7 @@ use Rattle.model.specs.Presentation.{Presentation, Complement, undefined, compl
 use Rattle.model.specs.Enumeration.{concatMap}
 use Rattle.model.specs.Outcome.{Outcome, answered, _>>=_, unless}
 use Rattle.model.specs.Bits.{Read}
-use Rattle.model.specs.Images.{weightWidth, several, rowsOf}
+use Rattle.model.specs.Images.{weightWidth, several, rowsOf, offsetWidth}
 use Rattle.model.specs.Plain.{plainWord, plainPair, plainTable, plainProgram, nextByte, plainLetter, plainWeight, plainLetters, plainDefined, plainPairAt}
 use Rattle.model.specs.Plain.{readPlainTable, namesLetter, plainLettersSigned, readPlainProgram}
 use Rattle.model.specs.Range.{AreBytes, All, Rows, InRange, LetterInRange, WordInRange, PairInRange, ProgramInRange, TableInRange}
@@ -20,6 +20,7 @@ use Rattle.model.proofs.Booleans.{both}
 use Rattle.model.proofs.Impossible.{answer-of, same-answer, not-refused}
 use Rattle.plain_forms.proofs.Programs.{named-positive, named-small}
 use Rattle.images.proofs.Codec.{Codec, then, several-codec, rows-codec}
+use Rattle.model.specs.Plain.{mostLetters}
 
 -- the byte of a weight in plain form
 abbrev weightByte : ℕ → List ℕ
@@ -91,17 +92,17 @@ module _ (n : ℕ) where
   -- the letters of a word whose length k was read
   letters-back : (x : Positive) → WordInRange n x → (rest : List ℕ) → plainLetters n (length x) (x ++ rest) ≡ answered (record { value = x; rest = rest })
   letters-back x h rest =
-      ap (λ t. unless t 2 (length x) >>= λ k. several (plainLetter n) k (x ++ rest)) (le-ltb 15 (length x) (omega (arith, h .short)))
+      ap (λ t. unless t 2 (length x) >>= λ k. several (plainLetter n) k (x ++ rest)) (le-ltb offsetWidth (length x) (omega (arith, h .short)))
       ∙ (ap (λ l. several (plainLetter n) (length x) (l ++ rest)) (sym (concat-ones x)) ∙ many (length x) .reads-back x (refl, h .letters) rest)
 
   letters-parts : (k : ℕ) (input : List ℕ) (r : Read Positive) → plainLetters n k input ≡ answered r → (k ∷ input ≡ plainWord (r .value) ++ r .rest)
       × WordInRange n (r .value)
   letters-parts k input r e =
-      let f = answer-of (unless (ltb 15 k) 2 k) (λ k. several (plainLetter n) k input) r e in
-      let p = not-refused (ltb 15 k) 2 k (f .0) (f .1) in
+      let f = answer-of (unless (ltb offsetWidth k) 2 k) (λ k. several (plainLetter n) k input) r e in
+      let p = not-refused (ltb offsetWidth k) 2 k (f .0) (f .1) in
       let s : several (plainLetter n) k input ≡ answered r = ap (λ k. several (plainLetter n) k input) (p .1) ∙ f .2 in
       let c = many k .in-range input tt r s in
-      let l : k ≤ 15 = ltb-false 15 k (p .0) in (
+      let l : k ≤ offsetWidth = ltb-false offsetWidth k (p .0) in (
         ap (λ m. m ∷ input) (sym (c .0)) ∙ ap (λ l. length (r .value) ∷ l) (many k .stood-there input tt r s ∙ ap (λ l. l ++ r .rest) (concat-ones (r .value))),
         record { short = omega (arith, c .0); letters = c .1 },
       )
@@ -289,7 +290,7 @@ letters-read-back n (x ∷ w) few h =
 pub plain-program-reads-back : (n : ℕ) → n ≤ 16 → (w : Word) → ProgramInRange n w → readPlainProgram n (plainProgram w) ≡ answered w
 unfolding readPlainProgram
 plain-program-reads-back n few w h =
-    ap (λ t. unless t 4 (plainProgram w) >>= plainLettersSigned n) (le-ltb 4095 (length (plainProgram w)) (omega (arith, h .short, length-map w byte)))
+    ap (λ t. unless t 4 (plainProgram w) >>= plainLettersSigned n) (le-ltb mostLetters (length (plainProgram w)) (omega (arith, h .short, length-map w byte)))
     ∙ letters-read-back n w few (h .letters)
 
 -- a byte is that of the letter it names
@@ -323,8 +324,8 @@ pub plain-program-of : (n : ℕ) (bytes : List ℕ) → AreBytes bytes → (w : 
     × ProgramInRange n w
 unfolding readPlainProgram
 plain-program-of n bytes bs w e =
-    let f = answer-of (unless (ltb 4095 (length bytes)) 4 bytes) (plainLettersSigned n) w e in
-    let p = not-refused (ltb 4095 (length bytes)) 4 bytes (f .0) (f .1) in
+    let f = answer-of (unless (ltb mostLetters (length bytes)) 4 bytes) (plainLettersSigned n) w e in
+    let p = not-refused (ltb mostLetters (length bytes)) 4 bytes (f .0) (f .1) in
     let r = program-parts n bytes w bs (ap (plainLettersSigned n) (p .1) ∙ f .2) in
-    let l : length bytes ≤ 4095 = ltb-false 4095 (length bytes) (p .0) in
+    let l : length bytes ≤ mostLetters = ltb-false mostLetters (length bytes) (p .0) in
     (r .0, record { short = omega (arith, ap length (r .0), length-map w byte); letters = r .1 })

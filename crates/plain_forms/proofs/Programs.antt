@@ -11,7 +11,7 @@ use borrow.Author.Count.{below-more}
 use lib.ListN.{length, getD}
 use Rattle.model.specs.Word.{Letter, Word, letter}
 use Rattle.model.specs.Outcome.{unplaced, Outcome, answered, refused, _>>=_, unless}
-use Rattle.model.specs.Plain.{namesLetter, plainLettersSigned, readPlainProgram}
+use Rattle.model.specs.Plain.{namesLetter, plainLettersSigned, readPlainProgram, mostLetters}
 use Rattle.plain_forms.specs.Reading.{PlainProgram}
 
 -- the number of a byte that names a letter
@@ -73,14 +73,14 @@ counted-more plain size faults i c h = by-name (namesLetter size (getD plain i 0
     by-name false e = record { inside = omega arith; few = omega (arith, c .few); named = λ z. absurd (omega arith); unnamed = λ some. (i, h, e) }
 
 module _ (plain : List ℕ) (size : ℕ) where
-  pub too-many : 4095 < length plain → readPlainProgram size plain ≡ refused 4 unplaced
+  pub too-many : mostLetters < length plain → readPlainProgram size plain ≡ refused 4 unplaced
   unfolding readPlainProgram
-  too-many h = ap (λ t. unless t 4 plain >>= plainLettersSigned size) (lt-ltb 4095 (length plain) h)
+  too-many h = ap (λ t. unless t 4 plain >>= plainLettersSigned size) (lt-ltb mostLetters (length plain) h)
 
-  module _ (few : length plain ≤ 4095) where
+  module _ (few : length plain ≤ mostLetters) where
     read-is : readPlainProgram size plain ≡ plainLettersSigned size plain
     unfolding readPlainProgram
-    read-is = ap (λ t. unless t 4 plain >>= plainLettersSigned size) (le-ltb 4095 (length plain) few)
+    read-is = ap (λ t. unless t 4 plain >>= plainLettersSigned size) (le-ltb mostLetters (length plain) few)
 
     pub plain-accepted : ((i : ℕ) → i < length plain → namesLetter size (getD plain i 0) ≡ true) → PlainProgram plain size
     plain-accepted h = record { named = record { short = few; named = h }; read = read-is ∙ all-named size plain h }

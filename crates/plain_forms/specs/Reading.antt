@@ -6,7 +6,7 @@ use Prim.Native.Nat.{ℕ, _≤_, _<_}
 use lib.ListN.{length, getD}
 use Rattle.model.specs.Word.{letter}
 use Rattle.model.specs.Outcome.{answered}
-use Rattle.model.specs.Plain.{namesLetter, readPlainTable, readPlainProgram}
+use Rattle.model.specs.Plain.{namesLetter, readPlainTable, readPlainProgram, mostLetters}
 use Rattle.model.specs.Stated.{refusal}
 use Rattle.images.specs.Tables.{Loaded, LoadedAs}
 use Rattle.images.specs.declared.tables.TableRead.{TableRead}
@@ -17,7 +17,7 @@ use Rattle.plain_forms.specs.declared.reading.PlainRead.the-variants.{Ac
 
 -- every byte names a letter, and a program can have as many
 pub record NamesLetters (size : ℕ) (plain : List ℕ) : Type 0 where
-  pub short : length plain ≤ 4095
+  pub short : length plain ≤ mostLetters
   pub named : (i : ℕ) → i < length plain → namesLetter size (getD plain i 0) ≡ true
 
 -- every byte names a letter, and the program is theirs
@@ -28,10 +28,6 @@ pub record PlainProgram (plain : List ℕ) (size : ℕ) : Type 0 where
 abbrev pub PlainDone : List ℕ → ℕ → PlainRead → Type 0
 PlainDone plain size Accepted = PlainProgram plain size
 PlainDone plain size (Refused r) = readPlainProgram size plain ≡ refusal r
-
--- A TABLE: the cells stand for the one that the plain form says
-abbrev pub PlainTableOf : List ℕ → List ℕ → ℕ → Type 0
-PlainTableOf plain cells size = Loaded (readPlainTable plain) cells size
 
 abbrev pub PlainTableDone : List ℕ → List ℕ → TableRead → Type 0
 PlainTableDone plain cells r = LoadedAs (readPlainTable plain) cells r

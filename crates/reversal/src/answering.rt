@@ -3,7 +3,7 @@ ghost use mathlib.Core.Path.{_≡_};
 ghost use lib.ListN.{length};
 ghost use Rattle.loading.specs.Loading.{ProgramRuns};
 ghost use Rattle.reversal.specs.Asked.{RunsAs};
-ghost use Rattle.reversal.specs.Answering.{ProgramAnswered, LoadedAnswered, States, outcomeOf};
+ghost use Rattle.reversal.specs.Answering.{ProgramAnswered, LoadedAnswered, ImagesAnswered};
 use crate::asked::Asked;
 use crate::backward::run_backward;
 use crate::endings::answer_asked;
@@ -131,8 +131,8 @@ pub fn answer_images(
     workspace: &mut [u8],
     answer: &mut [u8],
 ) -> Reversed
-    ensures { λ r. ⌜ States (outcomeOf asked (now (table .entry)) (now (program .entry)) allowance (length (now (workspace .entry)))
-        (length (now (answer .entry)))) (now (workspace .entry)) (now (workspace .exit)) (now (answer .entry)) (now (answer .exit)) r ⌝ }
+    ensures { λ r. ⌜ ImagesAnswered asked (now (table .entry)) (now (program .entry)) allowance (now (workspace .entry)) (now (workspace .exit))
+        (now (answer .entry)) (now (answer .exit)) r ⌝ }
 {
     let mut cells = [0u8; CELLS];
     let read = read_table_program(table, program, Signs::Any, &mut cells);

@@ -17,6 +17,7 @@ use Rattle.model.specs.Bed.{isBraid, Bed, Sound, Within, firstBed, position, in
 use Rattle.model.specs.Bed.{bedBytes}
 use Rattle.model.proofs.Positions.{position-inside}
 use Rattle.model.proofs.Beds.{first-sound, moved-sound, laid-sound, bobbin-named, bobbins-differ}
+use Rattle.model.specs.Plain.{mostLetters}
 use Rattle.theory.specs.Beds.{added, balance, BedHolds, BedLaws, signed, totalsIn, bedIn, BedMeaning}
 use Rattle.theory.proofs.Crossings.{swapped-sums}
 use Rattle.theory.proofs.Beds.{equal-beds}
@@ -89,21 +90,21 @@ bed-laws n w r k =
 
 -- BYTES READ BACK
 
-signed-back : (t : ℤ) → natAbs t ≤ 4095 → signed (256 * (sixteenBits t / 256) + sixteenBits t % 256) ≡ t
+signed-back : (t : ℤ) → natAbs t ≤ mostLetters → signed (256 * (sixteenBits t / 256) + sixteenBits t % 256) ≡ t
 signed-back t h = ap signed {x = 256 * (sixteenBits t / 256) + sixteenBits t % 256} {y = sixteenBits t} (omega arith) ∙ go t h
   where
-    go : (t : ℤ) → natAbs t ≤ 4095 → signed (sixteenBits t) ≡ t
+    go : (t : ℤ) → natAbs t ≤ mostLetters → signed (sixteenBits t) ≡ t
     go (pos k) h = ap (λ b. cond b (pos k) (negsuc (65535 - k))) (lt-ltb k 32768 (omega arith))
     go (negsuc k) h =
         ap (λ b. cond b (pos (65535 - k)) (negsuc (65535 - (65535 - k)))) (le-ltb (65535 - k) 32768 (omega arith))
         ∙ ap negsuc {x = 65535 - (65535 - k)} {y = k} (omega arith)
 
-totals-back : (ts : List ℤ) → Within 4095 ts → totalsIn (concatMap totalBytes ts) ≡ ts
+totals-back : (ts : List ℤ) → Within mostLetters ts → totalsIn (concatMap totalBytes ts) ≡ ts
 totals-back [] h = refl
 totals-back (t ∷ ts) h =
     ap (λ x. x ∷ totalsIn (concatMap totalBytes ts)) (signed-back t (h 0)) ∙ ap (λ l. t ∷ l) (totals-back ts (λ k. h (suc k)))
 
-bed-back : (places : ℕ) (B : Bed) → length (B .bobbins) ≡ places → Within 4095 (B .totals) → bedIn places (bedBytes B) ≡ B
+bed-back : (places : ℕ) (B : Bed) → length (B .bobbins) ≡ places → Within mostLetters (B .totals) → bedIn places (bedBytes B) ≡ B
 bed-back places B n h =
     ap (λ b. record { bobbins = b; totals = totalsIn (drop places (bedBytes B)) }) (take-at (B .bobbins) (concatMap totalBytes (B .totals)) places n)
     ∙ ap (λ t. record { bobbins = B .bobbins; totals = t })

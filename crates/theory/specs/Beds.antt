@@ -15,6 +15,7 @@ use Rattle.model.specs.Enumeration.{range}
 use Rattle.model.specs.Reversing.{Reduces, Finishes}
 use Rattle.model.specs.Range.{ProgramInRange}
 use Rattle.model.specs.Bed.{Bed, firstBed, laid, bedAfter, Rearranged, Within, bedBytes}
+use Rattle.model.specs.Plain.{mostLetters}
 
 -- WORDS THAT LEAVE EQUAL BEDS
 
@@ -48,7 +49,7 @@ pub record BedHolds (n : ℕ) (run : Word) (B : Bed) : Type 0 where
   -- the totals add up to the forward moves less the back moves
   pub sum : added (B .totals) ≡ balance run
   -- no total is below -4,095 or above 4,095
-  pub within : Within 4095 (B .totals)
+  pub within : Within mostLetters (B .totals)
 
 -- .. at every place of a program
 abbrev pub BedLaws : Type 0

@@ -2,8 +2,10 @@
 use mathlib.Core.Path.{sym, subst, _∙_}
 use mathlib.Core.List.{List}
 use Prim.Native.Nat.{ℕ}
-use Rattle.images.specs.Tables.{TableOf, TableDone}
+use Rattle.images.specs.Tables.{TableDone}
 use Rattle.bed.proofs.Service.{braid-of, table-refused, braid-refused}
+use Rattle.images.specs.Tables.{Loaded}
+use Rattle.model.specs.Images.{readTable}
 use borrow.Author.Needs.{needs}
 use Rattle.bed.proofs.braid_table.read_braid.Statement.{statement}
 use Rattle.bed.proofs.braid_table.read_braid.Tie as tie
@@ -27,7 +29,7 @@ image v = start v .args .image .now
 abbrev cells : tie.After-read-table → List ℕ
 cells v = v .read-table .last .1 .0
 
-table-of : (c : tie.After-is-braid-arg) → TableOf (image (at-table c)) (cells (at-table c)) (c .before .before .read2 .given .0 .0)
+table-of : (c : tie.After-is-braid-arg) → Loaded (readTable (image (at-table c))) (cells (at-table c)) (c .before .before .read2 .given .0 .0)
 table-of c =
     let v = at-table c in
     subst (TableDone (image v) (cells v)) (c .before .before .read2 .given .1) (v .read-table .ensures .1)

@@ -8,6 +8,7 @@ use Rattle.bed.specs.Shown.{Shown}
 use Rattle.bed.proofs.Crossing.{bobbin-in, bobbins-two, total-within, sum-fits, sum-stored, crossed-shows}
 use Rattle.model.proofs.Positions.{position-inside}
 use borrow.Author.Needs.{needs}
+use Rattle.model.specs.Plain.{mostLetters}
 use Rattle.bed.proofs.moves.crossed.Statement.{statement}
 use Rattle.bed.proofs.moves.crossed.Tie as tie
 
@@ -44,7 +45,7 @@ inside c B h =
           (bobbins-two v (s .args .places) B h (i - 1) i (omega (arith, k .low)) (k .high)),
     )
 
-within : (c : tie.After-total) → natAbs (getD (start (c .before .before .before) .args .t1 .totals) (c .before .total-index .result) (pos 0)) ≤ 4095
+within : (c : tie.After-total) → natAbs (getD (start (c .before .before .before) .args .t1 .totals) (c .before .total-index .result) (pos 0)) ≤ mostLetters
 within c =
     let s = start (c .before .before .before) in
     let k = s .pre .0 in

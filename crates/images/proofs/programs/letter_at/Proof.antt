@@ -7,6 +7,7 @@ use Rattle.images.specs.Programs.{SignedDone, LetterTaken}
 use Rattle.images.specs.declared.programs.SignedField.{SignedField}
 use Rattle.images.proofs.Letters.{near, index-small, ends-inside, letter-answer, letter-stands}
 use borrow.Author.Needs.{needs}
+use Rattle.model.specs.Images.{countWidth}
 use Rattle.images.proofs.programs.letter_at.Statement.{statement}
 use Rattle.images.proofs.programs.letter_at.Tie as tie
 
@@ -18,7 +19,7 @@ bound c = near (c .args .i) (c .args .width) (index-small (c .args .image .now) 
 
 -- what stands at the letter's place
 told : (c : tie.After-next-signed) → (r : SignedField) → c .next-signed .result ≡ r
-    → SignedDone (start c .args .image .now) (12 + start c .args .i * (1 + start c .args .width)) (start c .args .size) (start c .args .width) r
+    → SignedDone (start c .args .image .now) (countWidth + start c .args .i * (1 + start c .args .width)) (start c .args .size) (start c .args .width) r
 told c r e =
     let s = start c in
     subst (λ n. SignedDone (s .args .image .now) n (s .args .size) (s .args .width) r) (c .before .reader-at .ensures .place-is)
@@ -37,7 +38,7 @@ reader-at-requires c κs =
 
 letter : (c : tie.After-known-told)
     → LetterTaken (start (c .before .before .before) .args .image .now)
-    (12 + start (c .before .before .before) .args .i * (1 + start (c .before .before .before) .args .width))
+    (countWidth + start (c .before .before .before) .args .i * (1 + start (c .before .before .before) .args .width))
     (start (c .before .before .before) .args .size) (start (c .before .before .before) .args .width) (c .before .sign .given .0 .0)
     (c .before .sign .given .0 .1 .0) (c .before .sign .given .0 .1 .1 .0)
 letter c = told (c .before .before .before) _ (c .before .sign .given .1)

@@ -5,7 +5,7 @@ use native.Mathlib.Omega.{arith}
 use lib.Dec.{eqb}
 use lib.ListN.{getD}
 use Rattle.model.specs.Outcome.{unplaced, refused}
-use Rattle.model.specs.Images.{signedField, readProgram}
+use Rattle.model.specs.Images.{signedField, readProgram, countWidth}
 use Rattle.bits.proofs.Width.{width-small}
 use Rattle.cells.specs.Layout.{weightAt}
 use Rattle.cells.proofs.Rules.{of-size}
@@ -19,6 +19,7 @@ use Rattle.images.specs.declared.programs.SignedField.{SignedField}
 use Rattle.images.proofs.Validating.{program, count-ends, value-refused, whole-held, whole-tail}
 use Rattle.images.proofs.Measuring.{Passed, passed-none, passed-named, passed-light, passed-more, no-back}
 use borrow.Author.Needs.{needs}
+use Rattle.model.specs.Plain.{mostLetters}
 use Rattle.images.proofs.programs.read_program.Statement.{statement}
 use Rattle.images.proofs.programs.read_program.Tie as tie
 
@@ -34,8 +35,8 @@ start-from-after-next-field c = c .before .before .before
 abbrev start : tie.After-known-told Inv-loop μ-loop → tie.Start Inv-loop μ-loop
 start c = c .before .before .before .before .before .before
 
-count-at : (c : tie.After-known-told Inv-loop μ-loop) → FieldAt (start c .args .image .now) 0 12 (c .before .count .given .0 .0)
-count-at c = subst (FieldDone (start c .args .image .now) 0 12) (c .before .count .given .1) (c .before .before .before .next-field .ensures)
+count-at : (c : tie.After-known-told Inv-loop μ-loop) → FieldAt (start c .args .image .now) 0 countWidth (c .before .count .given .0 .0)
+count-at c = subst (FieldDone (start c .args .image .now) 0 countWidth) (c .before .count .given .1) (c .before .before .before .next-field .ensures)
 
 width-of : (c : tie.After-letter-width Inv-loop μ-loop) → WidthOf (start (c .before) .args .size) (c .letter-width .result)
 width-of c =
@@ -81,7 +82,7 @@ returns : tie.Need-returns Inv-loop μ-loop
 returns c =
     let s = start-from-after-next-field (c .before .before) in
     count-ends (program (s .args .size)) (s .args .image .now)
-    (subst (FieldDone (s .args .image .now) 0 12) (c .enum-told .given .1) (c .before .before .next-field .ensures))
+    (subst (FieldDone (s .args .image .now) 0 countWidth) (c .enum-told .given .1) (c .before .before .next-field .ensures))
 
 letter-width-requires : tie.Need-letter-width-requires Inv-loop μ-loop
 letter-width-requires c κs = of-size (start c .pre .1)
@@ -148,7 +149,7 @@ light c =
     passed-light (s .args .image .now) (s .args .cells .now) (s .args .size) (s .pre .0) (s .pre .1) (wide l .letter-width .result) (byte c)
     (place (l .loop .reader)) (behind c) (taken c)
 
-few : (c : tie.After-known-told2 Inv-loop μ-loop) → loop (turn c) .loop .i < 4095
+few : (c : tie.After-known-told2 Inv-loop μ-loop) → loop (turn c) .loop .i < mostLetters
 few c = omega (arith, turn c .before .loop-test .taken, count-at (wide (loop (turn c)) .before) .small)
 
 cast-backs : tie.Need-cast-backs Inv-loop μ-loop

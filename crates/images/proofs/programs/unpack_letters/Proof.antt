@@ -9,7 +9,7 @@ use lib.ListN.{length, set, length-set}
 use lib.Seq.{paste, paste-zero}
 use Rattle.model.specs.Word.{Word}
 use Rattle.model.specs.Outcome.{unplaced, answered, refused}
-use Rattle.model.specs.Images.{signedField, readProgram}
+use Rattle.model.specs.Images.{signedField, readProgram, countWidth}
 use Rattle.model.specs.Plain.{plainProgram}
 use Rattle.images.specs.Fields.{from}
 use Rattle.images.specs.BitReader.{place, ReadsFrom, TakenAt, TakenDone}
@@ -28,7 +28,7 @@ use Rattle.images.proofs.programs.unpack_letters.Tie as tie
 abbrev Inv-loop : tie.InvT-loop
 Inv-loop image size count area₀ at width reader₀ i₀ area reader i =
     (i ≤ count) × (length area ≡ length area₀) × ((w : Word) → readProgram size image ≡ answered w → area ≡ paste area₀ at (plainProgram w) i)
-    × ReadsFrom image (12 + i * (1 + width)) reader
+    × ReadsFrom image (countWidth + i * (1 + width)) reader
 
 abbrev μ-loop : tie.MeasureT-loop
 μ-loop image size count area₀ at width reader₀ i₀ area reader i = count - i
@@ -51,7 +51,7 @@ turn c = c .before .before .before
 
 -- where the next letter begins
 abbrev here : tie.At-loop Inv-loop μ-loop → ℕ
-here c = 12 + c .loop .i * (1 + width c)
+here c = countWidth + c .loop .i * (1 + width c)
 
 width-of : (c : tie.At-loop Inv-loop μ-loop) → WidthOf (start c .args .size) (width c)
 width-of c =

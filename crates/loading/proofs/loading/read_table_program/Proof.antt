@@ -3,7 +3,7 @@ use mathlib.Core.List.{List}
 use mathlib.Core.Path.{subst}
 use Prim.Native.Nat.{ℕ}
 use Rattle.images.specs.Programs.{ReadDone, readAs}
-use Rattle.images.specs.Tables.{TableDone, TableOf}
+use Rattle.images.specs.Tables.{TableDone}
 use Rattle.loading.proofs.Reading.{no-table, no-program, loaded-as}
 use borrow.Author.Needs.{needs}
 use Rattle.loading.proofs.loading.read_table_program.Statement.{statement}

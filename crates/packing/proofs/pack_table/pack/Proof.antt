@@ -2,7 +2,7 @@
 use mathlib.Core.Path.{_≡_, ap, subst, _∙_}
 use lib.ListN.{length}
 use Rattle.cells.proofs.Rules.{blank-zeros, of-some, of-few}
-use Rattle.plain_forms.specs.Reading.{PlainTableDone, PlainTableOf}
+use Rattle.plain_forms.specs.Reading.{PlainTableDone}
 use Rattle.model.specs.Bits.{pack}
 use Rattle.model.specs.Images.{readTable, tableImage}
 use Rattle.model.specs.Plain.{readPlainTable}
@@ -13,6 +13,7 @@ use Rattle.writers.proofs.Parts.{loaded-weights, loaded-table}
 use Rattle.writers.proofs.TableForms.{image-fits, image-bits}
 use Rattle.packing.proofs.Packing.{refused-keeps, fills-keeps, plain-refused, plain-read}
 use Rattle.packing.proofs.ReadBack.{promised, table-unpacked, table-back}
+use Rattle.images.specs.Tables.{Loaded}
 use borrow.Author.Needs.{needs}
 use Rattle.packing.proofs.pack_table.pack.Statement.{statement}
 use Rattle.packing.proofs.pack_table.pack.Tie as tie
@@ -32,7 +33,7 @@ start c = c .before .before .before .before .before .before .before .before
 abbrev told : tie.After-image-form → tie.After-known-told2
 told c = c .before .before
 
-table-of : (c : tie.After-known-told2) → PlainTableOf (start c .args .plain .now)
+table-of : (c : tie.After-known-told2) → Loaded (readPlainTable (start c .args .plain .now))
     (after-read-plain-table (c .before .before .before) .read-plain-table .last .1 .0) (c .before .size .given .0 .0)
 table-of c =
     let k = after-read-plain-table (c .before .before .before) in

@@ -10,10 +10,12 @@ use Rattle.model.specs.Word.{Word, byte}
 use Rattle.model.specs.Plain.{plainProgram}
 use Rattle.model.specs.Services.{unpackProgram, programUnder, plainProgramUnder, packProgram}
 use Rattle.cells.proofs.Rules.{blank-zeros, of-some, of-few}
-use Rattle.images.specs.Tables.{TableDone, TableOf}
+use Rattle.images.specs.Tables.{TableDone}
 use Rattle.images.specs.Programs.{ProgramDone, ProgramOf}
 use Rattle.packing.proofs.Packing.{refused-keeps, answered-writes, short-area, long-area, unpack-table-refused, unpack-program-refused, unpack-read}
 use Rattle.packing.proofs.ReadBack.{promised, program-packed, plain-program-back}
+use Rattle.images.specs.Tables.{Loaded}
+use Rattle.model.specs.Images.{readTable}
 use borrow.Author.Needs.{needs}
 use Rattle.packing.proofs.unpack_program.unpack.Statement.{statement}
 use Rattle.packing.proofs.unpack_program.unpack.Tie as tie
@@ -49,7 +51,7 @@ size c = c .before .size .given .0 .0
 abbrev cells : tie.After-known-told2 → List ℕ
 cells c = at-table c .read-table .last .1 .0
 
-table-of : (c : tie.After-known-told2) → TableOf (table c) (cells c) (size c)
+table-of : (c : tie.After-known-told2) → Loaded (readTable (table c)) (cells c) (size c)
 table-of c = subst (TableDone (table c) (cells c)) (c .before .size .given .1) (at-table c .read-table .ensures .1)
 
 program-of : (c : tie.After-known-told4) → ProgramOf (program (at-size c)) (size (at-size c)) (c .before .count .given .0 .0)

@@ -2,7 +2,7 @@
 use mathlib.Core.Path.{_≡_, ap, subst, _∙_}
 use lib.ListN.{length}
 use Rattle.cells.proofs.Rules.{blank-zeros, of-few}
-use Rattle.images.specs.Tables.{TableDone, TableOf}
+use Rattle.images.specs.Tables.{TableDone}
 use Rattle.model.specs.Bits.{pack}
 use Rattle.model.specs.Images.{readTable}
 use Rattle.model.specs.Plain.{readPlainTable, plainTable}
@@ -14,6 +14,7 @@ use Rattle.writers.proofs.TableForms.{plain-fits, plain-packed}
 use Rattle.images.proofs.RoundTrip.{table-in-range}
 use Rattle.packing.proofs.Packing.{refused-keeps, fills-keeps, table-refused, table-read}
 use Rattle.packing.proofs.ReadBack.{promised, table-packed, plain-table-back}
+use Rattle.images.specs.Tables.{Loaded}
 use borrow.Author.Needs.{needs}
 use Rattle.packing.proofs.unpack_table.unpack.Statement.{statement}
 use Rattle.packing.proofs.unpack_table.unpack.Tie as tie
@@ -33,7 +34,7 @@ start c = c .before .before .before .before .before .before .before .before
 abbrev told : tie.After-plain-form → tie.After-known-told2
 told c = c .before .before
 
-table-of : (c : tie.After-known-told2) → TableOf (start c .args .table .now) (after-read-table (c .before .before .before) .read-table .last .1 .0)
+table-of : (c : tie.After-known-told2) → Loaded (readTable (start c .args .table .now)) (after-read-table (c .before .before .before) .read-table .last .1 .0)
     (c .before .size .given .0 .0)
 table-of c =
     let k = after-read-table (c .before .before .before) in

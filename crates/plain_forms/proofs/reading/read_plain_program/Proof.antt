@@ -4,6 +4,7 @@ use Prim.Native.Nat.{ℕ, _+_, _-_, _≤_}
 use native.Mathlib.Omega.{arith}
 use borrow.Author.Needs.{needs}
 use lib.ListN.{length}
+use Rattle.model.specs.Plain.{mostLetters}
 use Rattle.plain_forms.proofs.Programs.{Counted, counted-none, counted-more, too-many, plain-accepted, plain-refused}
 use Rattle.plain_forms.proofs.reading.read_plain_program.Statement.{statement}
 use Rattle.plain_forms.proofs.reading.read_plain_program.Tie as tie
@@ -28,7 +29,7 @@ more c =
     subst (λ n. Counted (s .args .plain .now) (s .args .size) (l .loop .faults + n) (l .loop .i + 1)) (sym (c .fault .ensures))
     (counted-more (s .args .plain .now) (s .args .size) (l .loop .faults) (l .loop .i) (l .loop .inv) (c .before .before .loop-test .taken))
 
-few : (c : tie.At-loop Inv-loop μ-loop) → length (start c .args .plain .now) ≤ 4095
+few : (c : tie.At-loop Inv-loop μ-loop) → length (start c .args .plain .now) ≤ mostLetters
 few c = c .before .if1 .left
 
 returns : tie.Need-returns Inv-loop μ-loop
