@@ -2,14 +2,12 @@
 use mathlib.Core.List.{List}
 use mathlib.Core.Path.{_≡_}
 use Prim.Native.Nat.{ℕ}
-use lib.ListN.{take}
+use lib.ListN.{take, length}
 use Rattle.model.specs.Word.{Word}
 use Rattle.model.specs.Presentation.{Presentation}
-use Rattle.model.specs.Outcome.{Outcome, answered}
+use Rattle.model.specs.Outcome.{Outcome, answered, mapped}
 use Rattle.model.specs.Images.{readTable, readProgram}
 use Rattle.theory.specs.Beds.{BedMeaning}
-use lib.ListN.{length}
-use Rattle.model.specs.Outcome.{mapped}
 use Rattle.model.specs.Areas.{outputAfter}
 use Rattle.model.specs.Bed.{bed}
 

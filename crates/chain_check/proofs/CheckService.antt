@@ -15,20 +15,18 @@ use Rattle.model.specs.Equivalence.{Entry, applied, Joined}
 use Rattle.model.specs.Outcome.{unplaced, Outcome, answered, refused, _>>=_}
 use Rattle.model.specs.Images.{readChain}
 use Rattle.model.specs.Plain.{plainProgram}
-use Rattle.model.specs.Services.{Passage, joins, readForward, followedBy, followed, passage, check}
+use Rattle.model.specs.Services.{Passage, joins, readForward, followedBy, followed, passage, check, Images, readImages}
 use Rattle.model.specs.Areas.{Compares, workspaceAfter, written}
 use Rattle.model.specs.Stated.{refusal}
 use Rattle.model.specs.declared.answers.Refusal.{Refusal}
-use Rattle.model.proofs.Impossible.{answer-of}
+use Rattle.model.proofs.Impossible.{answer-of, impossible}
 use Rattle.model.proofs.Words.{plain-positive}
 use Rattle.theory.specs.Passages.{Passes, arrives, broken, elsewhere, starts-long, grows-long}
-use Rattle.model.proofs.Impossible.{impossible}
 use Rattle.model.proofs.Outcomes.{goes-on}
 use Rattle.theory.proofs.Passages.{passage-exactly, passage-fits}
 use Rattle.images.specs.Programs.{ForwardOf}
 use Rattle.swaps.specs.Held.{heldAt, Placed, Carried}
 use Rattle.swaps.proofs.Applying.{held-length}
-use Rattle.model.specs.Services.{Images, readImages}
 use Rattle.images.proofs.RoundTrip.{table-in-range, chain-image-of}
 use Rattle.chain_check.specs.Check.{CheckSays}
 use Rattle.loading.proofs.Early.{chain-early}

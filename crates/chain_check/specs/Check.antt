@@ -10,7 +10,7 @@ use Rattle.model.specs.Equivalence.{Entry, Joined}
 use Rattle.model.specs.Outcome.{Outcome, answered}
 use Rattle.model.specs.Images.{chainImage, readChain}
 use Rattle.model.specs.Range.{AreBytes, ChainInRange}
-use Rattle.model.specs.Services.{Passage, joins, readForward, passage}
+use Rattle.model.specs.Services.{Passage, joins, readForward, passage, check}
 use Rattle.model.specs.Areas.{Compares, workspaceAfter}
 use Rattle.model.specs.Stated.{checked}
 use Rattle.model.specs.declared.answers.Checked.{Checked}
@@ -18,7 +18,6 @@ use Rattle.theory.specs.Passages.{Passes}
 use Rattle.images.specs.Chains.{ChainOf}
 use Rattle.cells.specs.Stands.{Of}
 use Rattle.loading.specs.Loading.{Forward}
-use Rattle.model.specs.Services.{check}
 
 pub record ForwardChain (cells : List ℕ) (size : ℕ) (first : List ℕ) (first-count : ℕ) (second : List ℕ) (second-count : ℕ) (entries : List ℕ)
     (entry-count : ℕ) : Type 0 where

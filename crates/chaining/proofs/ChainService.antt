@@ -14,7 +14,7 @@ use Rattle.model.specs.Reversing.{finished, room, reversing}
 use Rattle.model.specs.Outcome.{Outcome, answered, refused, _>>=_, unless, mapped}
 use Rattle.model.specs.Images.{readProgram, chainImage}
 use Rattle.model.specs.Services.{Verdict, same-after, different-after, readForward, comparison, chainBytes, listable, ChainAnswer, listed-after, unlisted-after}
-use Rattle.model.specs.Services.{chainAnswer, verdictIn, chain}
+use Rattle.model.specs.Services.{chainAnswer, verdictIn, chain, Images, readImages}
 use Rattle.model.specs.Areas.{Compares, Listed, ChainArea, workspaceAfter}
 use Rattle.model.specs.Stated.{refusal}
 use Rattle.model.specs.declared.answers.Refusal.{Refusal}
@@ -36,9 +36,7 @@ use Rattle.images.proofs.RoundTrip.{chain-reads-back, program-in-range}
 use Rattle.cells.specs.Stands.{Of}
 use Rattle.cells.proofs.Rules.{of-few, weight-within}
 use Rattle.engine.proofs.Lettering.{length-positive, length-negative}
-use Rattle.chain_listing.specs.Listing.{Chained}
-use Rattle.chain_listing.specs.Listing.{Compared as Listed-from}
-use Rattle.model.specs.Services.{Images, readImages}
+use Rattle.chain_listing.specs.Listing.{Chained, Compared as Listed-from}
 use Rattle.comparing.specs.Compare.{Ended, Judged, CompareSays}
 use Rattle.loading.specs.Reversing.{LoadedPrograms}
 use Rattle.chaining.specs.Chain.{Area, ListedAs, JoinsChecked, ListedChecks}

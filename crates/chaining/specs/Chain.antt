@@ -5,16 +5,13 @@ use Prim.Native.Nat.{ℕ, _≤_}
 use lib.ListN.{length}
 use Rattle.model.specs.Word.{Positive}
 use Rattle.model.specs.Presentation.{Presentation, weigh}
-use Rattle.model.specs.Outcome.{Outcome, answered, refused, _>>=_}
+use Rattle.model.specs.Outcome.{Outcome, answered, refused, _>>=_, mapped}
 use Rattle.model.specs.Services.{Verdict, same-after, different-after, readForward, comparison, chainBytes, listable, ChainAnswer, listed-after, unlisted-after}
-use Rattle.model.specs.Services.{joins, check}
-use Rattle.model.specs.Areas.{begins, Compares, Listed, workspaceAfter}
+use Rattle.model.specs.Services.{joins, check, chain, verdictIn}
+use Rattle.model.specs.Areas.{begins, Compares, Listed, workspaceAfter, ChainArea}
 use Rattle.model.specs.Stated.{compared}
 use Rattle.model.specs.declared.answers.Compared.{Compared}
 use Rattle.cells.specs.Stands.{Of}
-use Rattle.model.specs.Outcome.{mapped}
-use Rattle.model.specs.Services.{chain, verdictIn}
-use Rattle.model.specs.Areas.{ChainArea}
 use Rattle.comparing.specs.Compare.{CompareSays}
 
 -- the answer area: a chain after `same`, else as it was

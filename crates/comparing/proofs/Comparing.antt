@@ -12,7 +12,7 @@ use Rattle.model.specs.Presentation.{Presentation, weigh}
 use Rattle.model.specs.Reversing.{Ending, finished, open-pair, stopped, budget, room, reversing}
 use Rattle.model.specs.Outcome.{Outcome, answered}
 use Rattle.model.specs.Checks.{cleared}
-use Rattle.model.specs.Services.{Verdict, same-after, different-after, readForward, verdictOf, forwardVerdict, comparison, compare}
+use Rattle.model.specs.Services.{Verdict, same-after, different-after, readForward, verdictOf, forwardVerdict, comparison, compare, Images, readImages}
 use Rattle.model.specs.Areas.{Compares}
 use Rattle.model.specs.Stated.{refusal, compared, endingAnswer}
 use Rattle.model.specs.declared.answers.Ending.{Ending as EndingAnswer}
@@ -22,7 +22,6 @@ use Rattle.model.proofs.Impossible.{impossible}
 use Rattle.theory.specs.Verdicts.{VerdictMeaning}
 use Rattle.theory.proofs.Verdicts.{verdict-meaning}
 use Rattle.engine.specs.Run.{Reverses}
-use Rattle.model.specs.Services.{Images, readImages}
 use Rattle.comparing.specs.Compare.{judgement, Ended, EndedIf, Judged, CompareSays}
 use Rattle.model.specs.declared.answers.Compared.{Compared}
 use Rattle.model.specs.declared.answers.Compared.the-variants.{Same, Different, Refused}

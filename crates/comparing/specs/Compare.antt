@@ -10,7 +10,7 @@ use Rattle.model.specs.Presentation.{Presentation, weigh}
 use Rattle.model.specs.Reversing.{finished, reversing}
 use Rattle.model.specs.Outcome.{Outcome, answered}
 use Rattle.model.specs.Checks.{cleared}
-use Rattle.model.specs.Services.{Verdict, readForward, forwardVerdict, comparison}
+use Rattle.model.specs.Services.{Verdict, readForward, forwardVerdict, comparison, compare}
 use Rattle.model.specs.Areas.{Compares, workspaceAfter}
 use Rattle.model.specs.declared.answers.Ending.{Ending}
 use Rattle.model.specs.declared.answers.Ending.the-variants.{Finished, Undefined, Stopped}
@@ -19,7 +19,6 @@ use Rattle.model.specs.declared.answers.Compared.the-variants.{Same, Different,
 use Rattle.theory.specs.Verdicts.{VerdictMeaning}
 use Rattle.cells.specs.Stands.{Of}
 use Rattle.model.specs.Stated.{stopRefusal, compared}
-use Rattle.model.specs.Services.{compare}
 
 -- what an ending is judged, told in numbers
 abbrev pub judgement : Ending → Compared

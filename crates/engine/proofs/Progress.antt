@@ -17,8 +17,7 @@ use Rattle.model.specs.declared.answers.Stop.{Stop}
 use Rattle.model.specs.declared.answers.Stop.the-variants.{Budget, Room}
 use Rattle.model.specs.declared.answers.Pair.{Pair}
 use Rattle.engine.specs.declared.gap.Gap.{Gap}
-use Rattle.engine.specs.declared.step.Turn.the-variants.{Final, Stepped}
-use Rattle.engine.specs.declared.step.Turn.the-variants.{Undefined as Turn·Undefined, Stopped as Turn·Stopped}
+use Rattle.engine.specs.declared.step.Turn.the-variants.{Final, Stepped, Undefined as Turn·Undefined, Stopped as Turn·Stopped}
 use Rattle.engine.specs.Gap.{letters, wordAt, Searched}
 use Rattle.model.specs.Range.{Lettered}
 use Rattle.cells.specs.Stands.{Serves}

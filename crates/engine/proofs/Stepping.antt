@@ -10,11 +10,10 @@ use Rattle.model.specs.Reversing.{next, blocked}
 use Rattle.engine.specs.Gap.{letters, wordAt, AtLeftmost}
 use Rattle.cells.specs.Layout.{cellAt}
 use Rattle.model.specs.Range.{InRange}
-use Rattle.cells.proofs.Rules.{WordAt}
+use Rattle.cells.proofs.Rules.{WordAt, Rule, inside, open-cell, word-cell}
 use Rattle.cells.specs.Stands.{Serves}
 use Rattle.engine.specs.Turn.{cellLetters, Pushed, Steps, Outgrows, Goes}
 use Rattle.engine.proofs.Lettering.{letters-positive}
-use Rattle.cells.proofs.Rules.{Rule, inside, open-cell, word-cell}
 use Rattle.engine.proofs.AtGap.{before, after, before-named, after-named, blocked-here, goes, outgrows, steps}
 
 -- the letters of a cell's word

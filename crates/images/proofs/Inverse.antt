@@ -14,12 +14,11 @@ use Rattle.model.specs.Enumeration.{concatMap}
 use Rattle.model.specs.Outcome.{Outcome, answered, _>>=_, unless}
 use Rattle.model.specs.Bits.{Read, field, digits, letterWidth}
 use Rattle.model.specs.Images.{several, letterField, letterBits, wordField, wordBits, pairField, pairBits, definedField, signed, signedField, signedBits}
-use Rattle.model.specs.Images.{entryField, entryBits}
+use Rattle.model.specs.Images.{entryField, entryBits, offsetWidth}
 use Rattle.bits.proofs.Digits.{AreBits}
 use Rattle.bits.proofs.Width.{letter-fits}
 use Rattle.model.specs.Range.{All, InRange, LetterInRange, WordInRange, PairInRange, EntryInRange}
 use Rattle.model.proofs.Impossible.{answer-of, same-answer, not-refused}
-use Rattle.model.specs.Images.{offsetWidth}
 use Rattle.images.proofs.Codec.{Codec, then, field-codec, several-codec, input-rest, bits-suffix}
 
 -- a count, then as many of one kind

@@ -13,13 +13,12 @@ use Rattle.model.specs.Enumeration.{concatMap}
 use Rattle.model.specs.Outcome.{unplaced, Outcome, answered, refused, _>>=_}
 use Rattle.model.specs.Bits.{Read, field, finish, filling, digits, bitsOf, bytesFor, pack, letterWidth}
 use Rattle.model.specs.Images.{weightWidth, several, rowsOf, letterBits, wordBits, pairField, pairBits, signedField, signedBits, entryField, entryBits}
-use Rattle.model.specs.Images.{readTable, tableImage, readProgram, programImage, readChain, chainImage}
+use Rattle.model.specs.Images.{readTable, tableImage, readProgram, programImage, readChain, chainImage, countWidth, offsetWidth}
 use Rattle.bits.proofs.Digits.{AreBits, digits-are-bits, bits-append}
 use Rattle.bits.proofs.Bytes.{bits-are-bits}
 use Rattle.model.specs.Range.{AreBytes, All, Rows, LetterInRange, PairInRange, EntryInRange, ProgramInRange, TableInRange, ChainInRange}
 use Rattle.model.proofs.Impossible.{answer-of, same-answer}
 use Rattle.bits.proofs.Packing.{pack-bits, pack-filling, packed-of}
-use Rattle.model.specs.Images.{countWidth, offsetWidth}
 use Rattle.images.proofs.Several.{bind-assoc}
 use Rattle.images.proofs.Codec.{Codec, then, several-codec, field-codec, rows-codec, input-rest, bits-suffix}
 use Rattle.images.proofs.Inverse.{counted, counted-codec, signed-codec, pair-codec, entry-codec}

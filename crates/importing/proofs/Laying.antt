@@ -13,8 +13,7 @@ use Rattle.model.specs.Areas.{written}
 use Rattle.model.specs.Notation.{repeated, undone}
 use Rattle.model.proofs.Numbers.{below-or}
 use Rattle.areas.proofs.Parts.{taken-length}
-use Rattle.bits.proofs.Appending.{written-more}
-use Rattle.bits.proofs.Appending.{wrote-byte}
+use Rattle.bits.proofs.Appending.{written-more, wrote-byte}
 use Rattle.engine.specs.Gap.{letters}
 use Rattle.engine.specs.Words.{Inverted}
 use Rattle.engine.proofs.Letters.{letter-forward, letters-append, letters-cons, letters-nil, length-letters}

@@ -11,13 +11,12 @@ use Rattle.model.specs.Images.{readTable}
 use Rattle.model.specs.Plain.{mostLetters, plainProgram}
 use Rattle.model.specs.Areas.{outputAfter}
 use Rattle.model.specs.Stated.{packedAs}
-use Rattle.model.specs.Notation.{Pattern, mostNested, PatternInRange, meaning, moves, highest, patternText, noPattern, readPattern, readText, imported}
+use Rattle.model.specs.Notation.{Pattern, mostNested, PatternInRange, meaning, moves, highest, patternText, noPattern, readPattern, readText, imported, import}
 use Rattle.theory.specs.Notation.{NotationMeaning}
 use Rattle.importing.specs.declared.reading.Span.{Span}
 use Rattle.importing.specs.declared.reading.Reading.{Reading}
 use Rattle.importing.specs.declared.reading.Reading.the-variants.{Read as SpanRead, NotPattern}
 use Rattle.importing.specs.Reading.{capped}
-use Rattle.model.specs.Notation.{import}
 
 -- the pattern that a text is, by the reader of patterns too
 pub record TextOf (text : List ℕ) (s : Span) : Type 0 where

@@ -14,13 +14,12 @@ use Rattle.model.specs.Outcome.{Outcome, answered, _>>=_, unless}
 use Rattle.model.specs.Bits.{Read}
 use Rattle.model.specs.Images.{weightWidth, several, rowsOf, offsetWidth}
 use Rattle.model.specs.Plain.{plainWord, plainPair, plainTable, plainProgram, nextByte, plainLetter, plainWeight, plainLetters, plainDefined, plainPairAt}
-use Rattle.model.specs.Plain.{readPlainTable, namesLetter, plainLettersSigned, readPlainProgram}
+use Rattle.model.specs.Plain.{readPlainTable, namesLetter, plainLettersSigned, readPlainProgram, mostLetters}
 use Rattle.model.specs.Range.{AreBytes, All, Rows, InRange, LetterInRange, WordInRange, PairInRange, ProgramInRange, TableInRange}
 use Rattle.model.proofs.Booleans.{both}
 use Rattle.model.proofs.Impossible.{answer-of, same-answer, not-refused}
 use Rattle.plain_forms.proofs.Programs.{named-positive, named-small}
 use Rattle.images.proofs.Codec.{Codec, then, several-codec, rows-codec}
-use Rattle.model.specs.Plain.{mostLetters}
 
 -- the byte of a weight in plain form
 abbrev weightByte : ℕ → List ℕ

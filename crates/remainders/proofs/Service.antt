@@ -9,7 +9,7 @@ use Rattle.model.specs.Presentation.{Presentation, weigh}
 use Rattle.model.specs.Reversing.{reversing}
 use Rattle.model.specs.Outcome.{Outcome, answered, refused, mapped}
 use Rattle.model.specs.Checks.{cleared}
-use Rattle.model.specs.Services.{readForward, Remainder, moves-after, none-after, remainderOf, quotient, remainder}
+use Rattle.model.specs.Services.{readForward, Remainder, moves-after, none-after, remainderOf, quotient, remainder, Images, readImages}
 use Rattle.model.specs.Areas.{Compares, remainderBytes, outputAfter, workspaceAfter}
 use Rattle.model.specs.Stated.{refusal, counted}
 use Rattle.model.specs.declared.answers.Refusal.{Refusal}
@@ -18,7 +18,6 @@ use Rattle.model.specs.declared.answers.Remaining.the-variants.{Nothing, Refuse
 use Rattle.model.proofs.Outcomes.{still-refused}
 use Rattle.theory.specs.Remainders.{QuotientMeaning}
 use Rattle.theory.proofs.Remainders.{lighter, as-heavy, quotient-meaning}
-use Rattle.model.specs.Services.{Images, readImages}
 use Rattle.loading.proofs.Outcomes.{AsFound}
 use Rattle.loading.proofs.Reading.{programs-refused, programs-run}
 use Rattle.remainders.specs.Remainder.{States, movesLeft, RemainderSays}

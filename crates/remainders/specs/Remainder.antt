@@ -7,7 +7,7 @@ use Rattle.model.specs.Word.{Word, Positive}
 use Rattle.model.specs.Presentation.{Presentation}
 use Rattle.model.specs.Reversing.{reversing}
 use Rattle.model.specs.Outcome.{Outcome, answered, mapped}
-use Rattle.model.specs.Services.{Remainder, moves-after, none-after, remainderOf, quotient, readForward}
+use Rattle.model.specs.Services.{Remainder, moves-after, none-after, remainderOf, quotient, readForward, remainder}
 use Rattle.model.specs.Areas.{Compares, remainderBytes, outputAfter, workspaceAfter}
 use Rattle.model.specs.Stated.{counted, remaining}
 use Rattle.model.specs.declared.answers.Ending.{Ending}
@@ -15,7 +15,6 @@ use Rattle.model.specs.declared.answers.Remaining.{Remaining}
 use Rattle.theory.specs.Remainders.{QuotientMeaning}
 use Rattle.engine.specs.Run.{Reverses}
 use Rattle.cells.specs.Stands.{Of}
-use Rattle.model.specs.Services.{remainder}
 
 -- the result and the answer area that an outcome states
 pub record States (outcome : Outcome (Remainder Positive)) (before after : List ℕ) (r : Remaining) : Type 0 where

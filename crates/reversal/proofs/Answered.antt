@@ -12,14 +12,13 @@ use Rattle.model.specs.Presentation.{Presentation}
 use Rattle.model.specs.Reversing.{Ending, reversing}
 use Rattle.model.specs.Outcome.{Outcome, answered, mapped}
 use Rattle.model.specs.Images.{readTable, readProgram}
-use Rattle.model.specs.Services.{sizes, Fraction, reverse, commit, leftReverse}
+use Rattle.model.specs.Services.{sizes, Fraction, reverse, commit, leftReverse, readTableWith}
 use Rattle.model.specs.Areas.{fractionBytes, outputAfter, workspaceAfter}
 use Rattle.model.specs.Stated.{refusal}
 use Rattle.model.specs.declared.answers.Refusal.{Refusal}
 use Rattle.model.specs.declared.answers.Reversed.{Reversed}
 use Rattle.model.specs.declared.answers.Reversed.the-variants.{Refused}
 use Rattle.theory.specs.Mirrors.{readBackward}
-use Rattle.model.specs.Services.{readTableWith}
 use Rattle.loading.proofs.Early.{program-early}
 use Rattle.loading.proofs.Late.{Late}
 use Rattle.loading.proofs.Outcomes.{AsFound, refused-stated, refused-output}

@@ -7,10 +7,9 @@ use Rattle.model.specs.Presentation.{Presentation}
 use Rattle.model.specs.Reversing.{Ending, finished, open-pair, stopped, budget, room, reversing}
 use Rattle.model.specs.Outcome.{answered}
 use Rattle.model.specs.Images.{readTable, readProgram}
-use Rattle.model.specs.Services.{sizesOf, enquire}
+use Rattle.model.specs.Services.{sizesOf, enquire, readTableWith}
 use Rattle.model.specs.Stated.{refusal, reversed, endingAnswer}
 use Rattle.model.specs.declared.answers.Refusal.{Refusal}
-use Rattle.model.specs.Services.{readTableWith}
 use Rattle.loading.proofs.Early.{program-early}
 use Rattle.loading.proofs.Late.{Late, late-answer, late-refusal, late-stop}
 use Rattle.loading.proofs.Outcomes.{AsFound}

@@ -4,10 +4,8 @@ use mathlib.Core.Path.{_≡_}
 use Prim.Native.Nat.{ℕ, _+_, _≤_}
 use lib.ListN.{length}
 use Rattle.model.specs.Outcome.{Outcome, answered, mapped}
-use Rattle.model.specs.Services.{Sizes, sizes, reverse, enquire}
-use Rattle.model.specs.Areas.{fractionBytes, outputAfter}
-use Rattle.model.specs.Services.{commit}
-use Rattle.model.specs.Areas.{workspaceAfter}
+use Rattle.model.specs.Services.{Sizes, sizes, reverse, enquire, commit}
+use Rattle.model.specs.Areas.{fractionBytes, outputAfter, workspaceAfter}
 
 -- with the numbers of an answered enquiry, and an area as long as both lengths together, commit answers with them, and writes what reverse would write; and
 -- whatever it answers, reverse would answer and write

@@ -8,7 +8,7 @@ use Rattle.model.specs.Presentation.{Presentation}
 use Rattle.model.specs.Reversing.{reversing}
 use Rattle.model.specs.Outcome.{Place, unplaced, Outcome, answered, refused}
 use Rattle.model.specs.Images.{readProgram}
-use Rattle.model.specs.Services.{Sizes, sizes, Fraction, reverse, sizesOf, commit}
+use Rattle.model.specs.Services.{Sizes, sizes, Fraction, reverse, sizesOf, commit, enquire}
 use Rattle.model.specs.Stated.{stopRefusal, reversed}
 use Rattle.model.specs.declared.answers.Ending.{Ending}
 use Rattle.model.specs.declared.answers.Ending.the-variants.{Finished, Undefined, Stopped}
@@ -16,7 +16,6 @@ use Rattle.model.specs.declared.answers.Refusal.the-variants.{OpenPair}
 use Rattle.model.specs.declared.answers.Reversed.{Reversed}
 use Rattle.model.specs.declared.answers.Reversed.the-variants.{Answer, Refused}
 use Rattle.cells.specs.Stands.{Of}
-use Rattle.model.specs.Services.{enquire}
 use Rattle.model.specs.Areas.{workspaceAfter}
 
 -- the answer that an ending is

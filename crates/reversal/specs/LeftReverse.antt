@@ -9,13 +9,11 @@ use Rattle.model.specs.Reversing.{reversing}
 use Rattle.model.specs.Outcome.{Outcome, answered, mapped}
 use Rattle.model.specs.Images.{readTable, readProgram}
 use Rattle.model.specs.Mirror.{mirror, mirrorCheck}
-use Rattle.model.specs.Services.{Sizes, sizes, Fraction, fractionOf}
-use Rattle.model.specs.Areas.{fractionBytes, outputAfter}
+use Rattle.model.specs.Services.{Sizes, sizes, Fraction, fractionOf, leftReverse}
+use Rattle.model.specs.Areas.{fractionBytes, outputAfter, workspaceAfter}
 use Rattle.theory.specs.Mirrors.{readBackward, LeftIsRight}
 use Rattle.theory.specs.Orders.{OrderMeaning}
 use Rattle.reversal.specs.Reverse.{fractionLeft}
-use Rattle.model.specs.Services.{leftReverse}
-use Rattle.model.specs.Areas.{workspaceAfter}
 
 -- right reversing of the word read backward, under the mirror, with both words of its answer read backward again
 abbrev pub underMirror : Presentation → Word → ℕ → ℕ → ℕ → Outcome Fraction

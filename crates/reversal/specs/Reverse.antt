@@ -2,15 +2,13 @@
 use mathlib.Core.List.{List}
 use mathlib.Core.Path.{_≡_}
 use Prim.Native.Nat.{ℕ}
-use lib.ListN.{take, drop}
+use lib.ListN.{take, drop, length}
 use Rattle.model.specs.Word.{Word}
 use Rattle.model.specs.Presentation.{Presentation}
 use Rattle.model.specs.Outcome.{Outcome, answered, mapped}
 use Rattle.model.specs.Images.{readTable, readProgram}
-use Rattle.model.specs.Services.{Sizes, Fraction}
+use Rattle.model.specs.Services.{Sizes, Fraction, sizes, reverse}
 use Rattle.theory.specs.Orders.{OrderMeaning}
-use lib.ListN.{length}
-use Rattle.model.specs.Services.{sizes, reverse}
 use Rattle.model.specs.Areas.{fractionBytes, outputAfter, workspaceAfter}
 
 -- N and D as they stand in the answer area, by the lengths that were told, with the steps that were told

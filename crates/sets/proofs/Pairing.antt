@@ -30,8 +30,7 @@ use Rattle.engine.proofs.Lettering.{lettered-front, length-positive, length-neg
 use Rattle.sets.specs.declared.words.Span.{Span}
 use Rattle.sets.specs.declared.growing.Held.{Held}
 use Rattle.sets.specs.declared.growing.Step.{Step}
-use Rattle.sets.specs.declared.growing.Grown.the-variants.{OpenPair}
-use Rattle.sets.specs.declared.growing.Grown.the-variants.{Stopped as GrownStopped}
+use Rattle.sets.specs.declared.growing.Grown.the-variants.{OpenPair, Stopped as GrownStopped}
 use Rattle.sets.specs.Room.{Fit, Loaded, AtEnds, ReversesBehind}
 use Rattle.sets.specs.Growing.{stoppedAs, grownAs, Growing, StepMeans, pairWord, afterPair, Paired}
 use Rattle.sets.proofs.Spelling.{used-is, word-named, word-part, word-inside}

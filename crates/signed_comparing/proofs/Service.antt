@@ -11,7 +11,7 @@ use Rattle.model.specs.Outcome.{Outcome, answered, refused, _>>=_, mapped}
 use Rattle.model.specs.Checks.{cubeCheck, cleared}
 use Rattle.model.specs.Mirror.{mirror, mirrorCheck}
 use Rattle.model.specs.Images.{readTable, readProgram}
-use Rattle.model.specs.Services.{ofMirror, verdictOf, forwardVerdict}
+use Rattle.model.specs.Services.{ofMirror, verdictOf, forwardVerdict, Images, readImages}
 use Rattle.model.specs.Signed.{SignedVerdict, grownSet, afterFirst, signedOf, signedComparison, compareSigned}
 use Rattle.model.specs.Stated.{refusal, stopRefusal, compared, comparedSigned}
 use Rattle.model.specs.declared.answers.Stop.{Stop as StopAnswer}
@@ -29,7 +29,6 @@ use Rattle.images.proofs.RoundTrip.{table-in-range, program-in-range}
 use Rattle.engine.specs.Run.{LeavesLetters, Reverses}
 use Rattle.engine.proofs.Ended.{done, finishable, met, halted, stop-numbered}
 use Rattle.cells.specs.Stands.{Stands}
-use Rattle.model.specs.Services.{Images, readImages}
 use Rattle.loading.proofs.Early.{program-early}
 use Rattle.loading.proofs.Late.{Late, late-refusal, late-mapped, late-stop}
 use Rattle.loading.proofs.Outcomes.{AsFound}

@@ -8,7 +8,7 @@ use Rattle.model.specs.Presentation.{Presentation}
 use Rattle.model.specs.Reversing.{reversing}
 use Rattle.model.specs.Outcome.{Outcome, answered}
 use Rattle.model.specs.Images.{readTable, readProgram}
-use Rattle.model.specs.Signed.{SignedVerdict, signedOf, signedComparison}
+use Rattle.model.specs.Signed.{SignedVerdict, signedOf, signedComparison, compareSigned}
 use Rattle.model.specs.Areas.{workspaceAfter}
 use Rattle.model.specs.Stated.{comparedSigned}
 use Rattle.model.specs.declared.answers.Ending.{Ending}
@@ -19,7 +19,6 @@ use Rattle.model.specs.declared.answers.ComparedSigned.the-variants.{Same as Si
 use Rattle.theory.specs.Signed.{ComparisonSigned}
 use Rattle.cells.specs.Stands.{Stands, Of}
 use Rattle.engine.specs.Run.{Reverses}
-use Rattle.model.specs.Signed.{compareSigned}
 
 -- the verdict on N and D, with the steps of the first reversing
 abbrev pub afterFirstAs : ℕ → Compared → ComparedSigned

@@ -16,8 +16,7 @@ use Rattle.engine.proofs.Lettering.{length-positive}
 use Rattle.table_checks.specs.Residues.{Works, Stored}
 use Rattle.table_checks.specs.Cube.{cubeAnswer, Sides, RightSide}
 use Rattle.table_checks.specs.declared.residues.Residue.{Residue as ResidueAnswer}
-use Rattle.table_checks.specs.declared.residues.Residue.the-variants.{Missing, Halted}
-use Rattle.table_checks.specs.declared.residues.Residue.the-variants.{Word as Found}
+use Rattle.table_checks.specs.declared.residues.Residue.the-variants.{Missing, Halted, Word as Found}
 use Rattle.table_checks.specs.declared.cube.CubeVerdict.the-variants.{Fails, Halts}
 use Rattle.table_checks.proofs.Sides.{FoundWord, was-found}
 use Rattle.table_checks.proofs.Triples.{right-missing, right-halts, both-words}

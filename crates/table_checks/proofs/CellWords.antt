@@ -9,13 +9,12 @@ use Rattle.model.specs.Presentation.{Presentation, complement, complete}
 use Rattle.engine.specs.Gap.{letters, wordAt, Searched}
 use Rattle.cells.specs.Layout.{cellAt}
 use Rattle.model.specs.Range.{InRange}
-use Rattle.cells.proofs.Rules.{cell-word, WordAt}
+use Rattle.cells.proofs.Rules.{cell-word, WordAt, Rule, inside, word-cell}
 use Rattle.cells.specs.Stands.{Serves}
 use Rattle.engine.specs.Turn.{Pushed}
 use Rattle.engine.proofs.Lettering.{length-negative}
 use Rattle.engine.proofs.Pushes.{pushed-as, pushed-kept}
 use Rattle.engine.proofs.Stepping.{cell-letters}
-use Rattle.cells.proofs.Rules.{cell-word, Rule, inside, word-cell}
 use Rattle.engine.proofs.Loads.{pushed-front, pushed-end, loaded, load-searched, load-serves}
 
 -- the cell of a pair of letters that the presentation has

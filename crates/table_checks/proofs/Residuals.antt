@@ -20,8 +20,7 @@ use Rattle.engine.proofs.Letters.{letters-take}
 use Rattle.engine.proofs.Lettering.{lettered-front, length-positive, length-negative}
 use Rattle.table_checks.specs.Residues.{fromEnding, residueAnswer, Works}
 use Rattle.table_checks.specs.declared.residues.Residue.{Residue as ResidueAnswer}
-use Rattle.table_checks.specs.declared.residues.Residue.the-variants.{Missing, Halted}
-use Rattle.table_checks.specs.declared.residues.Residue.the-variants.{Word as Found}
+use Rattle.table_checks.specs.declared.residues.Residue.the-variants.{Missing, Halted, Word as Found}
 
 -- the numerator stands at the start
 ending-works : (size : ℕ) (e : Ending) (bytes : List ℕ) → LeavesWord e bytes → LeavesLetters size e

@@ -13,8 +13,7 @@ use Rattle.table_checks.specs.Cube.{CubeMeans}
 use Rattle.table_checks.specs.Table.{stoppedAs}
 use Rattle.table_checks.specs.declared.cube.CubeVerdict.the-variants.{Holds, Fails, Halts}
 use Rattle.table_checks.proofs.Remaining.{triple, firsts, seconds, thirds, triples-begin, firsts-some, firsts-none, seconds-some, seconds-none}
-use Rattle.table_checks.proofs.Remaining.{thirds-none}
-use Rattle.table_checks.proofs.Remaining.{third-is-first, third-is-second, third-counts}
+use Rattle.table_checks.proofs.Remaining.{thirds-none, third-is-first, third-is-second, third-counts}
 use Rattle.table_checks.proofs.Passing.{triple-passes, triple-fails, triple-halts, of-serves}
 
 abbrev pub Left : List ℕ → ℕ → ℕ → ℕ → List Three → Type 0

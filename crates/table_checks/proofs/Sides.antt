@@ -17,8 +17,7 @@ use Rattle.model.specs.Range.{InRange}
 use Rattle.cells.specs.Stands.{Serves}
 use Rattle.table_checks.specs.Residues.{residueAnswer, Stored, Works}
 use Rattle.table_checks.specs.declared.residues.Residue.{Residue as ResidueAnswer}
-use Rattle.table_checks.specs.declared.residues.Residue.the-variants.{Missing, Halted}
-use Rattle.table_checks.specs.declared.residues.Residue.the-variants.{Word as Found}
+use Rattle.table_checks.specs.declared.residues.Residue.the-variants.{Missing, Halted, Word as Found}
 use Rattle.table_checks.proofs.CellWords.{cell-of}
 
 -- a residue that is a word of k letters at the workspace's start

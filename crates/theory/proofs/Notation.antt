@@ -11,11 +11,9 @@ use lib.ListN.{length, length-append, length-reverse, length-map}
 use Rattle.model.specs.Word.{Word, flip}
 use Rattle.model.specs.Outcome.{unplaced, Outcome, answered, refused, _>>=_, unless}
 use Rattle.model.specs.Bits.{Read}
-use Rattle.model.specs.Notation.{Pattern, nothing, _then_, Item, item, Body, move, bracket, mostNested}
-use Rattle.model.specs.Notation.{repeated, times, undone, meaning, itemMeaning, bodyMeaning, moves, itemMoves, bodyMoves}
-use Rattle.model.specs.Notation.{spaceByte, openingByte, closingByte, countByte}
-use Rattle.model.specs.Notation.{isDigit, readNumber, readMinus, readCount, readMove, readClose, readBody}
-use Rattle.model.specs.Notation.{readItem, readOn, readItems, readIn, readPattern, readText}
+use Rattle.model.specs.Notation.{Pattern, nothing, _then_, Item, item, Body, move, bracket, mostNested, repeated, times, undone, meaning, itemMeaning}
+use Rattle.model.specs.Notation.{bodyMeaning, moves, itemMoves, bodyMoves, spaceByte, openingByte, closingByte, countByte, isDigit, readNumber, readMinus}
+use Rattle.model.specs.Notation.{readCount, readMove, readClose, readBody, readItem, readOn, readItems, readIn, readPattern, readText}
 use Rattle.model.proofs.Impossible.{impossible, same-answer}
 use Rattle.theory.specs.Notation.{NotationMeaning}
 use Rattle.theory.proofs.WrittenRead.{text-read}

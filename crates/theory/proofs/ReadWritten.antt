@@ -12,12 +12,10 @@ use lib.ListN.{length}
 use borrow.Author.Tests.{ltb-false, eqb-true, eqb-false}
 use Rattle.model.specs.Outcome.{Outcome, answered, _>>=_, unless}
 use Rattle.model.specs.Bits.{Read}
-use Rattle.model.specs.Notation.{Pattern, nothing, _then_, Item, item, Body, move, bracket}
-use Rattle.model.specs.Notation.{mostNumber, mostNested, CountInRange, PatternInRange, ItemInRange, BodyInRange}
-use Rattle.model.specs.Notation.{spaceByte, openingByte, closingByte, minusByte, zeroByte, countByte}
-use Rattle.model.specs.Notation.{decimal, minusText, countText, patternText, textAfter, itemText, bodyText}
-use Rattle.model.specs.Notation.{noPattern, isDigit, secondDigit, readNumber, readMinus, readCount, readMove, readClose, readBody}
-use Rattle.model.specs.Notation.{readItem, readOn, readItems, readIn, readPattern, readText}
+use Rattle.model.specs.Notation.{Pattern, nothing, _then_, Item, item, Body, move, bracket, mostNumber, mostNested, CountInRange, PatternInRange, ItemInRange}
+use Rattle.model.specs.Notation.{BodyInRange, spaceByte, openingByte, closingByte, minusByte, zeroByte, countByte, decimal, minusText, countText, patternText}
+use Rattle.model.specs.Notation.{textAfter, itemText, bodyText, noPattern, isDigit, secondDigit, readNumber, readMinus, readCount, readMove, readClose}
+use Rattle.model.specs.Notation.{readBody, readItem, readOn, readItems, readIn, readPattern, readText}
 use Rattle.model.proofs.Impossible.{impossible, answer-of, same-answer, not-refused}
 use Rattle.theory.proofs.Digits.{digit-from, decimal-one, decimal-two}
 use Rattle.theory.proofs.WrittenRead.{read, inside, pattern-by-inside}

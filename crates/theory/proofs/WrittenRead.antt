@@ -13,12 +13,10 @@ use lib.ListN.{length, length-append}
 use borrow.Author.Tests.{ne-eqb}
 use Rattle.model.specs.Outcome.{Outcome, answered, _>>=_, unless}
 use Rattle.model.specs.Bits.{Read}
-use Rattle.model.specs.Notation.{Pattern, nothing, _then_, Item, item, Body, move, bracket}
-use Rattle.model.specs.Notation.{mostNumber, mostNested, CountInRange, PatternInRange, ItemInRange, BodyInRange}
-use Rattle.model.specs.Notation.{spaceByte, openingByte, closingByte, minusByte, zeroByte}
-use Rattle.model.specs.Notation.{decimal, minusText, countText, patternText, textAfter, itemText, bodyText}
-use Rattle.model.specs.Notation.{noPattern, isDigit, secondDigit, readNumber, readMinus, readCount, readMove, readClose, readBody}
-use Rattle.model.specs.Notation.{readItem, readOn, readItems, readIn, readPattern, readText}
+use Rattle.model.specs.Notation.{Pattern, nothing, _then_, Item, item, Body, move, bracket, mostNumber, mostNested, CountInRange, PatternInRange, ItemInRange}
+use Rattle.model.specs.Notation.{BodyInRange, spaceByte, openingByte, closingByte, minusByte, zeroByte, decimal, minusText, countText, patternText, textAfter}
+use Rattle.model.specs.Notation.{itemText, bodyText, noPattern, isDigit, secondDigit, readNumber, readMinus, readCount, readMove, readClose, readBody, readItem}
+use Rattle.model.specs.Notation.{readOn, readItems, readIn, readPattern, readText}
 use Rattle.theory.proofs.Digits.{digit-from, digit-is, decimal-one, decimal-two, Digits, one-digit, two-digits, digits-of, DigitFirst, digit-first}
 
 -- WHAT MAY FOLLOW

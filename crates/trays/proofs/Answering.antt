@@ -13,8 +13,7 @@ use Rattle.model.specs.Areas.{written}
 use Rattle.model.specs.Tray.{readLog, logBytes, trayBytes}
 use Rattle.numbering.specs.Refusals.{numbersTold, RefusalTold}
 use Rattle.numbering.specs.declared.refusals.RefusalNumbers.{RefusalNumbers}
-use Rattle.bits.proofs.Appending.{written-more}
-use Rattle.bits.proofs.Appending.{wrote-byte}
+use Rattle.bits.proofs.Appending.{written-more, wrote-byte}
 use Rattle.model.proofs.Impossible.{answer-of, same-answer}
 use Rattle.trays.specs.Logs.{imageAt, endAt, LogsOf}
 use Rattle.trays.specs.Tray.{Under, logVerdict}

@@ -7,14 +7,11 @@ use Rattle.model.specs.Word.{Positive, positive, negative}
 use Rattle.model.specs.Presentation.{Presentation}
 use Rattle.model.specs.Reversing.{Finishes, EndsEmpty, CoversSteps, CoversRoom}
 use Rattle.model.specs.Equivalence.{Joined}
-use Rattle.model.specs.Outcome.{Place, Outcome, answered, refused}
+use Rattle.model.specs.Outcome.{Place, Outcome, answered, refused, mapped}
 use Rattle.model.specs.Images.{readTable}
 use Rattle.model.specs.Services.{readForward}
-use Rattle.model.specs.Areas.{Compares}
-use Rattle.model.specs.Tray.{readTray}
-use Rattle.model.specs.Outcome.{mapped}
-use Rattle.model.specs.Areas.{outputAfter, workspaceAfter}
-use Rattle.model.specs.Tray.{trayBytes, tray as trayOutcome}
+use Rattle.model.specs.Areas.{Compares, outputAfter, workspaceAfter}
+use Rattle.model.specs.Tray.{readTray, trayBytes, tray as trayOutcome}
 
 -- same or different, with two bytes of steps, or a stop without steps by allowance or memory
 pub data Told : List ℕ → Type 0 where

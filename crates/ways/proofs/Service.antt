@@ -21,7 +21,7 @@ use Rattle.model.specs.Range.{All, InRange, Lettered}
 use Rattle.model.specs.Outcome.{Outcome, answered, refused, _>>=_, unless, mapped}
 use Rattle.model.specs.Images.{readTable, readProgram}
 use Rattle.model.specs.Plain.{plainProgram}
-use Rattle.model.specs.Services.{isForward, readForward}
+use Rattle.model.specs.Services.{isForward, readForward, readTableWith}
 use Rattle.model.specs.Checks.{weightCheck}
 use Rattle.model.specs.Areas.{written, begins}
 use Rattle.model.specs.Ways.{listing, listingBytes, fittedListing, ways, waysArea}
@@ -34,7 +34,6 @@ use Rattle.model.proofs.Listing.{within-shorter, bytes-more}
 use Rattle.model.proofs.Outcomes.{still-refused, goes-on}
 use Rattle.images.proofs.RoundTrip.{table-in-range, program-in-range}
 use Rattle.images.specs.Programs.{ForwardOf}
-use Rattle.model.specs.Services.{readTableWith}
 use Rattle.loading.proofs.Early.{Early}
 use Rattle.loading.proofs.Reading.{program-still-refused, program-runs}
 use Rattle.table_checks.specs.declared.table.Weights.{Weights}

@@ -12,12 +12,11 @@ use Rattle.model.specs.Outcome.{Outcome, answered, mapped}
 use Rattle.model.specs.Images.{readTable}
 use Rattle.model.specs.Services.{readForward}
 use Rattle.model.specs.Checks.{weightCheck}
-use Rattle.model.specs.Ways.{listing, listingBytes, fittedListing, waysArea}
+use Rattle.model.specs.Ways.{listing, listingBytes, fittedListing, waysArea, ways}
 use Rattle.model.specs.Stated.{Counts, counts, listedAs}
 use Rattle.theory.specs.Ways.{ListingMeaning, WordsInOrder}
 use Rattle.images.specs.Programs.{ForwardOf}
 use Rattle.cells.specs.Stands.{Of}
-use Rattle.model.specs.Ways.{ways}
 
 -- the result and the area are those of an outcome
 pub record Answers (outcome : Outcome (List Positive)) (before after : List ℕ) (r : Ways) : Type 0 where

@@ -2,9 +2,8 @@
 use mathlib.Core.Path.{sym, subst, _∙_}
 use mathlib.Core.List.{List}
 use Prim.Native.Nat.{ℕ}
-use Rattle.images.specs.Tables.{TableDone}
+use Rattle.images.specs.Tables.{TableDone, Loaded}
 use Rattle.bed.proofs.Service.{braid-of, table-refused, braid-refused}
-use Rattle.images.specs.Tables.{Loaded}
 use Rattle.model.specs.Images.{readTable}
 use borrow.Author.Needs.{needs}
 use Rattle.bed.proofs.braid_table.read_braid.Statement.{statement}

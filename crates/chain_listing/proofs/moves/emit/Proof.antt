@@ -4,8 +4,7 @@ use Prim.Native.Nat.{_-_}
 use native.Mathlib.Omega.{arith}
 use lib.ListN.{getD}
 use Rattle.chain_listing.proofs.Emitting.{a-top, b-top, pair-a, pair-b, to-inside, from-inside, to-count, from-short, passed-is, passed-few}
-use Rattle.chain_listing.proofs.Emitting.{stacked-some}
-use Rattle.chain_listing.proofs.Emitting.{slot-over, room, emitted-here}
+use Rattle.chain_listing.proofs.Emitting.{stacked-some, slot-over, room, emitted-here}
 use borrow.Author.Needs.{needs}
 use Rattle.chain_listing.proofs.moves.emit.Statement.{statement}
 use Rattle.chain_listing.proofs.moves.emit.Tie as tie

@@ -1,8 +1,7 @@
 -- `chain_listing::moves::meet` meets its contract: equal letters vanish, and different ones push a face.
 use native.Mathlib.Omega.{arith}
 use Rattle.chain_listing.proofs.Meeting.{wide, cell-inside, byte-back, left-some, left-inside, passed-small, a-here, b-here, stacked-small}
-use Rattle.chain_listing.proofs.Meeting.{met-equal-here}
-use Rattle.chain_listing.proofs.Meeting.{slots-left, slot-here, met-different-here}
+use Rattle.chain_listing.proofs.Meeting.{met-equal-here, slots-left, slot-here, met-different-here}
 use Rattle.chain_listing.proofs.moves.meet.Statement.{statement}
 use Rattle.chain_listing.proofs.moves.meet.Tie as tie
 

@@ -1,20 +1,18 @@
 -- `packing::unpack_program::unpack` meets its contract.
 use mathlib.Core.Path.{ap, subst, _∙_}
-use Prim.Native.Nat.{_+_}
+use Prim.Native.Nat.{_+_, ℕ}
 use native.Mathlib.Omega.{arith}
 use mathlib.Core.List.{List, _++_}
-use Prim.Native.Nat.{ℕ}
 use lib.ListN.{length, drop, length-map}
 use Rattle.model.specs.declared.answers.Refusal.the-variants.{AnswerShort}
 use Rattle.model.specs.Word.{Word, byte}
 use Rattle.model.specs.Plain.{plainProgram}
 use Rattle.model.specs.Services.{unpackProgram, programUnder, plainProgramUnder, packProgram}
 use Rattle.cells.proofs.Rules.{blank-zeros, of-some, of-few}
-use Rattle.images.specs.Tables.{TableDone}
+use Rattle.images.specs.Tables.{TableDone, Loaded}
 use Rattle.images.specs.Programs.{ProgramDone, ProgramOf}
 use Rattle.packing.proofs.Packing.{refused-keeps, answered-writes, short-area, long-area, unpack-table-refused, unpack-program-refused, unpack-read}
 use Rattle.packing.proofs.ReadBack.{promised, program-packed, plain-program-back}
-use Rattle.images.specs.Tables.{Loaded}
 use Rattle.model.specs.Images.{readTable}
 use borrow.Author.Needs.{needs}
 use Rattle.packing.proofs.unpack_program.unpack.Statement.{statement}

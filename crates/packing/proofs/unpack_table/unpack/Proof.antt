@@ -2,7 +2,7 @@
 use mathlib.Core.Path.{_≡_, ap, subst, _∙_}
 use lib.ListN.{length}
 use Rattle.cells.proofs.Rules.{blank-zeros, of-few}
-use Rattle.images.specs.Tables.{TableDone}
+use Rattle.images.specs.Tables.{TableDone, Loaded}
 use Rattle.model.specs.Bits.{pack}
 use Rattle.model.specs.Images.{readTable}
 use Rattle.model.specs.Plain.{readPlainTable, plainTable}
@@ -14,7 +14,6 @@ use Rattle.writers.proofs.TableForms.{plain-fits, plain-packed}
 use Rattle.images.proofs.RoundTrip.{table-in-range}
 use Rattle.packing.proofs.Packing.{refused-keeps, fills-keeps, table-refused, table-read}
 use Rattle.packing.proofs.ReadBack.{promised, table-packed, plain-table-back}
-use Rattle.images.specs.Tables.{Loaded}
 use borrow.Author.Needs.{needs}
 use Rattle.packing.proofs.unpack_table.unpack.Statement.{statement}
 use Rattle.packing.proofs.unpack_table.unpack.Tie as tie

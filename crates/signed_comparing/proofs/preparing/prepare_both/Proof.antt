@@ -1,9 +1,8 @@
 -- `signed_comparing::preparing::prepare_both` meets its contract.
 use mathlib.Core.Path.{_≡_, sym, ap, _∙_}
-use lib.ListN.{length, replicate}
+use lib.ListN.{length, replicate, length-replicate}
 use Rattle.model.specs.Areas.{workspaceAfter}
 use Rattle.model.specs.Stated.{clearedAs}
-use lib.ListN.{length-replicate}
 use Rattle.signed_comparing.specs.Preparing.{mirrorThenSet}
 use Rattle.signed_comparing.proofs.Prepared.{table-refused, table-clears}
 use borrow.Author.Needs.{needs}

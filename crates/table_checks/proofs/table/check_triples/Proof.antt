@@ -15,8 +15,7 @@ use Rattle.table_checks.proofs.Remaining.{firsts, seconds, thirds}
 use Rattle.cells.proofs.Rules.{of-few}
 use Rattle.table_checks.proofs.Passing.{of-serves}
 use Rattle.table_checks.proofs.Searching.{Left, left-all, enter-first, leave-first, enter-second, leave-second, all-hold, skip-first, skip-second}
-use Rattle.table_checks.proofs.Searching.{pass-third}
-use Rattle.table_checks.proofs.Searching.{fail-third, halt-third}
+use Rattle.table_checks.proofs.Searching.{pass-third, fail-third, halt-third}
 use Rattle.table_checks.proofs.table.check_triples.Statement.{statement}
 use Rattle.table_checks.proofs.table.check_triples.Tie as tie
 

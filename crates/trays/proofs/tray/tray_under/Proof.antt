@@ -2,10 +2,9 @@
 use mathlib.Core.Path.{sym, subst}
 use native.Mathlib.Omega.{arith}
 use lib.ListN.{length}
-use Rattle.model.specs.Services.{readForward}
+use Rattle.model.specs.Services.{readForward, readTableWith}
 use Rattle.cells.proofs.Rules.{blank-zeros}
 use Rattle.images.specs.declared.programs.Signs.the-variants.{Forward as ForwardAlone}
-use Rattle.model.specs.Services.{readTableWith}
 use Rattle.loading.specs.Loading.{TableProgramDone}
 use Rattle.loading.proofs.Early.{forward-early}
 use Rattle.loading.proofs.Reading.{table-with-early}

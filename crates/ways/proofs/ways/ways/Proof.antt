@@ -5,13 +5,12 @@ use borrow.Author.Needs.{needs}
 use lib.ListN.{length}
 use Rattle.model.specs.declared.answers.Refusal.the-variants.{UnequalWeights}
 use Rattle.model.specs.declared.answers.Ways.the-variants.{Refused}
-use Rattle.model.specs.Services.{readForward}
+use Rattle.model.specs.Services.{readForward, readTableWith}
 use Rattle.images.proofs.RoundTrip.{table-in-range}
 use Rattle.cells.proofs.Rules.{blank-zeros}
 use Rattle.table_checks.specs.declared.table.Weights.the-variants.{Equal, Unequal}
 use Rattle.table_checks.specs.Table.{WeightsMean}
 use Rattle.images.specs.declared.programs.Signs.the-variants.{Forward as ForwardAlone}
-use Rattle.model.specs.Services.{readTableWith}
 use Rattle.loading.specs.Loading.{TableProgramDone}
 use Rattle.loading.proofs.Early.{forward-early}
 use Rattle.loading.proofs.Reading.{table-with-early}
