@@ -1,6 +1,7 @@
 #!/bin/sh
-# How the proofs are laid out: no line of a crate is over 160 characters, and a path of more than three `.before` stands alone as the body of an accessor, so
-# that each place that a proof names is named once. Then a case for each fault that these looks must find. The last line is 'N passed, M failed'.
+# How code and proofs are laid out: no line of a crate is over 160 characters, no function has more statements than `most`, and a path of more than three
+# `.before` stands alone as the body of an accessor, so that each place that a proof names is named once. Then a case for each fault that these looks must find.
+# The last line is 'N passed, M failed'.
 cd "$(dirname "$0")/.." || exit 1
 . tests/made.sh
 work=$(mktemp -d) || exit 1
@@ -30,7 +31,16 @@ deep() {
     done
 }
 
+# large TREE: each function with too many statements
+most=18
+large() {
+    crates "$1" | grep '/src/.*\.rt$' | while IFS= read -r file; do
+        awk -v most="$most" -f tests/statements.awk "$file" | sed "s|^$1/||"
+    done
+}
+
 held 'the lines of the crates' '' "$(long .)"
+held 'the functions of the crates' '' "$(large .)"
 held 'the paths of the proofs' '' "$(deep .)"
 
 # planted PROOF: a small tree with this proof
@@ -52,5 +62,24 @@ planted "$(printf '%161s' '' | tr ' ' u)\n"
 held 'a line that is too long' 'crates/x/proofs/A.antt: line 1 is longer than 160 characters' "$(long "$work")"
 planted "$(printf '%160s' '' | sed 's/ /λ/g')\n"
 held 'a line of 160 letters' '' "$(long "$work")"
+
+# written STATEMENTS: a function with so many, among them an array, a test that only returns, and a value at the end
+written() {
+    mkdir -p "$work/crates/x/src"
+    {
+        printf 'pub fn f(x: u8) -> u8\n    ensures { λ r. ⌜ r ≡ x ⌝ }\n{\n    let a = [0u8; 4]; // an array; of bytes\n'
+        printf '    if a[0] == x {\n        return x;\n    }\n'
+        i=2
+        while [ "$i" -lt "$1" ]; do
+            printf '    g(x);\n'
+            i=$((i + 1))
+        done
+        printf '    x\n}\n'
+    } > "$work/crates/x/src/lib.rt"
+}
+written "$most"
+held 'a function with as many statements as may be' '' "$(large "$work")"
+written $((most + 1))
+held 'a function with one statement too many' "crates/x/src/lib.rt: f has $((most + 1)) statements, more than $most" "$(large "$work")"
 
 counted
