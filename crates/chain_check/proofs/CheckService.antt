@@ -77,73 +77,73 @@ ends-at after left right carried all right′ p k e =
       e,
     ))
 
-module _ (T : Presentation) (width : ℕ) where
+module _ (T : Presentation) (room : ℕ) where
   -- following ends in an answer or in 12, after the work has begun
-  entry-late : (k : ℕ) (go : Positive → Outcome Passage) → ((w : Positive) → Late (go w)) → (o : Option Positive) → Late (followedBy width k go o)
+  entry-late : (k : ℕ) (go : Positive → Outcome Passage) → ((w : Positive) → Late (go w)) → (o : Option Positive) → Late (followedBy room k go o)
   entry-late k go h none = late-answer
-  entry-late k go h (some w) = late-cond (ltb width (length w)) (late-refusal refl) (h w)
+  entry-late k go h (some w) = late-cond (ltb room (length w)) (late-refusal refl) (h w)
 
-  followed-late : (es : List Entry) (k : ℕ) (u v : Positive) → Late (followed T width k u es v)
+  followed-late : (es : List Entry) (k : ℕ) (u v : Positive) → Late (followed T room k u es v)
   unfolding followed
   followed-late [] k u v = late-answer
-  followed-late (e ∷ es) k u v = entry-late k (λ w. followed T width (suc k) w es v) (λ w. followed-late es (suc k) w v) (applied T u e)
+  followed-late (e ∷ es) k u v = entry-late k (λ w. followed T room (suc k) w es v) (λ w. followed-late es (suc k) w v) (applied T u e)
 
   module _ (u : Positive) (es : List Entry) (v : Positive) where
-    pub passage-wipes : (area : List ℕ) → workspaceAfter (passage T width u es v) area ≡ replicate (length area) 0
-    passage-wipes = late-cond (ltb width (length u)) (late-refusal refl) (followed-late es 0 u v) .zero
+    pub passage-wipes : (area : List ℕ) → workspaceAfter (passage T room u es v) area ≡ replicate (length area) 0
+    passage-wipes = late-cond (ltb room (length u)) (late-refusal refl) (followed-late es 0 u v) .zero
 
-    pub passage-long : width < length u → passage T width u es v ≡ refused 12 unplaced
-    passage-long h = ap (λ t. cond t (refused 12 unplaced) (followed T width 0 u es v)) (lt-ltb width (length u) h)
+    pub passage-long : room < length u → passage T room u es v ≡ refused 12 unplaced
+    passage-long h = ap (λ t. cond t (refused 12 unplaced) (followed T room 0 u es v)) (lt-ltb room (length u) h)
 
     -- from the first program as it is loaded
-    pub passed : (unpacked : List ℕ) (right : ℕ) → length unpacked ≡ width → heldAt unpacked 0 right ≡ u → length u ≤ width
-        → passage T width u es v ≡ followed T (length unpacked) 0 (heldAt unpacked 0 right) es v
-    passed unpacked right l held h = passage-fits T width u es v h ∙ ap₂ (λ w x. followed T w 0 x es v) (sym l) (sym held)
+    pub passed : (unpacked : List ℕ) (right : ℕ) → length unpacked ≡ room → heldAt unpacked 0 right ≡ u → length u ≤ room
+        → passage T room u es v ≡ followed T (length unpacked) 0 (heldAt unpacked 0 right) es v
+    passed unpacked right l held h = passage-fits T room u es v h ∙ ap₂ (λ w x. followed T w 0 x es v) (sym l) (sym held)
 
 -- THE SERVICE
 
-module _ (table first second entries : List ℕ) (width : ℕ) where
+module _ (table first second entries : List ℕ) (room : ℕ) where
   abbrev follows : Images Positive → Outcome Passage
-  follows p = readChain (p .table .size) entries >>= λ es. passage (p .table) width (p .first) es (p .second)
+  follows p = readChain (p .table .size) entries >>= λ es. passage (p .table) room (p .first) es (p .second)
 
-  pub check-refused : (r : Refusal) → readImages readForward table first second ≡ refusal r → AsFound (check table first second entries width) r
+  pub check-refused : (r : Refusal) → readImages readForward table first second ≡ refusal r → AsFound (check table first second entries room) r
   unfolding check
   check-refused = programs-refused table first second follows
 
   module _ (T : Presentation) (u v : Positive) (c : Compares table first second T u v) (size : ℕ) (sized : T .size ≡ size) where
-    reads-chain : check table first second entries width ≡ (readChain size entries >>= λ es. passage T width u es v)
+    reads-chain : check table first second entries room ≡ (readChain size entries >>= λ es. passage T room u es v)
     unfolding check
-    reads-chain = programs-run table first second follows T u v c ∙ ap (λ i. readChain i entries >>= λ es. passage T width u es v) sized
+    reads-chain = programs-run table first second follows T u v c ∙ ap (λ i. readChain i entries >>= λ es. passage T room u es v) sized
 
-    pub check-no-chain : (r : Refusal) → readChain size entries ≡ refusal r → AsFound (check table first second entries width) r
+    pub check-no-chain : (r : Refusal) → readChain size entries ≡ refusal r → AsFound (check table first second entries room) r
     check-no-chain r e = reading-refused _ (readChain size entries) _ reads-chain r e 6 (chain-early size entries) (omega arith)
 
-    pub check-runs : (es : List Entry) → readChain size entries ≡ answered es → check table first second entries width ≡ passage T width u es v
+    pub check-runs : (es : List Entry) → readChain size entries ≡ answered es → check table first second entries room ≡ passage T room u es v
     check-runs es e = reads-chain ∙ goes-on (readChain size entries) es e _
 
-  pub check-says : (o : Outcome Passage) → o ≡ check table first second entries width → CheckSays table first second entries width o
+  pub check-says : (o : Outcome Passage) → o ≡ check table first second entries room → CheckSays table first second entries room o
   check-says o e =
       record {
         joins-joined = λ h T u v c.
-            let list = answer-of (readChain (T .size) entries) (λ es. passage T width u es v) joins (sym (e ∙ reads-chain T u v c (T .size) refl) ∙ h) in
-            joined T u v (list .0) (passage-exactly T width u (list .0) v (answered joins) .0 (list .2));
+            let list = answer-of (readChain (T .size) entries) (λ es. passage T room u es v) joins (sym (e ∙ reads-chain T u v c (T .size) refl) ∙ h) in
+            joined T u v (list .0) (passage-exactly T room u (list .0) v (answered joins) .0 (list .2));
         exactly = λ T u v c es r o′. (
-          λ h. passage-exactly T width u es v o′ .0 (sym (is T u v c es r) ∙ h),
-          λ p. is T u v c es r ∙ passage-exactly T width u es v o′ .1 p,
+          λ h. passage-exactly T room u es v o′ .0 (sym (is T u v c es r) ∙ h),
+          λ p. is T u v c es r ∙ passage-exactly T room u es v o′ .1 p,
         );
         one-image = λ T u v c bs es r. chain-image-of (T .size) (table-in-range table T (c .table-read) .few) entries bs es r;
       }
     where
       is : (T : Presentation) (u v : Positive) → Compares table first second T u v → (es : List Entry) → readChain (T .size) entries ≡ answered es
-          → o ≡ passage T width u es v
+          → o ≡ passage T room u es v
       is T u v c es r = e ∙ check-runs T u v c (T .size) refl es r
 
-      by : (T : Presentation) (u v : Positive) (es : List Entry) (o : Outcome Passage) → o ≡ answered joins → Passes T width u es v o → Joined T u v
+      by : (T : Presentation) (u v : Positive) (es : List Entry) (o : Outcome Passage) → o ≡ answered joins → Passes T room u es v o → Joined T u v
       by T u v es o h (arrives l) = (es, l .0)
       by T u v es o h (broken before x after w p l q) = impossible (cc)
       by T u v es o h (elsewhere w l d) = impossible (cc)
       by T u v es o h (starts-long l) = impossible (cc)
       by T u v es o h (grows-long before x after w w′ p l q long) = impossible (cc)
 
-      joined : (T : Presentation) (u v : Positive) (es : List Entry) → Passes T width u es v (answered joins) → Joined T u v
+      joined : (T : Presentation) (u v : Positive) (es : List Entry) → Passes T room u es v (answered joins) → Joined T u v
       joined T u v es p = by T u v es (answered joins) refl p

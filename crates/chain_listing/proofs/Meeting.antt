@@ -61,7 +61,7 @@ module _ {t : Task} {cells : List ℕ} {size total : ℕ} (h : Fixed t cells siz
         some = size-some;
         few = size-few;
         low = omega (arith, h .few);
-        inside = slot-fits size total answer (rw e (h .room)) index i;
+        inside = slot-fits size total answer (rw e (h .enough)) index i;
       }
 
   middle-named : (n : ℕ) (done : Positive) (b : ℕ) (left : Positive) → Lettered n (positive (done ++ (b ∷ left))) → InRange n b

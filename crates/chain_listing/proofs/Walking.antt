@@ -74,10 +74,10 @@ pub record Walk (cells : List ℕ) (size total : ℕ) (bytes₀ answer₀ : List
 
 -- THE WHOLE
 
-module _ {cells : List ℕ} {size : ℕ} {bytes : List ℕ} {left right relations room : ℕ} {T : Presentation} {u v : Positive} {steps : ℕ}
-    (h : Compared cells size bytes left right relations room T u v steps) (small : relations < 65536) (area : List ℕ) (is : length area ≡ room) where
+module _ {cells : List ℕ} {size : ℕ} {bytes : List ℕ} {left right relations output : ℕ} {T : Presentation} {u v : Positive} {steps : ℕ}
+    (h : Compared cells size bytes left right relations output T u v steps) (small : relations < 65536) (area : List ℕ) (is : length area ≡ output) where
   abbrev pub task : Task
-  task = record { table = T; first = u; second = v; steps = steps; width = length bytes; area = area }
+  task = record { table = T; first = u; second = v; steps = steps; room = length bytes; area = area }
 
   parts : letters (take left bytes) ++ letters (drop right bytes) ≡ negative u ++ positive v
   unfolding wordAt
@@ -111,7 +111,7 @@ module _ {cells : List ℕ} {size : ℕ} {bytes : List ℕ} {left right relation
         short = h .short;
         named = subst (λ n. Lettered n (positive v)) (sym (h .size-is)) (h .second-named);
         few = small;
-        room = rw is (h .enough);
+        enough = rw is (h .enough);
       }
 
   pub begun : {answer : List ℕ} → Layout size relations area [] [] answer
@@ -163,10 +163,10 @@ module _ {cells : List ℕ} {size : ℕ} {bytes : List ℕ} {left right relation
         counted = c .number;
         long =
             subst (λ n. length (chainImage n (c .entries)) ≡ chainBytes n relations) (h .size-is)
-            (image-long size relations area answer (c .entries) (c .layout) (c .number) (settled .room) ba);
+            (image-long size relations area answer (c .entries) (c .layout) (c .number) (settled .enough) ba);
         written =
             subst (λ n. answer ≡ begins (chainImage n (c .entries)) area) (h .size-is)
-            (framed size relations area answer (c .entries) (c .layout) (c .number) (settled .room) ba bb);
+            (framed size relations area answer (c .entries) (c .layout) (c .number) (settled .enough) ba bb);
         short = omega (arith, c .number);
         fit = entries-fit T (h .even) u (c .entries) v (h .short) (c .leads);
       }

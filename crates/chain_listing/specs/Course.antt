@@ -22,7 +22,7 @@ pub record Task : Type 0 where
   pub first : Positive
   pub second : Positive
   pub steps : ℕ
-  pub width : ℕ
+  pub room : ℕ
   pub area : List ℕ
 
 -- relations keep weight
@@ -37,14 +37,14 @@ pub record Fixed (t : Task) (cells : List ℕ) (size total : ℕ) : Type 0 where
   pub short : weigh (t .table) (t .first) < 2 ^ offsetWidth
   pub named : Lettered size (positive (t .second))
   pub few : total < 65536
-  pub room : chainBytes size total ≤ length (t .area)
+  pub enough : chainBytes size total ≤ length (t .area)
 
 -- the reversing goes on from a word, with so many relation steps done
 pub record Running (t : Task) (total : ℕ) (word : Word) (relations : ℕ) : Type 0 where
   pub budget : ℕ
   pub steps : ℕ
-  pub fits : length word ≤ t .width
-  pub finishes : run (t .table) (t .width) budget steps relations word ≡ finished [] [] (t .steps) total
+  pub fits : length word ≤ t .room
+  pub finishes : run (t .table) (t .room) budget steps relations word ≡ finished [] [] (t .steps) total
 
 -- the entries have led from the first word, and the faces and the rest stand for the word of the reversing
 pub record Course (t : Task) (size total : ℕ) (taken rest : Positive) (faces : List Face) (done left : Positive) (entries : List Entry) : Type 0 where
@@ -56,7 +56,7 @@ pub record Course (t : Task) (size total : ℕ) (taken rest : Positive) (faces :
 -- the workspace and the answer area hold it
 pub record Held (t : Task) (size total : ℕ) (rest : Positive) (faces : List Face) (done left : Positive) (entries : List Entry) (bytes answer : List ℕ)
     (at : Progress) : Type 0 where
-  pub wide : length bytes ≡ t .width
+  pub wide : length bytes ≡ t .room
   pub ordered : at .left ≤ at .right
   pub inside : at .right ≤ length bytes
   pub rest-held : letters (take (at .left) bytes) ≡ negative rest

@@ -16,7 +16,8 @@ use Rattle.cells.specs.Stands.{Stands}
 use Rattle.chain_listing.specs.Course.{Even}
 
 -- a comparison that answered `same`, whose word the workspace holds again, and room for its chain
-pub record Compared (cells : List ℕ) (size : ℕ) (bytes : List ℕ) (left right relations room : ℕ) (T : Presentation) (u v : Positive) (steps : ℕ) : Type 0 where
+pub record Compared (cells : List ℕ) (size : ℕ) (bytes : List ℕ) (left right relations output : ℕ) (T : Presentation) (u v : Positive)
+    (steps : ℕ) : Type 0 where
   pub stands : Stands cells T
   pub size-is : size ≡ T .size
   pub even : Even T
@@ -29,12 +30,12 @@ pub record Compared (cells : List ℕ) (size : ℕ) (bytes : List ℕ) (left rig
   pub word : wordAt bytes left right ≡ negative u ++ positive v
   pub budget : ℕ
   pub same : reversing T budget (length bytes) (negative u ++ positive v) ≡ finished [] [] steps relations
-  pub enough : chainBytes size relations ≤ room
+  pub enough : chainBytes size relations ≤ output
 
 -- for some words
 abbrev pub Listable : List ℕ → ℕ → List ℕ → ℕ → ℕ → ℕ → ℕ → Type 0
-Listable cells size bytes left right relations room =
-    (T : Presentation) × (u v : Positive) × (steps : ℕ) × Compared cells size bytes left right relations room T u v steps
+Listable cells size bytes left right relations output =
+    (T : Presentation) × (u v : Positive) × (steps : ℕ) × Compared cells size bytes left right relations output T u v steps
 
 -- the area begins with the image of a chain of so many entries from u to v, each of which an image can hold
 pub record Chained (T : Presentation) (u v : Positive) (many : ℕ) (before after : List ℕ) : Type 0 where

@@ -10,7 +10,7 @@ use lib.Dec.{ltb}
 use lib.ListN.{length, length-append}
 use Rattle.model.specs.Word.{Word, Positive, positive, negative}
 use Rattle.model.specs.Presentation.{Presentation, complete, weightOf, weigh}
-use Rattle.model.specs.Reversing.{finished, room, reversing}
+use Rattle.model.specs.Reversing.{finished, no-room, reversing}
 use Rattle.model.specs.Outcome.{Outcome, answered, refused, _>>=_, unless, mapped}
 use Rattle.model.specs.Images.{readProgram, chainImage}
 use Rattle.model.specs.Services.{Verdict, same-after, different-after, readForward, comparison, chainBytes, listable, ChainAnswer, listed-after, unlisted-after}
@@ -62,24 +62,24 @@ NotSame (Same k r) = ⊥
 NotSame (Different k) = Unit {0}
 NotSame (Refused r) = Unit {0}
 
-module _ (T : Presentation) (u v : Positive) (steps width : ℕ) (before : List ℕ) where
-  pub lists-nothing : (j : Compared) → NotSame j → Judged T u v steps width j → ListedAs T u v steps width before before j
+module _ (T : Presentation) (u v : Positive) (budget room : ℕ) (before : List ℕ) where
+  pub lists-nothing : (j : Compared) → NotSame j → Judged T u v budget room j → ListedAs T u v budget room before before j
   lists-nothing (Same k r) unlike p = absurd unlike
   lists-nothing (Different k) unlike p =
       record { verdict = ap (λ o. o >>= listable (T .size) (length before)) (p .verdict); area = refl }
   lists-nothing (Refused r) unlike p =
       record {
-        verdict = sym (still-refused (comparison T u v steps width) r (sym (p .verdict)) (listable (T .size) (length before)));
+        verdict = sym (still-refused (comparison T u v budget room) r (sym (p .verdict)) (listable (T .size) (length before)));
         area = refl;
       }
 
-  module _ (size k r : ℕ) (sized : T .size ≡ size) (p : Judged T u v steps width (Same k r)) where
-    listing-of : (comparison T u v steps width >>= listable (T .size) (length before)) ≡ unless (ltb (length before) (chainBytes size r)) 13 (same-after k r)
+  module _ (size k r : ℕ) (sized : T .size ≡ size) (p : Judged T u v budget room (Same k r)) where
+    listing-of : (comparison T u v budget room >>= listable (T .size) (length before)) ≡ unless (ltb (length before) (chainBytes size r)) 13 (same-after k r)
     listing-of =
         ap (λ o. o >>= listable (T .size) (length before)) (sym (p .verdict))
         ∙ ap (λ n. unless (ltb (length before) (chainBytes n r)) 13 (same-after k r)) sized
 
-    pub area-too-short : length before < chainBytes size r → ListedAs T u v steps width before before (Refused AnswerShort)
+    pub area-too-short : length before < chainBytes size r → ListedAs T u v budget room before before (Refused AnswerShort)
     area-too-short h =
         record {
           verdict = sym (listing-of ∙ ap (λ t. unless t 13 (same-after k r)) (lt-ltb (length before) (chainBytes size r) h));
@@ -87,7 +87,7 @@ module _ (T : Presentation) (u v : Positive) (steps width : ℕ) (before : List 
         }
 
     pub lists-chain : chainBytes size r ≤ length before → (after : List ℕ) → Listed T u v r (chainBytes (T .size) r) before after
-        → ListedAs T u v steps width before after (Same k r)
+        → ListedAs T u v budget room before after (Same k r)
     lists-chain h after l =
         record {
           verdict = sym (listing-of ∙ ap (λ t. unless t 13 (same-after k r)) (le-ltb (length before) (chainBytes size r) h));
@@ -97,16 +97,16 @@ module _ (T : Presentation) (u v : Positive) (steps width : ℕ) (before : List 
 -- THE LISTING
 
 -- a reversing that finished began with a word that fits
-pub finished-fits : (T : Presentation) (steps width : ℕ) (w : Word) (n d : Positive) (k r : ℕ) → reversing T steps width w ≡ finished n d k r → length w ≤ width
-finished-fits T steps width w n d k r e = go (decLt width (length w))
+pub finished-fits : (T : Presentation) (budget room : ℕ) (w : Word) (n d : Positive) (k r : ℕ) → reversing T budget room w ≡ finished n d k r → length w ≤ room
+finished-fits T budget room w n d k r e = go (decLt room (length w))
   where
-    go : Dec (width < length w) → length w ≤ width
-    go (yes h) = let f = reversing-long T steps width w h in impossible (cc (f, e))
+    go : Dec (room < length w) → length w ≤ room
+    go (yes h) = let f = reversing-long T budget room w h in impossible (cc (f, e))
     go (no h) = omega arith
 
-pub programs-fit : (T : Presentation) (u v : Positive) (steps width k r : ℕ) → Ended T u v steps width k r → length u + length v ≤ width
-programs-fit T u v steps width k r e =
-    let h = finished-fits T steps width (negative u ++ positive v) [] [] k r (e .empty) in
+pub programs-fit : (T : Presentation) (u v : Positive) (budget room k r : ℕ) → Ended T u v budget room k r → length u + length v ≤ room
+programs-fit T u v budget room k r e =
+    let h = finished-fits T budget room (negative u ++ positive v) [] [] k r (e .empty) in
     omega (arith, length-append (negative u) (positive v), length-negative u, length-positive v)
 
 pub listed-of : (T : Presentation) (u v : Positive) (r : ℕ) (before after : List ℕ) → T .size ≤ 16 → Chained T u v r before after
@@ -123,9 +123,9 @@ listed-of T u v r before after few c =
 
 -- what the listing asks, from the comparison and the programs that were loaded again
 module _ (cells : List ℕ) (size : ℕ) (T : Presentation) (o : Of cells size T) (u v : Positive) (first second : List ℕ) (m n : ℕ) (one : ForwardOf first size m)
-    (two : ForwardOf second size n) (eu : one .word ≡ u) (ev : two .word ≡ v) (steps width k r : ℕ) (e : Ended T u v steps width k r) (bytes : List ℕ)
+    (two : ForwardOf second size n) (eu : one .word ≡ u) (ev : two .word ≡ v) (budget room k r : ℕ) (e : Ended T u v budget room k r) (bytes : List ℕ)
     (right : ℕ)
-    (same-width : length bytes ≡ width) (l : LoadedPrograms cells T u v bytes m right) (room : ℕ) (enough : chainBytes size r ≤ room) where
+    (same-room : length bytes ≡ room) (l : LoadedPrograms cells T u v bytes m right) (area : ℕ) (enough : chainBytes size r ≤ area) where
   few : size ≤ 16
   few = of-few o
 
@@ -141,12 +141,12 @@ module _ (cells : List ℕ) (size : ℕ) (T : Presentation) (o : Of cells size T
   lettered : (w : Positive) → ProgramInRange size (positive w) → Lettered (T .size) (positive w)
   lettered w p = subst (λ i. Lettered i (positive w)) (sym (o .sized)) (p .letters)
 
-  pub listed-from : Listed-from cells size bytes m right r room T u v k
+  pub listed-from : Listed-from cells size bytes m right r area T u v k
   listed-from =
       record {
         stands = o .stands;
         size-is = sym (o .sized);
-        even = clear-homogeneous T steps width (e .clear);
+        even = clear-homogeneous T budget room (e .clear);
         short = omega (arith, first-range .short, length-positive u, weight-within cells T (o .stands) u (lettered u first-range));
         first-named = lettered u first-range;
         second-named = lettered v second-range;
@@ -154,23 +154,23 @@ module _ (cells : List ℕ) (size : ℕ) (T : Presentation) (o : Of cells size T
         inside = l .searched .inside;
         first-length = ap length (sym eu) ∙ one .count-is;
         word = l .word;
-        budget = steps;
-        same = ap (λ i. reversing T steps i (negative u ++ positive v)) same-width ∙ e .empty;
+        budget = budget;
+        same = ap (λ i. reversing T budget i (negative u ++ positive v)) same-room ∙ e .empty;
         enough = enough;
       }
 
 -- THE SERVICE
 
-module _ (table first second : List ℕ) (steps width area : ℕ) where
+module _ (table first second : List ℕ) (budget room area : ℕ) where
   abbrev lists : Images Positive → Outcome ChainAnswer
-  lists p = mapped (chainAnswer (p .table .size)) (comparison (p .table) (p .first) (p .second) steps width >>= listable (p .table .size) area)
+  lists p = mapped (chainAnswer (p .table .size)) (comparison (p .table) (p .first) (p .second) budget room >>= listable (p .table .size) area)
 
-  pub chain-refused : (r : Refusal) → readImages readForward table first second ≡ refusal r → AsFound (chain table first second steps width area) r
+  pub chain-refused : (r : Refusal) → readImages readForward table first second ≡ refusal r → AsFound (chain table first second budget room area) r
   unfolding chain
   chain-refused = programs-refused table first second lists
 
   pub chain-runs : (T : Presentation) (u v : Positive) → Compares table first second T u v
-      → chain table first second steps width area ≡ mapped (chainAnswer (T .size)) (comparison T u v steps width >>= listable (T .size) area)
+      → chain table first second budget room area ≡ mapped (chainAnswer (T .size)) (comparison T u v budget room >>= listable (T .size) area)
   unfolding chain
   chain-runs = programs-run table first second lists
 
@@ -183,19 +183,19 @@ module _ (table first second : List ℕ) (steps width area : ℕ) where
       by-room false q = cc
   shown n (different-after k) y e = cc
 
-  pub chain-means : (o : Outcome ChainAnswer) → o ≡ chain table first second steps width area
-      → CompareSays table first second steps width (λ T v. listable (T .size) area v) (mapped verdictIn o)
+  pub chain-means : (o : Outcome ChainAnswer) → o ≡ chain table first second budget room area
+      → CompareSays table first second budget room (λ T v. listable (T .size) area v) (mapped verdictIn o)
   chain-means o e T u v c =
-      subst (VerdictMeaning T u v steps width (listable (T .size) area))
-      (sym (ap (mapped verdictIn) (e ∙ chain-runs T u v c) ∙ verdict-back (T .size) (comparison T u v steps width >>= listable (T .size) area)))
-      (demand-three-told T u v steps width (listable (T .size) area) (shown (T .size)) (λ k. refl))
+      subst (VerdictMeaning T u v budget room (listable (T .size) area))
+      (sym (ap (mapped verdictIn) (e ∙ chain-runs T u v c) ∙ verdict-back (T .size) (comparison T u v budget room >>= listable (T .size) area)))
+      (demand-three-told T u v budget room (listable (T .size) area) (shown (T .size)) (λ k. refl))
 
   -- only a comparison that said `same` is told so
   same-told : (T : Presentation) (u v : Positive) → Compares table first second T u v → (k r bytes : ℕ)
-      → answered (listed-after k r bytes) ≡ chain table first second steps width area → comparison T u v steps width ≡ answered (same-after k r)
+      → answered (listed-after k r bytes) ≡ chain table first second budget room area → comparison T u v budget room ≡ answered (same-after k r)
   same-told T u v c k r bytes e =
-      let told = ap (mapped verdictIn) (e ∙ chain-runs T u v c) ∙ verdict-back (T .size) (comparison T u v steps width >>= listable (T .size) area) in
-      let x = answer-of (comparison T u v steps width) (listable (T .size) area) (same-after k r) (sym told) in
+      let told = ap (mapped verdictIn) (e ∙ chain-runs T u v c) ∙ verdict-back (T .size) (comparison T u v budget room >>= listable (T .size) area) in
+      let x = answer-of (comparison T u v budget room) (listable (T .size) area) (same-after k r) (sym told) in
       x .1 ∙ ap answered (shown (T .size) (x .0) (same-after k r) (x .2))
 
 -- the answer area of the service
@@ -207,16 +207,16 @@ module _ (table first second before after : List ℕ) where
   area-listed T u v c (refused n ps) l = l
 
 -- and what check says of it
-module _ (table first second : List ℕ) (steps width : ℕ) (before after : List ℕ) where
+module _ (table first second : List ℕ) (budget room : ℕ) (before after : List ℕ) where
   -- the table cleared, so the relations keep weights
   even-after : (T : Presentation) (u v : Positive) → Compares table first second T u v → (k r bytes : ℕ)
-      → answered (listed-after k r bytes) ≡ chain table first second steps width (length before) → Homogeneous (weightOf T) (complete T)
+      → answered (listed-after k r bytes) ≡ chain table first second budget room (length before) → Homogeneous (weightOf T) (complete T)
   even-after T u v c k r bytes e =
-      clear-homogeneous T steps width
-      (answered-clear T u v steps width (same-told table first second steps width (length before) T u v c k r bytes e))
+      clear-homogeneous T budget room
+      (answered-clear T u v budget room (same-told table first second budget room (length before) T u v c k r bytes e))
 
   joins-checked : (T : Presentation) (u v : Positive) → Compares table first second T u v → (k r bytes : ℕ)
-      → answered (listed-after k r bytes) ≡ chain table first second steps width (length before) → Listed T u v r bytes before after
+      → answered (listed-after k r bytes) ≡ chain table first second budget room (length before) → Listed T u v r bytes before after
       → JoinsChecked table first second bytes before after
   joins-checked T u v c k r bytes e l =
       record {
@@ -238,7 +238,7 @@ module _ (table first second : List ℕ) (steps width : ℕ) (before after : Lis
           let words : u ≡ u′ = cc in
           ap₂ weigh tables words
 
-  pub listed-checks : (o : Outcome ChainAnswer) → o ≡ chain table first second steps width (length before) → ChainArea table first second before after o
+  pub listed-checks : (o : Outcome ChainAnswer) → o ≡ chain table first second budget room (length before) → ChainArea table first second before after o
       → ListedChecks table first second before after o
   listed-checks (answered (listed-after k r bytes)) e (T, u, v, c, l) = joins-checked T u v c k r bytes e l
   listed-checks (answered (unlisted-after k)) e a = tt

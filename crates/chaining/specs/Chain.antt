@@ -20,8 +20,8 @@ Area T u v before after (answered (same-after k r)) = Listed T u v r (chainBytes
 Area T u v before after (answered (different-after k)) = after ≡ before
 Area T u v before after (refused n ps) = after ≡ before
 
-pub record ListedAs (T : Presentation) (u v : Positive) (budget width : ℕ) (before after : List ℕ) (r : Compared) : Type 0 where
-  pub verdict : compared r ≡ (comparison T u v budget width >>= listable (T .size) (length before))
+pub record ListedAs (T : Presentation) (u v : Positive) (budget room : ℕ) (before after : List ℕ) (r : Compared) : Type 0 where
+  pub verdict : compared r ≡ (comparison T u v budget room >>= listable (T .size) (length before))
   pub area : Area T u v before after (compared r)
 
 pub record Lists (cells : List ℕ) (size : ℕ) (first second : List ℕ) (budget : ℕ) (workspace workspace′ before after : List ℕ) (r : Compared) : Type 0 where

@@ -39,14 +39,14 @@ triples-late Mirror (Fail t) area = refl
 triples-late whose (Halt Budget t) area = refl
 triples-late whose (Halt Room t) area = refl
 
-module _ (whose : TriplesOf) (cubed : List ℕ) (size budget width : ℕ) where
-  pub cubes-mean : (f : Triples) → TriplesMean cubed size width budget f → CubesMean whose cubed size budget width (triplesRefusal whose f)
+module _ (whose : TriplesOf) (cubed : List ℕ) (size budget room : ℕ) where
+  pub cubes-mean : (f : Triples) → TriplesMean cubed size room budget f → CubesMean whose cubed size budget room (triplesRefusal whose f)
   cubes-mean f t = record { states = λ T o. triples-stated whose f ∙ ap (toldOf whose) (t T o); late = triples-late whose f }
 
   module _ (weighed : List ℕ) where
-    pub weights-refuse : (p : Pair) → WeightsMean weighed size (Unequal p) → BothMean whose weighed cubed size budget width (Refused (UnequalWeights p))
+    pub weights-refuse : (p : Pair) → WeightsMean weighed size (Unequal p) → BothMean whose weighed cubed size budget room (Refused (UnequalWeights p))
     weights-refuse p m T U o u = sym (still-refused (weightCheck T (pairs size)) (UnequalWeights p) (sym (m T o)) _)
 
-    pub cubes-follow : (r : Cleared) → WeightsMean weighed size Equal → CubesMean whose cubed size budget width r
-        → BothMean whose weighed cubed size budget width r
+    pub cubes-follow : (r : Cleared) → WeightsMean weighed size Equal → CubesMean whose cubed size budget room r
+        → BothMean whose weighed cubed size budget room r
     cubes-follow r m c T U o u = c .states U u ∙ sym (goes-on (weightCheck T (pairs size)) tt (sym (m T o)) _)

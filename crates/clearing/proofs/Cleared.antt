@@ -32,42 +32,42 @@ use Rattle.clearing.specs.declared.both_checks.TriplesOf.the-variants.{T
 
 -- CELLS THAT WERE LOADED
 
-pub table-clears : (cells : List ℕ) (size budget width : ℕ) (r : Cleared) → BothMean Table cells cells size budget width r
-    → ClearsBy Table cells size budget width r
+pub table-clears : (cells : List ℕ) (size budget room : ℕ) (r : Cleared) → BothMean Table cells cells size budget room r
+    → ClearsBy Table cells size budget room r
 unfolding cleared
-table-clears cells size budget width r b T o =
-    b T T o o ∙ sym (ap (λ n. weightCheck T (pairs n) >>= λ ok. cubeCheck T budget width (triples n)) (o .sized))
+table-clears cells size budget room r b T o =
+    b T T o o ∙ sym (ap (λ n. weightCheck T (pairs n) >>= λ ok. cubeCheck T budget room (triples n)) (o .sized))
 
-module _ (T : Presentation) (budget width : ℕ) where
-  pub mirror-offends : (p : Pair) → mirrorCheck T ≡ refusal (NoMirror p) → mirrorCleared T budget width ≡ refusal (NoMirror p)
+module _ (T : Presentation) (budget room : ℕ) where
+  pub mirror-offends : (p : Pair) → mirrorCheck T ≡ refusal (NoMirror p) → mirrorCleared T budget room ≡ refusal (NoMirror p)
   unfolding mirrorCleared
   mirror-offends p e = still-refused (mirrorCheck T) (NoMirror p) e _
 
-  pub mirror-clears : (cells mirrored : List ℕ) (size : ℕ) (r : Cleared) → BothMean Mirror cells mirrored size budget width r
-      → Of cells size T → mirrorCheck T ≡ answered tt → Of mirrored size (mirror T) → clearedAs r ≡ mirrorCleared T budget width
+  pub mirror-clears : (cells mirrored : List ℕ) (size : ℕ) (r : Cleared) → BothMean Mirror cells mirrored size budget room r
+      → Of cells size T → mirrorCheck T ≡ answered tt → Of mirrored size (mirror T) → clearedAs r ≡ mirrorCleared T budget room
   unfolding mirrorCleared
   mirror-clears cells mirrored size r b o has u =
       b T (mirror T) o u
       ∙ sym (goes-on (mirrorCheck T) tt has _
-      ∙ ap (λ n. weightCheck T (pairs n) >>= λ ok. ofMirror (cubeCheck (mirror T) budget width (triples n))) (o .sized))
+      ∙ ap (λ n. weightCheck T (pairs n) >>= λ ok. ofMirror (cubeCheck (mirror T) budget room (triples n))) (o .sized))
 
 -- THE IMAGE
 
-module _ (table : List ℕ) (steps width : ℕ) where
-  pub clear-refused : (whose : TriplesOf) (r : Refusal) → readTable table ≡ refusal r → AsFound (clearBy whose table steps width) r
+module _ (table : List ℕ) (budget room : ℕ) where
+  pub clear-refused : (whose : TriplesOf) (r : Refusal) → readTable table ≡ refusal r → AsFound (clearBy whose table budget room) r
   unfolding clear mirrorClear
-  clear-refused Table = table-refused table (λ T. cleared T steps width)
-  clear-refused Mirror = table-refused table (λ T. mirrorCleared T steps width)
+  clear-refused Table = table-refused table (λ T. cleared T budget room)
+  clear-refused Mirror = table-refused table (λ T. mirrorCleared T budget room)
 
   pub clear-runs : (whose : TriplesOf) (T : Presentation) → readTable table ≡ answered T
-      → clearBy whose table steps width ≡ clearedBy whose T steps width
+      → clearBy whose table budget room ≡ clearedBy whose T budget room
   unfolding clear mirrorClear
   clear-runs Table T e = goes-on (readTable table) T e _
   clear-runs Mirror T e = goes-on (readTable table) T e _
 
-  pub clear-means : ClearSays table (clear table steps width)
+  pub clear-means : ClearSays table (clear table budget room)
   clear-means T t =
-      subst (ChecksMeaning T) (sym (clear-runs Table T t)) (record { weights = weight-meaning T steps width; cube = cube-exactly T steps width })
+      subst (ChecksMeaning T) (sym (clear-runs Table T t)) (record { weights = weight-meaning T budget room; cube = cube-exactly T budget room })
 
-  pub mirror-means : MirrorClearSays table steps width (mirrorClear table steps width)
-  mirror-means T t = subst (MirrorMeaning T steps width) (sym (clear-runs Mirror T t)) (mirror-meaning T (table-in-range table T t) steps width)
+  pub mirror-means : MirrorClearSays table budget room (mirrorClear table budget room)
+  mirror-means T t = subst (MirrorMeaning T budget room) (sym (clear-runs Mirror T t)) (mirror-meaning T (table-in-range table T t) budget room)

@@ -44,12 +44,12 @@ toldOf Table o = o
 toldOf Mirror o = ofMirror o
 
 -- the cube check of every table that the cells stand for; a refusal comes after the work has begun
-pub record CubesMean (whose : TriplesOf) (cells : List ℕ) (size budget width : ℕ) (r : Cleared) : Type 0 where
-  pub states : (T : Presentation) → Of cells size T → clearedAs r ≡ toldOf whose (cubeCheck T budget width (triples size))
+pub record CubesMean (whose : TriplesOf) (cells : List ℕ) (size budget room : ℕ) (r : Cleared) : Type 0 where
+  pub states : (T : Presentation) → Of cells size T → clearedAs r ≡ toldOf whose (cubeCheck T budget room (triples size))
   pub late : (area : List ℕ) → workspaceAfter (clearedAs r) area ≡ replicate (length area) 0
 
 -- the weights of every table T that the first cells stand for, then the triples of every table U that the second do
 abbrev pub BothMean : TriplesOf → List ℕ → List ℕ → ℕ → ℕ → ℕ → Cleared → Type 0
-BothMean whose weighed cubed size budget width r =
+BothMean whose weighed cubed size budget room r =
     (T U : Presentation) → Of weighed size T → Of cubed size U
-    → clearedAs r ≡ (weightCheck T (pairs size) >>= λ ok. toldOf whose (cubeCheck U budget width (triples size)))
+    → clearedAs r ≡ (weightCheck T (pairs size) >>= λ ok. toldOf whose (cubeCheck U budget room (triples size)))

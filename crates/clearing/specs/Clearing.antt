@@ -15,18 +15,18 @@ use Rattle.clearing.specs.declared.both_checks.TriplesOf.{TriplesOf}
 use Rattle.clearing.specs.declared.both_checks.TriplesOf.the-variants.{Table, Mirror}
 
 abbrev pub clearedBy : TriplesOf → Presentation → ℕ → ℕ → Outcome (Unit {0})
-clearedBy Table T steps width = cleared T steps width
-clearedBy Mirror T steps width = mirrorCleared T steps width
+clearedBy Table T budget room = cleared T budget room
+clearedBy Mirror T budget room = mirrorCleared T budget room
 
 -- under every table that the cells stand for
 abbrev pub ClearsBy : TriplesOf → List ℕ → ℕ → ℕ → ℕ → Cleared → Type 0
-ClearsBy whose cells size budget width r = (T : Presentation) → Of cells size T → clearedAs r ≡ clearedBy whose T budget width
+ClearsBy whose cells size budget room r = (T : Presentation) → Of cells size T → clearedAs r ≡ clearedBy whose T budget room
 
 -- the services clear and mirror_clear, of the table in the image
 abbrev pub clearBy : TriplesOf → List ℕ → ℕ → ℕ → Outcome (Unit {0})
-clearBy Table table steps width = clear table steps width
-clearBy Mirror table steps width = mirrorClear table steps width
+clearBy Table table budget room = clear table budget room
+clearBy Mirror table budget room = mirrorClear table budget room
 
-pub record ImageCleared (whose : TriplesOf) (table : List ℕ) (steps : ℕ) (before after : List ℕ) (told : Outcome (Unit {0})) : Type 0 where
-  pub stated : told ≡ clearBy whose table steps (length before)
-  pub workspace : after ≡ workspaceAfter (clearBy whose table steps (length before)) before
+pub record ImageCleared (whose : TriplesOf) (table : List ℕ) (budget : ℕ) (before after : List ℕ) (told : Outcome (Unit {0})) : Type 0 where
+  pub stated : told ≡ clearBy whose table budget (length before)
+  pub workspace : after ≡ workspaceAfter (clearBy whose table budget (length before)) before

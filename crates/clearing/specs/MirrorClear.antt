@@ -12,7 +12,7 @@ use Rattle.model.specs.Areas.{workspaceAfter}
 
 -- of the mirror of the table in the image
 abbrev pub MirrorClearSays : List ℕ → ℕ → ℕ → Outcome (Unit {0}) → Type 0
-MirrorClearSays table steps width outcome = (T : Presentation) → readTable table ≡ answered T → MirrorMeaning T steps width outcome
+MirrorClearSays table budget room outcome = (T : Presentation) → readTable table ≡ answered T → MirrorMeaning T budget room outcome
 
 -- THE SERVICE'S PROMISE (6.13): the outcome that is told, the workspace after the call, and what the outcome means
 pub record MirrorPromise (table : List ℕ) (allowance : ℕ) (workspace workspace′ : List ℕ) (outcome : Outcome (Unit {0})) : Type 0 where

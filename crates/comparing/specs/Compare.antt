@@ -27,19 +27,19 @@ judgement (Undefined p k) = Different k
 judgement (Stopped s) = Refused (stopRefusal s)
 
 -- a verdict `same` comes from a reversing that ended empty, after a table that cleared
-pub record Ended (T : Presentation) (u v : Positive) (budget width k r : ℕ) : Type 0 where
-  pub clear : cleared T budget width ≡ answered tt
+pub record Ended (T : Presentation) (u v : Positive) (budget room k r : ℕ) : Type 0 where
+  pub clear : cleared T budget room ≡ answered tt
   pub same-weight : weigh T u ≡ weigh T v
-  pub empty : reversing T budget width (negative u ++ positive v) ≡ finished [] [] k r
+  pub empty : reversing T budget room (negative u ++ positive v) ≡ finished [] [] k r
 
 abbrev pub EndedIf : Presentation → Positive → Positive → ℕ → ℕ → Compared → Type 0
-EndedIf T u v budget width (Same k r) = Ended T u v budget width k r
-EndedIf T u v budget width (Different k) = Unit {0}
-EndedIf T u v budget width (Refused r) = Unit {0}
+EndedIf T u v budget room (Same k r) = Ended T u v budget room k r
+EndedIf T u v budget room (Different k) = Unit {0}
+EndedIf T u v budget room (Refused r) = Unit {0}
 
-pub record Judged (T : Presentation) (u v : Positive) (budget width : ℕ) (r : Compared) : Type 0 where
-  pub verdict : compared r ≡ comparison T u v budget width
-  pub ended : EndedIf T u v budget width r
+pub record Judged (T : Presentation) (u v : Positive) (budget room : ℕ) (r : Compared) : Type 0 where
+  pub verdict : compared r ≡ comparison T u v budget room
+  pub ended : EndedIf T u v budget room r
 
 pub record Judges (cells : List ℕ) (size : ℕ) (first second : List ℕ) (budget : ℕ) (before after : List ℕ) (r : Compared) : Type 0 where
   pub workspace : after ≡ workspaceAfter (compared r) before
@@ -54,8 +54,8 @@ pub record Decides (cells : List ℕ) (size : ℕ) (first second : List ℕ) (bu
 
 -- WHAT A VERDICT MEANS (specification 6.5), of the programs in the images; `after` is how the service tells a verdict under a table
 abbrev pub CompareSays : List ℕ → List ℕ → List ℕ → ℕ → ℕ → (Presentation → Verdict → Outcome Verdict) → Outcome Verdict → Type 0
-CompareSays table first second steps width after outcome =
-    (T : Presentation) (u v : Positive) → Compares table first second T u v → VerdictMeaning T u v steps width (after T) outcome
+CompareSays table first second budget room after outcome =
+    (T : Presentation) (u v : Positive) → Compares table first second T u v → VerdictMeaning T u v budget room (after T) outcome
 
 -- THE SERVICE'S PROMISE (6.4): the outcome that is told, the workspace after the call, and what the outcome means
 pub record ComparePromise (table first second : List ℕ) (allowance : ℕ) (workspace workspace′ : List ℕ) (outcome : Outcome Verdict) : Type 0 where

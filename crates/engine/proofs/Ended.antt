@@ -6,7 +6,7 @@ use native.Mathlib.Omega.{arith}
 use lib.ListN.{length, take, length-append, length-take}
 use Rattle.model.specs.Word.{Word, Positive, positive, negative}
 use Rattle.model.specs.Presentation.{Presentation}
-use Rattle.model.specs.Reversing.{Stop, budget, room, Ending, finished, open-pair, stopped, reversing}
+use Rattle.model.specs.Reversing.{Stop, no-budget, no-room, Ending, finished, open-pair, stopped, reversing}
 use Rattle.model.specs.Outcome.{unplaced, refused}
 use Rattle.model.specs.Checks.{stopNumber}
 use Rattle.model.specs.Stated.{refusal, stopRefusal, stopAnswer, endingAnswer}
@@ -22,12 +22,12 @@ use Rattle.engine.proofs.Lettering.{length-positive, length-negative}
 
 -- a stop of the programs is refused by its number, without place numbers
 pub stop-numbered : {A : Type 0} (s : Stop) → refusal {A = A} (stopRefusal (stopAnswer s)) ≡ refused (stopNumber s) unplaced
-stop-numbered budget = refl
-stop-numbered room = refl
+stop-numbered no-budget = refl
+stop-numbered no-room = refl
 
-module _ (T : Presentation) (word : Word) (steps : ℕ) (workspace : List ℕ) where
+module _ (T : Presentation) (word : Word) (budget : ℕ) (workspace : List ℕ) where
   abbrev pub end : Ending
-  end = reversing T steps (length workspace) word
+  end = reversing T budget (length workspace) word
 
   -- a finished word, as it stands in the workspace
   pub record Done (n d k r : ℕ) : Type 0 where
@@ -38,7 +38,7 @@ module _ (T : Presentation) (word : Word) (steps : ℕ) (workspace : List ℕ) w
     pub d-length : length D ≡ d
     pub stands : letters (take (n + d) workspace) ≡ positive N ++ negative D
 
-  pub done : (n d k r : ℕ) → Reverses T word steps workspace (Finished n d k r) → Done n d k r
+  pub done : (n d k r : ℕ) → Reverses T word budget workspace (Finished n d k r) → Done n d k r
   done n d k r p = go end refl (p .answer) (p .holds)
     where
       go : (e : Ending) → end ≡ e → Finished n d k r ≡ endingAnswer e → LeavesWord e workspace → Done n d k r
@@ -58,19 +58,19 @@ module _ (T : Presentation) (word : Word) (steps : ℕ) (workspace : List ℕ) w
       go (open-pair a b j) f g h = impossible (cc)
       go (stopped s) f g h = impossible (cc)
 
-  done-inside : (n d k r : ℕ) → Reverses T word steps workspace (Finished n d k r) → n + d ≤ length workspace
+  done-inside : (n d k r : ℕ) → Reverses T word budget workspace (Finished n d k r) → n + d ≤ length workspace
   done-inside n d k r p =
       let q = done n d k r p in
       let e = ap length (q .stands) ∙ length-append (positive (q .N)) (negative (q .D)) in
       let f : length (letters (take (n + d) workspace)) ≤ length workspace = simp (length-letters, length-take) (omega arith) in
       omega (arith, length-positive (q .N), length-negative (q .D), q .n-length, q .d-length)
 
-  pub finishable : (e : EndingAnswer) → Reverses T word steps workspace e → Finishable workspace e
+  pub finishable : (e : EndingAnswer) → Reverses T word budget workspace e → Finishable workspace e
   finishable (Finished n d k r) p = done-inside n d k r p
   finishable (Undefined q k) p = tt
   finishable (Stopped s) p = tt
 
-  pub met : (p : Pair) (k : ℕ) → Reverses T word steps workspace (Undefined p k) → end ≡ open-pair (p .a) (p .b) k
+  pub met : (p : Pair) (k : ℕ) → Reverses T word budget workspace (Undefined p k) → end ≡ open-pair (p .a) (p .b) k
   met p k q = go end refl (q .answer)
     where
       go : (e : Ending) → end ≡ e → Undefined p k ≡ endingAnswer e → end ≡ open-pair (p .a) (p .b) k
@@ -86,7 +86,7 @@ module _ (T : Presentation) (word : Word) (steps : ℕ) (workspace : List ℕ) w
     pub is : end ≡ stopped stop
     pub told : stopAnswer stop ≡ s
 
-  pub halted : (s : StopAnswer) → Reverses T word steps workspace (Stopped s) → Halted s
+  pub halted : (s : StopAnswer) → Reverses T word budget workspace (Stopped s) → Halted s
   halted s q = go end refl (q .answer)
     where
       go : (e : Ending) → end ≡ e → Stopped s ≡ endingAnswer e → Halted s

@@ -9,7 +9,7 @@ use borrow.Author.Tests.{eq-eqb, ne-eqb}
 use lib.ListN.{length, take, length-append, length-take, length-drop}
 use Rattle.model.specs.Word.{Word, forwards, backs}
 use Rattle.model.specs.Presentation.{Presentation}
-use Rattle.model.specs.Reversing.{Ending, open-pair, stopped, budget, room, ended, count, run, reversing}
+use Rattle.model.specs.Reversing.{Ending, open-pair, stopped, no-budget, no-room, ended, count, run, reversing}
 use Rattle.model.specs.Stated.{endingAnswer}
 use Rattle.model.specs.declared.answers.Ending.{Ending as EndingAnswer}
 use Rattle.model.specs.declared.answers.Ending.the-variants.{Finished, Undefined, Stopped}
@@ -28,14 +28,14 @@ use Rattle.engine.proofs.Runs.{run-none, run-open, run-spent, run-room,
 use Rattle.engine.proofs.AtGap.{end-word}
 use Rattle.engine.proofs.Counting.{denominator-length, end-fraction, end-holds}
 
-pub record Progress (cells : List ℕ) (word : Word) (allowed width : ℕ) (bytes : List ℕ) (left right steps relations : ℕ) : Type 0 where
-  pub kept : length bytes ≡ width
+pub record Progress (cells : List ℕ) (word : Word) (budget room : ℕ) (bytes : List ℕ) (left right steps relations : ℕ) : Type 0 where
+  pub kept : length bytes ≡ room
   pub searched : Searched bytes left right
-  pub within : steps ≤ allowed
+  pub within : steps ≤ budget
   pub few : relations ≤ steps
   pub lettered : (T : Presentation) → Serves cells word T → Lettered (T .size) (wordAt bytes left right)
   pub same : (T : Presentation) → Serves cells word T
-      → reversing T allowed width word ≡ run T width (allowed - steps) steps relations (wordAt bytes left right)
+      → reversing T budget room word ≡ run T room (budget - steps) steps relations (wordAt bytes left right)
 
 -- a word with a gap is no longer than the workspace
 pub word-fits : (bytes : List ℕ) (left right : ℕ) → Searched bytes left right → length (wordAt bytes left right) ≤ length bytes
@@ -43,10 +43,10 @@ unfolding wordAt
 word-fits bytes left right s =
     simp (length-letters, length-append, length-take, length-drop) (omega (arith, s .ordered, s .inside))
 
-pub begun : (cells bytes : List ℕ) (left right allowed : ℕ) → Searched bytes left right
-    → Progress cells (wordAt bytes left right) allowed (length bytes) bytes left right 0 0
-begun cells bytes left right allowed s =
-    let e : allowed ≡ allowed - 0 = omega arith in
+pub begun : (cells bytes : List ℕ) (left right budget : ℕ) → Searched bytes left right
+    → Progress cells (wordAt bytes left right) budget (length bytes) bytes left right 0 0
+begun cells bytes left right budget s =
+    let e : budget ≡ budget - 0 = omega arith in
     record {
       kept = refl;
       searched = s;
@@ -54,7 +54,7 @@ begun cells bytes left right allowed s =
       few = omega arith;
       lettered = λ T t. t .lettered;
       same = λ T t.
-          run-begun T allowed (length bytes) (wordAt bytes left right) (word-fits bytes left right s)
+          run-begun T budget (length bytes) (wordAt bytes left right) (word-fits bytes left right s)
           ∙ ap (λ i. run T (length bytes) i 0 0 (wordAt bytes left right)) e;
     }
 
@@ -65,8 +65,8 @@ count-equal a b r e = ap (λ t. cond t r (suc r)) (eq-eqb a b e)
 pub count-different : (a b r : ℕ) → (a ≡ b → ⊥) → count a b r ≡ r + 1
 count-different a b r e = ap (λ t. cond t r (suc r)) (ne-eqb a b e) ∙ sym (add-one r)
 
-module _ {cells : List ℕ} {word : Word} {allowed width : ℕ} {bytes : List ℕ} {left right steps relations : ℕ}
-    (p : Progress cells word allowed width bytes left right steps relations) where
+module _ {cells : List ℕ} {word : Word} {budget room : ℕ} {bytes : List ℕ} {left right steps relations : ℕ}
+    (p : Progress cells word budget room bytes left right steps relations) where
   abbrev now : Word
   now = wordAt bytes left right
 
@@ -74,14 +74,14 @@ module _ {cells : List ℕ} {word : Word} {allowed width : ℕ} {bytes : List �
   serves-now T t = record { stands = t .stands; lettered = p .lettered T t }
 
   module _ (after : List ℕ) (n : length after ≡ length bytes) where
-    after-width : length after ≡ width
-    after-width = n ∙ p .kept
+    after-room : length after ≡ room
+    after-room = n ∙ p .kept
 
     -- what an answer needs: the run from here
-    answers : (T : Presentation) → Serves cells word T → (e : Ending) → run T width (allowed - steps) steps relations now ≡ e
-        → (r : EndingAnswer) → r ≡ endingAnswer e → LeavesWord e after → LeavesLetters (T .size) e → Reverses T word allowed after r
+    answers : (T : Presentation) → Serves cells word T → (e : Ending) → run T room (budget - steps) steps relations now ≡ e
+        → (r : EndingAnswer) → r ≡ endingAnswer e → LeavesWord e after → LeavesLetters (T .size) e → Reverses T word budget after r
     answers T t e h r f held names =
-        let g : reversing T allowed (length after) word ≡ e = ap (λ i. reversing T allowed i word) after-width ∙ (p .same T t ∙ h) in
+        let g : reversing T budget (length after) word ≡ e = ap (λ i. reversing T budget i word) after-room ∙ (p .same T t ∙ h) in
         record {
           answer = f ∙ sym (ap endingAnswer g);
           holds = subst (λ d. LeavesWord d after) (sym g) held;
@@ -89,48 +89,48 @@ module _ {cells : List ℕ} {word : Word} {allowed width : ℕ} {bytes : List �
               subst (LeavesLetters (T .size)) (sym g) names;
         }
 
-    pub finishes : (g : Gap) (k : ℕ) → k ≡ length (forwards (letters (take (g .left) after))) → TurnMeans cells now (allowed - steps) after (Final g)
-        → (T : Presentation) → Serves cells word T → Reverses T word allowed after (Finished k (g .left - k) steps relations)
+    pub finishes : (g : Gap) (k : ℕ) → k ≡ length (forwards (letters (take (g .left) after))) → TurnMeans cells now (budget - steps) after (Final g)
+        → (T : Presentation) → Serves cells word T → Reverses T word budget after (Finished k (g .left - k) steps relations)
     finishes g k e m T t =
         let d = m T (serves-now T t) in
         let numerator : k ≡ length (forwards now) = e ∙ ap (λ w. length (forwards w)) (sym (end-word (d .1))) in
         let denominator : g .left - k ≡ length (reverse (backs now)) = ap (λ i. g .left - i) numerator ∙ sym (denominator-length (d .1)) in
-        answers T t (ended now steps relations) (run-none T width (allowed - steps) steps relations now (d .0))
+        answers T t (ended now steps relations) (run-none T room (budget - steps) steps relations now (d .0))
         (Finished k (g .left - k) steps relations)
         (ap₂ (λ i j. Finished i j steps relations) numerator denominator)
         (end-holds (d .1) steps relations)
         (subst (Lettered (T .size)) (end-fraction (d .1)) (p .lettered T t))
 
-    pub meets : (q : Pair) → TurnMeans cells now (allowed - steps) after (Turn·Undefined q)
-        → (T : Presentation) → Serves cells word T → Reverses T word allowed after (Undefined q steps)
+    pub meets : (q : Pair) → TurnMeans cells now (budget - steps) after (Turn·Undefined q)
+        → (T : Presentation) → Serves cells word T → Reverses T word budget after (Undefined q steps)
     meets q m T t =
-        answers T t (open-pair (q .a) (q .b) steps) (run-open T width (allowed - steps) steps relations now (m T (serves-now T t))) (Undefined q steps) refl tt
+        answers T t (open-pair (q .a) (q .b) steps) (run-open T room (budget - steps) steps relations now (m T (serves-now T t))) (Undefined q steps) refl tt
         tt
 
-    pub stops : (s : Stop) → TurnMeans cells now (allowed - steps) after (Turn·Stopped s)
-        → (T : Presentation) → Serves cells word T → Reverses T word allowed after (Stopped s)
+    pub stops : (s : Stop) → TurnMeans cells now (budget - steps) after (Turn·Stopped s)
+        → (T : Presentation) → Serves cells word T → Reverses T word budget after (Stopped s)
     stops Budget m T t =
         let d = m T (serves-now T t) in
-        answers T t (stopped budget) (run-spent T width (allowed - steps) steps relations now (d .0) (d .1 .taken)) (Stopped Budget) refl tt tt
+        answers T t (stopped no-budget) (run-spent T room (budget - steps) steps relations now (d .0) (d .1 .taken)) (Stopped Budget) refl tt tt
     stops Room m T t =
         let d = m T (serves-now T t) in
-        answers T t (stopped room)
-        (run-room T width (allowed - steps) steps relations now (d .1 .taken) (d .0) (omega (arith, d .1 .long, after-width)))
+        answers T t (stopped no-room)
+        (run-room T room (budget - steps) steps relations now (d .1 .taken) (d .0) (omega (arith, d .1 .long, after-room)))
         (Stopped Room)
         refl
         tt
         tt
 
-    module _ (g : Gap) (q : Pair) (m : TurnMeans cells now (allowed - steps) after (Stepped g q)) where
+    module _ (g : Gap) (q : Pair) (m : TurnMeans cells now (budget - steps) after (Stepped g q)) where
       -- a step was left
-      pub left-over : (T : Presentation) → Serves cells word T → steps < allowed
+      pub left-over : (T : Presentation) → Serves cells word T → steps < budget
       left-over T t = omega (arith, m T (serves-now T t) .0)
 
       pub advances : (T₀ : Presentation) → Serves cells word T₀ → (more : ℕ) → count (q .a) (q .b) relations ≡ more → more ≤ steps + 1
-          → Progress cells word allowed width after (g .left) (g .right) (steps + 1) more
+          → Progress cells word budget room after (g .left) (g .right) (steps + 1) more
       advances T₀ t₀ more e few =
           record {
-            kept = after-width;
+            kept = after-room;
             searched = m T₀ (serves-now T₀ t₀) .1 .searched;
             within = omega (arith, left-over T₀ t₀);
             few = few;
@@ -139,12 +139,12 @@ module _ {cells : List ℕ} {word : Word} {allowed width : ℕ} {bytes : List �
           }
         where
           onward : (T : Presentation) → Serves cells word T
-              → reversing T allowed width word ≡ run T width (allowed - (steps + 1)) (steps + 1) more (wordAt after (g .left) (g .right))
+              → reversing T budget room word ≡ run T room (budget - (steps + 1)) (steps + 1) more (wordAt after (g .left) (g .right))
           onward T t =
               let d = m T (serves-now T t) in
-              let f : allowed - steps ≡ suc (allowed - (steps + 1)) = omega (arith, left-over T t) in
-              let room : length (wordAt after (g .left) (g .right)) ≤ width =
-              omega (arith, word-fits after (g .left) (g .right) (d .1 .searched), after-width) in
+              let f : budget - steps ≡ suc (budget - (steps + 1)) = omega (arith, left-over T t) in
+              let fits : length (wordAt after (g .left) (g .right)) ≤ room =
+              omega (arith, word-fits after (g .left) (g .right) (d .1 .searched), after-room) in
               p .same T t
-              ∙ (run-step T width (allowed - steps) steps relations now (d .1 .taken) (allowed - (steps + 1)) f room
-              ∙ ap₂ (λ i j. run T width (allowed - (steps + 1)) i j (wordAt after (g .left) (g .right))) (sym (add-one steps)) e)
+              ∙ (run-step T room (budget - steps) steps relations now (d .1 .taken) (budget - (steps + 1)) f fits
+              ∙ ap₂ (λ i j. run T room (budget - (steps + 1)) i j (wordAt after (g .left) (g .right))) (sym (add-one steps)) e)

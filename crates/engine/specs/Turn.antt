@@ -38,12 +38,12 @@ pub record Steps (T : Presentation) (word : Word) (bytes : List ℕ) (left right
   pub resumed : (p s : Word) (c d : ℕ) → site word ≡ at p c d s → left ≡ length p
 
 -- the next word does not fit
-pub record Outgrows (T : Presentation) (word : Word) (width : ℕ) : Type 0 where
+pub record Outgrows (T : Presentation) (word : Word) (room : ℕ) : Type 0 where
   pub a : ℕ
   pub b : ℕ
   pub longer : Word
   pub taken : next T word ≡ step a b longer
-  pub long : width < length longer
+  pub long : room < length longer
 
 -- a step could be taken
 pub record Goes (T : Presentation) (word : Word) : Type 0 where

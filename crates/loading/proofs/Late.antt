@@ -4,7 +4,7 @@ use mathlib.Core.List.{List}
 use mathlib.Core.Bool.{Bool, true, false, cond}
 use Prim.Native.Nat.{ℕ}
 use lib.ListN.{length, replicate}
-use Rattle.model.specs.Reversing.{Stop, budget, room}
+use Rattle.model.specs.Reversing.{Stop, no-budget, no-room}
 use Rattle.model.specs.Outcome.{Place, unplaced, Outcome, answered, refused, _>>=_, unless, mapped}
 use Rattle.model.specs.Checks.{stopNumber}
 use Rattle.model.specs.Areas.{beforeWork, workspaceAfter}
@@ -36,5 +36,5 @@ late-mapped f (refused n place) h = record { zero = h .zero }
 
 -- a reversing that stopped
 pub late-stop : {A : Type 0} (s : Stop) → Late {A = A} (refused (stopNumber s) unplaced)
-late-stop budget = late-refusal refl
-late-stop room = late-refusal refl
+late-stop no-budget = late-refusal refl
+late-stop no-room = late-refusal refl

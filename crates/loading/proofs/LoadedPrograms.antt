@@ -86,10 +86,10 @@ module _ (cells : List ℕ) (size : ℕ) (T : Presentation) (o : Of cells size T
       }
 
 -- programs that do not fit together
-pub pair-too-long : (T : Presentation) (u v : Positive) (steps : ℕ) (area : List ℕ) → length area < length u + length v
-    → Reverses T (negative u ++ positive v) steps area (Stopped Room)
-pair-too-long T u v steps area h =
-    too-long T (negative u ++ positive v) steps area
+pub pair-too-long : (T : Presentation) (u v : Positive) (budget : ℕ) (area : List ℕ) → length area < length u + length v
+    → Reverses T (negative u ++ positive v) budget area (Stopped Room)
+pair-too-long T u v budget area h =
+    too-long T (negative u ++ positive v) budget area
     (simp (length-append, length-negative, length-positive) h)
 
 -- from what the three writes of `load_programs` promise

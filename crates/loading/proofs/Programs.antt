@@ -7,7 +7,7 @@ use lib.ListN.{length, take, drop, length-append, length-take, length-drop, leng
 use lib.Seq.{drop-at, length-take-le, drop-length}
 use Rattle.model.specs.Word.{forward, back, Word, byte}
 use Rattle.model.specs.Presentation.{Presentation}
-use Rattle.model.specs.Reversing.{reversing, stopped, room}
+use Rattle.model.specs.Reversing.{reversing, stopped, no-room}
 use Rattle.model.specs.Plain.{plainProgram}
 use Rattle.model.specs.declared.answers.Ending.{Ending}
 use Rattle.model.specs.declared.answers.Ending.the-variants.{Stopped}
@@ -68,11 +68,11 @@ module _ (cells : List ℕ) (size : ℕ) (T : Presentation) (o : Of cells size T
         lettered = rw word-loaded (subst (λ n. Lettered n w) (sym (o .sized)) (p .letters));
       }
 
-  pub word-reverses : (steps : ℕ) (after : List ℕ) (r : Ending) → Reverses T (wordAt ready 0 right) steps after r → Reverses T w steps after r
-  word-reverses steps after r q = subst (λ v. Reverses T v steps after r) word-loaded q
+  pub word-reverses : (budget : ℕ) (after : List ℕ) (r : Ending) → Reverses T (wordAt ready 0 right) budget after r → Reverses T w budget after r
+  word-reverses budget after r q = subst (λ v. Reverses T v budget after r) word-loaded q
 
 -- a program longer than the workspace
-pub too-long : (T : Presentation) (w : Word) (steps : ℕ) (area : List ℕ) → length area < length w → Reverses T w steps area (Stopped Room)
-too-long T w steps area h =
-    let e : reversing T steps (length area) w ≡ stopped room = reversing-long T steps (length area) w h in
+pub too-long : (T : Presentation) (w : Word) (budget : ℕ) (area : List ℕ) → length area < length w → Reverses T w budget area (Stopped Room)
+too-long T w budget area h =
+    let e : reversing T budget (length area) w ≡ stopped no-room = reversing-long T budget (length area) w h in
     record { answer = sym (ap Rattle.model.specs.Stated.endingAnswer e); holds = rw e tt; named = rw e tt }

@@ -4,7 +4,7 @@ use mathlib.Core.Path.{refl}
 use mathlib.Core.List.{List, [], _∷_}
 use Rattle.model.specs.Word.{forward, back}
 use Rattle.model.specs.Presentation.{Presentation, Complement, undefined, complement, complete}
-use Rattle.model.specs.Reversing.{finished, open-pair, stopped, budget, room, next, run, reversing}
+use Rattle.model.specs.Reversing.{finished, open-pair, stopped, no-budget, no-room, next, run, reversing}
 use Rattle.model.specs.Outcome.{unplaced, pair-of, triple-of, mirror-triple-of, answered, refused}
 use Rattle.model.specs.Checks.{under, side, against, cubeAt, cleared}
 use Rattle.model.specs.Bits.{field, finish}
@@ -64,9 +64,9 @@ leftReversings =
     -- a back letter before a forward one is no site
     (leftReversing braid3 0 2 (back 1 ∷ forward 2 ∷ []) gives finished (2 ∷ []) (1 ∷ []) 0 0) ∷
     -- the stops, in the order of 3.2
-    (leftReversing braid3 0 100 (forward 1 ∷ back 2 ∷ []) gives stopped budget) ∷
-    (leftReversing braid3 1 3 (forward 1 ∷ back 2 ∷ []) gives stopped room) ∷
-    (leftReversing braid3 0 1 (forward 1 ∷ back 2 ∷ []) gives stopped room) ∷
+    (leftReversing braid3 0 100 (forward 1 ∷ back 2 ∷ []) gives stopped no-budget) ∷
+    (leftReversing braid3 1 3 (forward 1 ∷ back 2 ∷ []) gives stopped no-room) ∷
+    (leftReversing braid3 0 1 (forward 1 ∷ back 2 ∷ []) gives stopped no-room) ∷
     (leftReversing open2 0 2 (forward 1 ∷ back 2 ∷ []) gives open-pair 2 1 0) ∷ []
 
 abbrev pub leftReverses : List {1} Case

@@ -36,26 +36,26 @@ module _ (T : Presentation) where
           e ∙ cc (same .0, same .1)
 
 -- a residual as a check works it out, told by how its reversing ends
-module _ (T : Presentation) (steps width : ℕ) (u v : Positive) where
-  by-ending : Ends T steps width (negative u ++ positive v) (reversing T steps width (negative u ++ positive v))
-  by-ending = reversing-ends T steps width (negative u ++ positive v)
+module _ (T : Presentation) (budget room : ℕ) (u v : Positive) where
+  by-ending : Ends T budget room (negative u ++ positive v) (reversing T budget room (negative u ++ positive v))
+  by-ending = reversing-ends T budget room (negative u ++ positive v)
 
-  pub under-residue : {n : Positive} → under T steps width u v ≡ residue n → (d : Positive) × Residual T u v n d
+  pub under-residue : {n : Positive} → under T budget room u v ≡ residue n → (d : Positive) × Residual T u v n d
   unfolding under
-  under-residue {n} h = go (reversing T steps width (negative u ++ positive v)) h by-ending
+  under-residue {n} h = go (reversing T budget room (negative u ++ positive v)) h by-ending
     where
-      go : (end : Ending) → ofEnding end ≡ residue n → Ends T steps width (negative u ++ positive v) end → (d : Positive) × Residual T u v n d
+      go : (end : Ending) → ofEnding end ≡ residue n → Ends T budget room (negative u ++ positive v) end → (d : Positive) × Residual T u v n d
       go (finished m d k r) e t =
           let same : m ≡ n = cc in
           (d, subst (λ n. Residual T u v n d) same (k, t .run))
       go (open-pair a b k) e t = impossible (cc)
       go (stopped s) e t = impossible (cc)
 
-  pub under-missing : under T steps width u v ≡ missing → NoResidual T u v
+  pub under-missing : under T budget room u v ≡ missing → NoResidual T u v
   unfolding under
-  under-missing h = go (reversing T steps width (negative u ++ positive v)) h by-ending
+  under-missing h = go (reversing T budget room (negative u ++ positive v)) h by-ending
     where
-      go : (end : Ending) → ofEnding end ≡ missing → Ends T steps width (negative u ++ positive v) end → NoResidual T u v
+      go : (end : Ending) → ofEnding end ≡ missing → Ends T budget room (negative u ++ positive v) end → NoResidual T u v
       go (finished m d k r) e t = impossible (cc)
       go (open-pair a b k) e t = λ n d r. open-unfinished T (t .reached .run) (t .here) (t .undefined-there) n d (r .1)
       go (stopped s) e t = impossible (cc)

@@ -6,7 +6,7 @@ use Prim.Native.Nat.{ℕ}
 use lib.ListN.{length, replicate}
 use Rattle.model.specs.Word.{forward, back, Word, positive, negative}
 use Rattle.model.specs.Presentation.{Presentation, undefined, complement, complete}
-use Rattle.model.specs.Reversing.{finished, open-pair, stopped, budget, room, next, run, reversing}
+use Rattle.model.specs.Reversing.{finished, open-pair, stopped, no-budget, no-room, next, run, reversing}
 use Rattle.model.specs.Enumeration.{Two}
 use Rattle.model.specs.Bits.{field, finish}
 use Rattle.model.specs.Images.{readTable, readProgram, tableImage, programImage}
@@ -45,13 +45,13 @@ at i j = record { a = i; b = j }
 
 -- calls with the images of a table and of two programs; with empty programs
 abbrev under2 : Word → Word → ℕ → ℕ → Outcome SignedVerdict
-under2 w v steps width = compareSigned (image braid2) (log 2 w) (log 2 v) steps width
+under2 w v budget room = compareSigned (image braid2) (log 2 w) (log 2 v) budget room
 
 abbrev underH : Word → Word → ℕ → ℕ → Outcome SignedVerdict
-underH w v steps width = compareSigned (image heavy2) (log 2 w) (log 2 v) steps width
+underH w v budget room = compareSigned (image heavy2) (log 2 w) (log 2 v) budget room
 
 abbrev idle : Presentation → ℕ → ℕ → Outcome SignedVerdict
-idle T steps width = compareSigned (image T) (log (T .size) []) (log (T .size) []) steps width
+idle T budget room = compareSigned (image T) (log (T .size) []) (log (T .size) []) budget room
 
 -- a full twist of 3 strands
 abbrev twist : Word
@@ -68,9 +68,9 @@ growings =
     -- the room is what the words and their zero bytes leave; where they alone are too long, there is none for the empty word either
     (setBytes ([] ∷ (1 ∷ []) ∷ (2 ∷ 1 ∷ []) ∷ []) gives 6) ∷
     (beside braid1 1 5 ([] ∷ (1 ∷ []) ∷ []) (back 1 ∷ forward 1 ∷ []) gives finished [] [] 1 0) ∷
-    (beside braid1 1 4 ([] ∷ (1 ∷ []) ∷ []) (back 1 ∷ forward 1 ∷ []) gives stopped room) ∷
+    (beside braid1 1 4 ([] ∷ (1 ∷ []) ∷ []) (back 1 ∷ forward 1 ∷ []) gives stopped no-room) ∷
     (beside braid1 1 3 ([] ∷ (1 ∷ []) ∷ []) [] gives finished [] [] 0 0) ∷
-    (beside braid1 1 2 ([] ∷ (1 ∷ []) ∷ []) [] gives stopped room) ∷
+    (beside braid1 1 2 ([] ∷ (1 ∷ []) ∷ []) [] gives stopped no-room) ∷
     -- a numerator comes to the end unless it is there letter for letter: one that begins a word, or is joined to it, is another word
     (addedTo ((1 ∷ 2 ∷ 1 ∷ []) ∷ (2 ∷ []) ∷ []) (finished (2 ∷ []) (1 ∷ []) 3 3) gives answered ((1 ∷ 2 ∷ 1 ∷ []) ∷ (2 ∷ []) ∷ [])) ∷
     (addedTo ((1 ∷ 2 ∷ 1 ∷ []) ∷ (2 ∷ []) ∷ []) (finished (1 ∷ 2 ∷ []) [] 3 3) gives answered ((1 ∷ 2 ∷ 1 ∷ []) ∷ (2 ∷ []) ∷ (1 ∷ 2 ∷ []) ∷ [])) ∷
@@ -81,8 +81,8 @@ growings =
     (mapped length (addedTo (replicate 256 []) (finished [] [] 0 0)) gives answered 256) ∷
     -- 21 names the back move first; stops name the set
     (addedTo [] (open-pair 2 1 3) gives refused 21 (pair-of 2 1)) ∷
-    (addedTo [] (stopped budget) gives refused 11 the-set) ∷
-    (addedTo [] (stopped room) gives refused 12 the-set) ∷ []
+    (addedTo [] (stopped no-budget) gives refused 11 the-set) ∷
+    (addedTo [] (stopped no-room) gives refused 12 the-set) ∷ []
 
 abbrev pub sets : List {1} Case
 sets =

@@ -18,11 +18,11 @@ use Rattle.model.proofs.Samples.{three, broken3, unequal2, image, log, 
 
 -- under table S, whose image is one zero byte, against a pattern of one move
 abbrev against1 : List ℕ → ℕ → ℕ → ℕ → Outcome (List (Outcome Verdict))
-against1 logs steps width area = tray (0x00 ∷ []) logs (0x00 ∷ 0x10 ∷ []) steps width area
+against1 logs budget room area = tray (0x00 ∷ []) logs (0x00 ∷ 0x10 ∷ []) budget room area
 
 -- a tray of no logs under a table of three letters, against the empty pattern
 abbrev empty3 : List ℕ → ℕ → ℕ → Outcome (List (Outcome Verdict))
-empty3 table steps width = tray table (0 ∷ []) (0x00 ∷ 0x00 ∷ []) steps width 0
+empty3 table budget room = tray table (0 ∷ []) (0x00 ∷ 0x00 ∷ []) budget room 0
 
 -- three letters of which 1 commutes with both others, whose pair is open
 abbrev commuting3 : Presentation

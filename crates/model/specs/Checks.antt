@@ -6,7 +6,7 @@ use lib.Dec.{eqb}
 use lib.ListN.{length}
 use Rattle.model.specs.Word.{Positive, positive, negative}
 use Rattle.model.specs.Presentation.{Presentation, Complement, undefined, complement, complete, weigh}
-use Rattle.model.specs.Reversing.{Stop, budget, room, Ending, finished, open-pair, stopped, reversing, Residual, EndsEmpty}
+use Rattle.model.specs.Reversing.{Stop, no-budget, no-room, Ending, finished, open-pair, stopped, reversing, Residual, EndsEmpty}
 use Rattle.model.specs.Enumeration.{Two, Three, pairs, triples}
 use Rattle.model.specs.Outcome.{pair-of, triple-of, Outcome, answered, refused, _>>=_}
 
@@ -86,8 +86,8 @@ whereDefined (complement x y) v = v
 
 -- 7.1: 11 for (iii), 12 for (iv)
 abbrev pub stopNumber : Stop → ℕ
-stopNumber budget = 11
-stopNumber room = 12
+stopNumber no-budget = 11
+stopNumber no-room = 12
 
 -- 4.6: refusal 9 names the triple that breaks the rule; a stop names the triple under way
 abbrev pub reported : Three → CubeVerdict → Outcome (Unit {0}) → Outcome (Unit {0})
@@ -95,34 +95,34 @@ reported t holds rest = rest
 reported t fails rest = refused 9 (triple-of (t .a) (t .b) (t .c))
 reported t (halts s) rest = refused (stopNumber s) (triple-of (t .a) (t .b) (t .c))
 
-module _ (T : Presentation) (steps : ℕ) where
+module _ (T : Presentation) (budget : ℕ) where
   -- 4.5: u\v by one reversing, which has the whole budget
   unfoldable pub under : ℕ → Positive → Positive → Residue
-  under width u v = ofEnding (reversing T steps width (negative u ++ positive v))
+  under room u v = ofEnding (reversing T budget room (negative u ++ positive v))
 
   -- 4.4: (a\b)\(a\c) by reversings 1, 2 and 3; with a and b exchanged by 4, 5 and 6
   unfoldable pub side : ℕ → ℕ → ℕ → ℕ → Residue
-  side width a b c =
-      andThen (under width (a ∷ []) (b ∷ [])) (λ x.
-      andThen (under width (a ∷ []) (c ∷ [])) (λ y.
-      under width x y))
+  side room a b c =
+      andThen (under room (a ∷ []) (b ∷ [])) (λ x.
+      andThen (under room (a ∷ []) (c ∷ [])) (λ y.
+      under room x y))
 
   -- 4.4, 4.5: what is left to do once L is known. In working out R the room is less by a byte for each letter of L; reversing 7 has all of it
   unfoldable pub against : ℕ → ℕ → ℕ → ℕ → Residue → CubeVerdict
-  against width a b c (residue l) =
-      bothThere (λ r. empties (reversing T steps width (negative l ++ positive r))) (side (width - length l) b a c)
-  against width a b c missing = bothMissing (side width b a c)
-  against width a b c (halted s) = halts s
+  against room a b c (residue l) =
+      bothThere (λ r. empties (reversing T budget room (negative l ++ positive r))) (side (room - length l) b a c)
+  against room a b c missing = bothMissing (side room b a c)
+  against room a b c (halted s) = halts s
 
   -- 4.4: one triple
   unfoldable pub cubeAt : ℕ → Three → CubeVerdict
-  cubeAt width t = whereDefined (complete T (t .a) (t .b)) (against width (t .a) (t .b) (t .c) (side width (t .a) (t .b) (t .c)))
+  cubeAt room t = whereDefined (complete T (t .a) (t .b)) (against room (t .a) (t .b) (t .c) (side room (t .a) (t .b) (t .c)))
 
   -- 4.6: the triples one by one; the first that fails or stops ends the check
   abbrev pub cubeCheck : ℕ → List Three → Outcome (Unit {0})
-  cubeCheck width [] = answered tt
-  cubeCheck width (t ∷ ts) = reported t (cubeAt width t) (cubeCheck width ts)
+  cubeCheck room [] = answered tt
+  cubeCheck room (t ∷ ts) = reported t (cubeAt room t) (cubeCheck room ts)
 
 -- 4: a table clears if both checks pass; the one of weights is made first
 unfoldable pub cleared : Presentation → ℕ → ℕ → Outcome (Unit {0})
-cleared T steps width = weightCheck T (pairs (T .size)) >>= λ ok. cubeCheck T steps width (triples (T .size))
+cleared T budget room = weightCheck T (pairs (T .size)) >>= λ ok. cubeCheck T budget room (triples (T .size))

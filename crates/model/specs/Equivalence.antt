@@ -41,14 +41,14 @@ abbrev pub Leads : Presentation → Positive → List Entry → Positive → Typ
 Leads T u [] v = u ≡ v
 Leads T u (e ∷ es) v = (w : Positive) × (applied T u e ≡ some w) × Leads T w es v
 
--- 6.7: every word on the way, the first and the last included, has at most `width` letters
-abbrev pub Fits : (T : Presentation) (width : ℕ) (u : Positive) (es : List Entry) (v : Positive) → Leads T u es v → Type 0
-Fits T width u [] v h = length u ≤ width
-Fits T width u (e ∷ es) v h = (length u ≤ width) × Fits T width (h .0) es v (h .2)
+-- 6.7: every word on the way, the first and the last included, has at most `room` letters
+abbrev pub Fits : (T : Presentation) (room : ℕ) (u : Positive) (es : List Entry) (v : Positive) → Leads T u es v → Type 0
+Fits T room u [] v h = length u ≤ room
+Fits T room u (e ∷ es) v h = (length u ≤ room) × Fits T room (h .0) es v (h .2)
 
 -- 6.7: the entries lead from u to v by words that fit
 abbrev pub LeadsWithin : Presentation → ℕ → Positive → List Entry → Positive → Type 0
-LeadsWithin T width u es v = (h : Leads T u es v) × Fits T width u es v h
+LeadsWithin T room u es v = (h : Leads T u es v) × Fits T room u es v h
 
 -- 2.3: some chain, perhaps an empty one, leads from u to v
 abbrev pub Joined : Presentation → Positive → Positive → Type 0

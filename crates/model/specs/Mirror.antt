@@ -6,7 +6,7 @@ use lib.Dec.{ltb, leb, eqb}
 use lib.ListN.{length}
 use Rattle.model.specs.Word.{Letter, forward, back, Word, Positive, positive, negative}
 use Rattle.model.specs.Presentation.{Presentation, Complement, undefined, complement, complete}
-use Rattle.model.specs.Reversing.{Site, nowhere, at, Next, no-site, blocked, step, Ending, stopped, room, spent, onward}
+use Rattle.model.specs.Reversing.{Site, nowhere, at, Next, no-site, blocked, step, Ending, stopped, no-room, spent, onward}
 use Rattle.model.specs.Enumeration.{range, Two, pairs}
 use Rattle.model.specs.Outcome.{pair-of, Outcome, answered, refused}
 
@@ -121,8 +121,8 @@ leftNext T w = leftBySite T (leftSite w)
 
 -- the four endings in the order of 3.2; a finished word is the undoing of D, followed by N
 unfoldable pub leftRun : Presentation → ℕ → ℕ → ℕ → ℕ → Word → Ending
-leftRun T width zero k r w = spent w k r (leftNext T w)
-leftRun T width (suc left) k r w = onward width w k r (leftRun T width left) (leftNext T w)
+leftRun T room zero k r w = spent w k r (leftNext T w)
+leftRun T room (suc left) k r w = onward room w k r (leftRun T room left) (leftNext T w)
 
 unfoldable pub leftReversing : Presentation → ℕ → ℕ → Word → Ending
-leftReversing T steps width w = cond (ltb width (length w)) (stopped room) (leftRun T width steps 0 0 w)
+leftReversing T budget room w = cond (ltb room (length w)) (stopped no-room) (leftRun T room budget 0 0 w)

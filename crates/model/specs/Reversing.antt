@@ -52,8 +52,8 @@ next T w = bySite T (site w)
 
 -- 3.2: the stops, (iii) and (iv)
 pub data Stop : Type 0 where
-  budget : Stop
-  room : Stop
+  no-budget : Stop
+  no-room : Stop
 
 -- 3.2: the four endings: (i) finished, with the numerator, the denominator, the steps (3.3) and how many of those were on two different
 -- letters; (ii) an undefined pair, with the steps before it; (iii) and (iv) a stop
@@ -74,22 +74,22 @@ count a b r = cond (eqb a b) r (suc r)
 abbrev pub spent : Word → ℕ → ℕ → Next → Ending
 spent w k r no-site = ended w k r
 spent w k r (blocked a b) = open-pair a b k
-spent w k r (step a b w′) = stopped budget
+spent w k r (step a b w′) = stopped no-budget
 
 -- 3.2, where steps are left: (i), (ii), then (iv), else the step is taken and `go` is what comes after it
 abbrev pub onward : ℕ → Word → ℕ → ℕ → (ℕ → ℕ → Word → Ending) → Next → Ending
-onward width w k r go no-site = ended w k r
-onward width w k r go (blocked a b) = open-pair a b k
-onward width w k r go (step a b w′) = cond (ltb width (length w′)) (stopped room) (go (suc k) (count a b r) w′)
+onward room w k r go no-site = ended w k r
+onward room w k r go (blocked a b) = open-pair a b k
+onward room w k r go (step a b w′) = cond (ltb room (length w′)) (stopped no-room) (go (suc k) (count a b r) w′)
 
 -- 3.2: from a word that fits, with k steps done, r of them on two different letters, and `left` steps of the budget left
 unfoldable pub run : Presentation → ℕ → ℕ → ℕ → ℕ → Word → Ending
-run T width zero k r w = spent w k r (next T w)
-run T width (suc left) k r w = onward width w k r (run T width left) (next T w)
+run T room zero k r w = spent w k r (next T w)
+run T room (suc left) k r w = onward room w k r (run T room left) (next T w)
 
 -- 3.2: the reversing of a word; where it has more letters than the room has bytes it is (iv), and nothing else is tested
 unfoldable pub reversing : Presentation → ℕ → ℕ → Word → Ending
-reversing T steps width w = cond (ltb width (length w)) (stopped room) (run T width steps 0 0 w)
+reversing T budget room w = cond (ltb room (length w)) (stopped no-room) (run T room budget 0 0 w)
 
 -- 3.1: k steps, each at the leftmost site
 pub data Leftmost (T : Presentation) : Word → Word → ℕ → Type 0 where
@@ -118,12 +118,12 @@ EndsEmpty T w = (k : ℕ) × Finishes T w [] [] k
 
 -- 3.6: a budget covers it if it is not below the steps
 abbrev pub CoversSteps : {T : Presentation} {w w′ : Word} {k : ℕ} → ℕ → Leftmost T w w′ k → Type 0
-CoversSteps {k} steps r = k ≤ steps
+CoversSteps {k} budget r = k ≤ budget
 
 -- 3.6: a room covers it if each of its words fits, from the first to the last
 abbrev pub CoversRoom : {T : Presentation} {w w′ : Word} {k : ℕ} → ℕ → Leftmost T w w′ k → Type 0
-CoversRoom width (stay {w}) = length w ≤ width
-CoversRoom width (go {w} e c r) = (length w ≤ width) × CoversRoom width r
+CoversRoom room (stay {w}) = length w ≤ room
+CoversRoom room (go {w} e c r) = (length w ≤ room) × CoversRoom room r
 
 -- 3.5: n is u\v, and d is v\u: the undoing of u, followed by v, finishes with them
 abbrev pub Residual : Presentation → Positive → Positive → Positive → Positive → Type 0

@@ -58,9 +58,9 @@ fractionOf area (stopped s) = refused (stopNumber s) unplaced
 
 -- 6.2: a program under a table, each as it is read
 unfoldable pub reverse : List ℕ → List ℕ → ℕ → ℕ → ℕ → Outcome Fraction
-reverse table program steps width area =
+reverse table program budget room area =
     readTableWith readProgram table program >>= λ l.
-    fractionOf area (reversing (l .table) steps width (l .word))
+    fractionOf area (reversing (l .table) budget room (l .word))
 
 -- SIZE FIRST, THEN THE ANSWER (6.15, 6.16)
 
@@ -81,9 +81,9 @@ sizesOf (stopped s) = refused (stopNumber s) unplaced
 
 -- 6.15: a program under a table, each as it is read
 unfoldable pub enquire : List ℕ → List ℕ → ℕ → ℕ → Outcome Sizes
-enquire table program steps width =
+enquire table program budget room =
     readTableWith readProgram table program >>= λ l.
-    sizesOf (reversing (l .table) steps width (l .word))
+    sizesOf (reversing (l .table) budget room (l .word))
 
 -- 6.16: whether the numbers handed in are these, each of the three
 abbrev pub agree : Sizes → Sizes → Bool
@@ -95,27 +95,27 @@ committedOf z area e = sizesOf e >>= λ y. cond (agree z y) (fractionOf area e) 
 
 -- 6.16: a program under a table, each as it is read
 unfoldable pub commit : List ℕ → List ℕ → ℕ → ℕ → Sizes → ℕ → Outcome Fraction
-commit table program steps width z area =
+commit table program budget room z area =
     readTableWith readProgram table program >>= λ l.
-    committedOf z area (reversing (l .table) steps width (l .word))
+    committedOf z area (reversing (l .table) budget room (l .word))
 
 -- REVERSE FROM THE FINISHED END (6.12)
 
 -- 6.12: a program under a table that was read: 16 comes before the work; then as reverse
 unfoldable pub leftFraction : Presentation → Word → ℕ → ℕ → ℕ → Outcome Fraction
-leftFraction T w steps width area = mirrorCheck T >>= λ ok. fractionOf area (leftReversing T steps width w)
+leftFraction T w budget room area = mirrorCheck T >>= λ ok. fractionOf area (leftReversing T budget room w)
 
 -- 6.12: the tests of both images come before 16
 unfoldable pub leftReverse : List ℕ → List ℕ → ℕ → ℕ → ℕ → Outcome Fraction
-leftReverse table program steps width area =
+leftReverse table program budget room area =
     readTableWith readProgram table program >>= λ l.
-    leftFraction (l .table) (l .word) steps width area
+    leftFraction (l .table) (l .word) budget room area
 
 -- CLEAR (6.3)
 
 -- 6.3: the table is read, and must clear
 unfoldable pub clear : List ℕ → ℕ → ℕ → Outcome (Unit {0})
-clear table steps width = readTable table >>= λ T. cleared T steps width
+clear table budget room = readTable table >>= λ T. cleared T budget room
 
 -- CLEAR THE MIRROR (6.13)
 
@@ -134,14 +134,14 @@ ofMirror (refused n place) = refused (cond (eqb n 9) 17 n) (inMirror place)
 
 -- 6.13: 16, then 8 with the table's own pair, then the triples of the mirror, in the order of 4.1
 unfoldable pub mirrorCleared : Presentation → ℕ → ℕ → Outcome (Unit {0})
-mirrorCleared T steps width =
+mirrorCleared T budget room =
     mirrorCheck T >>= λ ok.
     weightCheck T (pairs (T .size)) >>= λ ok.
-    ofMirror (cubeCheck (mirror T) steps width (triples (T .size)))
+    ofMirror (cubeCheck (mirror T) budget room (triples (T .size)))
 
 -- 6.13: the table is read, and its mirror must clear
 unfoldable pub mirrorClear : List ℕ → ℕ → ℕ → Outcome (Unit {0})
-mirrorClear table steps width = readTable table >>= λ T. mirrorCleared T steps width
+mirrorClear table budget room = readTable table >>= λ T. mirrorCleared T budget room
 
 -- COMPARE (6.4)
 
@@ -174,20 +174,20 @@ verdictOf (stopped s) = refused (stopNumber s) unplaced
 
 -- 6.4: two positive words under a table that has cleared; if their weights differ, different after 0 steps; else they are reversed
 abbrev pub forwardVerdict : Presentation → Positive → Positive → ℕ → ℕ → Outcome Verdict
-forwardVerdict T u v steps width =
-    cond (eqb (weigh T u) (weigh T v)) (verdictOf (reversing T steps width (negative u ++ positive v))) (answered (different-after 0))
+forwardVerdict T u v budget room =
+    cond (eqb (weigh T u) (weigh T v)) (verdictOf (reversing T budget room (negative u ++ positive v))) (answered (different-after 0))
 
 -- 6.4: two positive words under a table that was read and must clear
 unfoldable pub comparison : Presentation → Positive → Positive → ℕ → ℕ → Outcome Verdict
-comparison T u v steps width =
-    cleared T steps width >>= λ ok.
-    forwardVerdict T u v steps width
+comparison T u v budget room =
+    cleared T budget room >>= λ ok.
+    forwardVerdict T u v budget room
 
 -- 6.4: two programs of forward letters under a table, each as it is read
 unfoldable pub compare : List ℕ → List ℕ → List ℕ → ℕ → ℕ → Outcome Verdict
-compare table first second steps width =
+compare table first second budget room =
     readImages readForward table first second >>= λ i.
-    comparison (i .table) (i .first) (i .second) steps width
+    comparison (i .table) (i .first) (i .second) budget room
 
 -- CHAIN (6.6)
 
@@ -216,9 +216,9 @@ verdictIn (unlisted-after k) = different-after k
 
 -- 6.6: as compare; the chain itself stands in the answer area (Areas.antt)
 unfoldable pub chain : List ℕ → List ℕ → List ℕ → ℕ → ℕ → ℕ → Outcome ChainAnswer
-chain table first second steps width area =
+chain table first second budget room area =
     readImages readForward table first second >>= λ i.
-    mapped (chainAnswer (i .table .size)) (comparison (i .table) (i .first) (i .second) steps width >>= listable (i .table .size) area)
+    mapped (chainAnswer (i .table .size)) (comparison (i .table) (i .first) (i .second) budget room >>= listable (i .table .size) area)
 
 -- WHAT IS LEFT TO RUN (6.10)
 
@@ -236,15 +236,15 @@ remainderOf area (stopped s) = refused (stopNumber s) unplaced
 
 -- 6.10: u done and v the pattern, under a table that was read and must clear; where v is the lighter, none after 0 steps; else they are reversed
 unfoldable pub quotient : Presentation → Positive → Positive → ℕ → ℕ → ℕ → Outcome (Remainder Positive)
-quotient T u v steps width area =
-    cleared T steps width >>= λ ok.
-    cond (ltb (weigh T v) (weigh T u)) (answered (none-after 0)) (remainderOf area (reversing T steps width (negative u ++ positive v)))
+quotient T u v budget room area =
+    cleared T budget room >>= λ ok.
+    cond (ltb (weigh T v) (weigh T u)) (answered (none-after 0)) (remainderOf area (reversing T budget room (negative u ++ positive v)))
 
 -- 6.10: all tests of the done part come before those of the pattern
 unfoldable pub remainder : List ℕ → List ℕ → List ℕ → ℕ → ℕ → ℕ → Outcome (Remainder Positive)
-remainder table done pattern steps width area =
+remainder table done pattern budget room area =
     readImages readForward table done pattern >>= λ i.
-    quotient (i .table) (i .first) (i .second) steps width area
+    quotient (i .table) (i .first) (i .second) budget room area
 
 -- CHECK A CHAIN (6.7)
 
@@ -256,24 +256,24 @@ pub data Passage : Type 0 where
 
 -- 6.7: what the entry numbered k comes to: it breaks the chain; refusal 12 where the new word is longer than the workspace; else it goes on
 abbrev pub followedBy : ℕ → ℕ → (Positive → Outcome Passage) → Option Positive → Outcome Passage
-followedBy width k go none = answered (breaks k)
-followedBy width k go (some w) = cond (ltb width (length w)) (refused 12 unplaced) (go w)
+followedBy room k go none = answered (breaks k)
+followedBy room k go (some w) = cond (ltb room (length w)) (refused 12 unplaced) (go w)
 
 -- 6.7: from the word u, with the entries from number k on still to come
 unfoldable pub followed : Presentation → ℕ → ℕ → Positive → List Entry → Positive → Outcome Passage
-followed T width k u [] v = answered (cond (equal u v) joins ends-elsewhere)
-followed T width k u (e ∷ es) v = followedBy width k (λ w. followed T width (suc k) w es v) (applied T u e)
+followed T room k u [] v = answered (cond (equal u v) joins ends-elsewhere)
+followed T room k u (e ∷ es) v = followedBy room k (λ w. followed T room (suc k) w es v) (applied T u e)
 
 -- 6.7: a chain from u to v; refusal 12 where u is longer than the workspace
 abbrev pub passage : Presentation → ℕ → Positive → List Entry → Positive → Outcome Passage
-passage T width u es v = cond (ltb width (length u)) (refused 12 unplaced) (followed T width 0 u es v)
+passage T room u es v = cond (ltb room (length u)) (refused 12 unplaced) (followed T room 0 u es v)
 
 -- 6.7: the programs are read before the chain image, and the table need not clear
 unfoldable pub check : List ℕ → List ℕ → List ℕ → List ℕ → ℕ → Outcome Passage
-check table first second entries width =
+check table first second entries room =
     readImages readForward table first second >>= λ i.
     readChain (i .table .size) entries >>= λ es.
-    passage (i .table) width (i .first) es (i .second)
+    passage (i .table) room (i .first) es (i .second)
 
 -- PACK AND UNPACK (6.8)
 

@@ -10,7 +10,7 @@ use Rattle.model.specs.Word.{Letter, Word, Positive, flip, inverse, posi
 use Rattle.model.specs.Presentation.{Presentation, complement, complete}
 use Rattle.model.specs.Range.{InRange, LetterInRange}
 use Rattle.model.specs.Equivalence.{equal}
-use Rattle.model.specs.Reversing.{room, Ending, finished, open-pair, stopped, reversing}
+use Rattle.model.specs.Reversing.{no-room, Ending, finished, open-pair, stopped, reversing}
 use Rattle.model.specs.Enumeration.{range, Two, triples}
 use Rattle.model.specs.Checks.{stopNumber, cubeCheck, cleared}
 use Rattle.model.specs.Mirror.{mirror, mirrorCheck}
@@ -61,7 +61,7 @@ setBytes vs = length (listingBytes vs)
 
 -- a reversing in the room that the words leave: none, whatever its word, where they alone are longer than the workspace
 abbrev pub beside : Presentation → ℕ → ℕ → List Positive → Word → Ending
-beside T steps width vs w = cond (ltb width (setBytes vs)) (stopped room) (reversing T steps (width - setBytes vs) w)
+beside T budget room vs w = cond (ltb room (setBytes vs)) (stopped no-room) (reversing T budget (room - setBytes vs) w)
 
 -- the list after a reversing: its numerator is added at the end unless it is listed, 22 where there is no place for it; 21 names the open pair as 10 does; a
 -- stop names the set
@@ -70,12 +70,12 @@ addedTo vs (finished n d k r) = cond (isListed n vs) (answered vs) (unless (leb 
 addedTo vs (open-pair a b k) = refused 21 (pair-of a b)
 addedTo vs (stopped s) = refused (stopNumber s) the-set
 
-module _ (T : Presentation) (steps width : ℕ) where
+module _ (T : Presentation) (budget room : ℕ) where
   -- u\v for two places, one pair of places after another
   abbrev pub takenPairs : List Two → List Positive → Outcome (List Positive)
   takenPairs [] vs = answered vs
   takenPairs (p ∷ ps) vs =
-      addedTo vs (beside T steps width vs (negative (getD vs (p .a) []) ++ positive (getD vs (p .b) []))) >>= takenPairs ps
+      addedTo vs (beside T budget room vs (negative (getD vs (p .a) []) ++ positive (getD vs (p .b) []))) >>= takenPairs ps
 
   -- the pairs of each place from m on, as long as there are words; `rounds` is how many places are looked at
   unfoldable pub grownFrom : ℕ → ℕ → List Positive → Outcome (List Positive)
@@ -99,21 +99,21 @@ afterFirst k (different-after j) = different-after-both k j
 
 -- the first reversing came to N and D, which are compared as forward programs; once the set is closed no reversing meets an open pair
 abbrev pub signedOf : Presentation → ℕ → ℕ → Ending → Outcome SignedVerdict
-signedOf T steps width (finished n d k r) = mapped (afterFirst k) (forwardVerdict T n d steps width)
-signedOf T steps width (open-pair a b k) = refused 10 (pair-of a b)
-signedOf T steps width (stopped s) = refused (stopNumber s) unplaced
+signedOf T budget room (finished n d k r) = mapped (afterFirst k) (forwardVerdict T n d budget room)
+signedOf T budget room (open-pair a b k) = refused 10 (pair-of a b)
+signedOf T budget room (stopped s) = refused (stopNumber s) unplaced
 
 -- two words of either sign under a table that was read: it has a mirror, it clears, the mirror clears, the set closes; then the words are compared
 unfoldable pub signedComparison : Presentation → Word → Word → ℕ → ℕ → Outcome SignedVerdict
-signedComparison T w v steps width =
+signedComparison T w v budget room =
     mirrorCheck T >>= λ ok.
-    cleared T steps width >>= λ ok.
-    ofMirror (cubeCheck (mirror T) steps width (triples (T .size))) >>= λ ok.
-    grownSet T steps width >>= λ vs.
-    signedOf T steps width (reversing T steps width (inverse w ++ v))
+    cleared T budget room >>= λ ok.
+    ofMirror (cubeCheck (mirror T) budget room (triples (T .size))) >>= λ ok.
+    grownSet T budget room >>= λ vs.
+    signedOf T budget room (reversing T budget room (inverse w ++ v))
 
 -- 6.18: two programs of either sign under a table, each as it is read
 unfoldable pub compareSigned : List ℕ → List ℕ → List ℕ → ℕ → ℕ → Outcome SignedVerdict
-compareSigned table first second steps width =
+compareSigned table first second budget room =
     readImages readProgram table first second >>= λ i.
-    signedComparison (i .table) (i .first) (i .second) steps width
+    signedComparison (i .table) (i .first) (i .second) budget room

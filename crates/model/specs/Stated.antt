@@ -35,7 +35,7 @@ use Rattle.model.specs.declared.answers.Ways.the-variants.{Listed as Wor
 use Rattle.model.specs.declared.answers.TrayCompared.{TrayCompared}
 use Rattle.model.specs.declared.answers.TrayCompared.the-variants.{Answered as TrayAnswered, Refused as TrayRefused}
 use Rattle.model.specs.Word.{Positive}
-use Rattle.model.specs.Reversing.{Stop, budget, room, Ending, finished, open-pair, stopped}
+use Rattle.model.specs.Reversing.{Stop, no-budget, no-room, Ending, finished, open-pair, stopped}
 use Rattle.model.specs.Outcome.{Place, unplaced, pair-of, triple-of, mirror-triple-of, the-set, Outcome, answered, refused}
 use Rattle.model.specs.Ways.{listingBytes}
 use Rattle.model.specs.Signed.{SignedVerdict, same-after-both, different-after-both}
@@ -153,8 +153,8 @@ trayCompared (TrayRefused r) = refusal r
 
 -- 3.2: how a reversing ends, by lengths: the answer that each ending of the model has
 abbrev pub stopAnswer : Stop → StopAnswer
-stopAnswer budget = Budget
-stopAnswer room = Room
+stopAnswer no-budget = Budget
+stopAnswer no-room = Room
 
 abbrev pub endingAnswer : Ending → EndingAnswer
 endingAnswer (finished n d k r) = Finished (length n) (length d) k r

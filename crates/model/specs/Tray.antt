@@ -48,8 +48,8 @@ trayBytes = concatMap logBytes
 -- 6.19: the tray comes before the table, the table before the pattern, and 13 after the clearing and before the first log; then each log is
 -- compared by itself
 unfoldable pub tray : List ℕ → List ℕ → List ℕ → ℕ → ℕ → ℕ → Outcome (List (Outcome Verdict))
-tray table logs pattern steps width area =
+tray table logs pattern budget room area =
     readTray logs >>= λ images.
     readTableWith readForward table pattern >>= λ l.
-    cleared (l .table) steps width >>= λ ok.
-    unless (ltb area (3 * length images)) 13 (map (λ image. compare table image pattern steps width) images)
+    cleared (l .table) budget room >>= λ ok.
+    unless (ltb area (3 * length images)) 13 (map (λ image. compare table image pattern budget room) images)

@@ -26,34 +26,34 @@ use Rattle.engine.proofs.Letters.{letters-forward}
 use Rattle.engine.proofs.Ended.{end, done, met, halted, stop-numbered}
 use Rattle.remainders.specs.Remainder.{States}
 
-module _ (T : Presentation) (word : Word) (steps : ℕ) (workspace before : List ℕ) where
+module _ (T : Presentation) (word : Word) (budget : ℕ) (workspace before : List ℕ) where
   abbrev outcome : Outcome (Remainder Positive)
-  outcome = remainderOf (length before) (end T word steps workspace)
+  outcome = remainderOf (length before) (end T word budget workspace)
 
-  by-ending : (e : Ending) → end T word steps workspace ≡ e → {after : List ℕ} {r : Remaining} → States (remainderOf (length before) e) before after r
+  by-ending : (e : Ending) → end T word budget workspace ≡ e → {after : List ℕ} {r : Remaining} → States (remainderOf (length before) e) before after r
       → States outcome before after r
   by-ending e h {after} {r} = subst (λ d. States (remainderOf (length before) d) before after r) (sym h)
 
-  module _ (n d k r : ℕ) (p : Reverses T word steps workspace (Finished n d k r)) where
+  module _ (n d k r : ℕ) (p : Reverses T word budget workspace (Finished n d k r)) where
     -- a denominator that is not empty
     pub no-quotient : (d ≡ 0 → ⊥) → States outcome before before (Nothing k)
-    no-quotient h = let q = done T word steps workspace n d k r p in go (q .D) (q .d-length) (q .is)
+    no-quotient h = let q = done T word budget workspace n d k r p in go (q .D) (q .d-length) (q .is)
       where
-        go : {N : Positive} (D : Positive) → length D ≡ d → end T word steps workspace ≡ finished N D k r → States outcome before before (Nothing k)
+        go : {N : Positive} (D : Positive) → length D ≡ d → end T word budget workspace ≡ finished N D k r → States outcome before before (Nothing k)
         go [] e f = absurd (h (sym e))
         go {N} (x ∷ D) e f = by-ending (finished N (x ∷ D) k r) f (record { result = refl; area = refl })
 
     -- an empty one: the numerator stands at the workspace's start
     record Quotient : Type 0 where
       pub N : Positive
-      pub is : end T word steps workspace ≡ finished N [] k r
+      pub is : end T word budget workspace ≡ finished N [] k r
       pub n-length : length N ≡ n
       pub stands : take n workspace ≡ N
 
     has-quotient : d ≡ 0 → Quotient
-    has-quotient z = let q = done T word steps workspace n d k r p in go (q .N) (q .D) (q .d-length) (q .is) (q .n-length) (q .stands)
+    has-quotient z = let q = done T word budget workspace n d k r p in go (q .N) (q .D) (q .d-length) (q .is) (q .n-length) (q .stands)
       where
-        go : (N D : Positive) → length D ≡ d → end T word steps workspace ≡ finished N D k r → length N ≡ n
+        go : (N D : Positive) → length D ≡ d → end T word budget workspace ≡ finished N D k r → length N ≡ n
             → letters (take (n + d) workspace) ≡ positive N ++ negative D → Quotient
         go N [] e f en h =
             let all : n ≡ n + d = omega arith in
@@ -84,12 +84,12 @@ module _ (T : Presentation) (word : Word) (steps : ℕ) (workspace before : List
             area = e ∙ (ap (λ l. l ++ drop n before) (q .stands) ∙ ap (λ i. q .N ++ drop i before) (sym (q .n-length)));
           }))
 
-  pub met-open : (p : Pair) (k : ℕ) → Reverses T word steps workspace (Undefined p k) → States outcome before before (Nothing k)
-  met-open p k q = by-ending (open-pair (p .a) (p .b) k) (met T word steps workspace p k q) (record { result = refl; area = refl })
+  pub met-open : (p : Pair) (k : ℕ) → Reverses T word budget workspace (Undefined p k) → States outcome before before (Nothing k)
+  met-open p k q = by-ending (open-pair (p .a) (p .b) k) (met T word budget workspace p k q) (record { result = refl; area = refl })
 
-  pub was-stopped : (s : Stop) → Reverses T word steps workspace (Stopped s) → States outcome before before (Refused (stopRefusal s))
+  pub was-stopped : (s : Stop) → Reverses T word budget workspace (Stopped s) → States outcome before before (Refused (stopRefusal s))
   was-stopped s q =
-      let h = halted T word steps workspace s q in
+      let h = halted T word budget workspace s q in
       by-ending (stopped (h .stop)) (h .is)
       (record { result = sym (ap (λ x. refusal (stopRefusal x)) (h .told)) ∙ stop-numbered (h .stop); area = refl })
 

@@ -24,22 +24,22 @@ use Rattle.remainders.specs.Remainder.{States, movesLeft, RemainderSays}
 
 -- TWO PROGRAMS UNDER A LOADED TABLE
 
-module _ (T : Presentation) (u v : Positive) (steps width : ℕ) (before : List ℕ) where
+module _ (T : Presentation) (u v : Positive) (budget room : ℕ) (before : List ℕ) where
   -- a table that does not clear
-  pub no-clear : (r : Refusal) → refusal r ≡ cleared T steps width → States (quotient T u v steps width (length before)) before before (Refused r)
+  pub no-clear : (r : Refusal) → refusal r ≡ cleared T budget room → States (quotient T u v budget room (length before)) before before (Refused r)
   unfolding quotient
   no-clear r e =
-      subst (λ o. States o before before (Refused r)) (sym (still-refused (cleared T steps width) r (sym e) _)) (record { result = refl; area = refl })
+      subst (λ o. States o before before (Refused r)) (sym (still-refused (cleared T budget room) r (sym e) _)) (record { result = refl; area = refl })
 
-  module _ (clear : answered tt ≡ cleared T steps width) where
-    pub pattern-light : weigh T v < weigh T u → States (quotient T u v steps width (length before)) before before (Nothing 0)
+  module _ (clear : answered tt ≡ cleared T budget room) where
+    pub pattern-light : weigh T v < weigh T u → States (quotient T u v budget room (length before)) before before (Nothing 0)
     pattern-light h =
-        subst (λ o. States o before before (Nothing 0)) (sym (lighter T u v steps width (length before) (sym clear) h)) (record { result = refl; area = refl })
+        subst (λ o. States o before before (Nothing 0)) (sym (lighter T u v budget room (length before) (sym clear) h)) (record { result = refl; area = refl })
 
     pub pattern-heavy : weigh T u ≤ weigh T v → {after : List ℕ} {r : Remaining}
-        → States (remainderOf (length before) (reversing T steps width (negative u ++ positive v))) before after r
-        → States (quotient T u v steps width (length before)) before after r
-    pattern-heavy h {after} {r} = subst (λ o. States o before after r) (sym (as-heavy T u v steps width (length before) (sym clear) h))
+        → States (remainderOf (length before) (reversing T budget room (negative u ++ positive v))) before after r
+        → States (quotient T u v budget room (length before)) before after r
+    pattern-heavy h {after} {r} = subst (λ o. States o before after r) (sym (as-heavy T u v budget room (length before) (sym clear) h))
 
 -- THE SERVICE
 
@@ -53,22 +53,22 @@ left-outcome (answered (moves-after m k)) before = ap (λ l. answered (moves-aft
 left-outcome (answered (none-after k)) before = refl
 left-outcome (refused n ps) before = refl
 
-module _ (table done pattern : List ℕ) (steps width area : ℕ) where
+module _ (table done pattern : List ℕ) (budget room area : ℕ) where
   abbrev concludes : Images Positive → Outcome (Remainder Positive)
-  concludes p = quotient (p .table) (p .first) (p .second) steps width area
+  concludes p = quotient (p .table) (p .first) (p .second) budget room area
 
-  pub remainder-refused : (r : Refusal) → readImages readForward table done pattern ≡ refusal r → AsFound (remainder table done pattern steps width area) r
+  pub remainder-refused : (r : Refusal) → readImages readForward table done pattern ≡ refusal r → AsFound (remainder table done pattern budget room area) r
   unfolding remainder
   remainder-refused = programs-refused table done pattern concludes
 
   pub remainder-runs : (T : Presentation) (u v : Positive) → Compares table done pattern T u v
-      → remainder table done pattern steps width area ≡ quotient T u v steps width area
+      → remainder table done pattern budget room area ≡ quotient T u v budget room area
   unfolding remainder
   remainder-runs = programs-run table done pattern concludes
 
-  pub remainder-says : (told : Outcome (Remainder ℕ)) (before after : List ℕ) → told ≡ mapped counted (remainder table done pattern steps width area)
-      → after ≡ outputAfter remainderBytes (remainder table done pattern steps width area) before
-      → RemainderSays table done pattern steps width area told after
+  pub remainder-says : (told : Outcome (Remainder ℕ)) (before after : List ℕ) → told ≡ mapped counted (remainder table done pattern budget room area)
+      → after ≡ outputAfter remainderBytes (remainder table done pattern budget room area) before
+      → RemainderSays table done pattern budget room area told after
   remainder-says told before after t a T u v c =
-      let left = ap₂ (λ x y. mapped (movesLeft x) y) a t ∙ (left-outcome (remainder table done pattern steps width area) before ∙ remainder-runs T u v c) in
-      subst (QuotientMeaning T u v steps width area) (sym left) (quotient-meaning T u v steps width area)
+      let left = ap₂ (λ x y. mapped (movesLeft x) y) a t ∙ (left-outcome (remainder table done pattern budget room area) before ∙ remainder-runs T u v c) in
+      subst (QuotientMeaning T u v budget room area) (sym left) (quotient-meaning T u v budget room area)

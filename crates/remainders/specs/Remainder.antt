@@ -40,8 +40,8 @@ movesLeft area (none-after k) = none-after k
 
 -- WHAT AN ANSWER MEANS (specification 6.10): what was told and written into an area of `area` bytes, of the table and the programs in the images
 abbrev pub RemainderSays : List ℕ → List ℕ → List ℕ → ℕ → ℕ → ℕ → Outcome (Remainder ℕ) → List ℕ → Type 0
-RemainderSays table done pattern steps width area told left =
-    (T : Presentation) (u v : Positive) → Compares table done pattern T u v → QuotientMeaning T u v steps width area (mapped (movesLeft left) told)
+RemainderSays table done pattern budget room area told left =
+    (T : Presentation) (u v : Positive) → Compares table done pattern T u v → QuotientMeaning T u v budget room area (mapped (movesLeft left) told)
 
 -- THE SERVICE'S PROMISE (6.10): the outcome that is told, both areas after the call, and what the outcome means
 pub record RemainderPromise (table done pattern : List ℕ) (allowance : ℕ) (workspace workspace′ answer answer′ : List ℕ)

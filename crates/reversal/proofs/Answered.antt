@@ -93,19 +93,19 @@ run-states o p is {workspace} {workspace′} {before} s =
       work = s .work ∙ sym (ap (λ q. workspaceAfter q workspace) is);
     }
 
-module _ (table program : List ℕ) (steps width area : ℕ) where
+module _ (table program : List ℕ) (budget room area : ℕ) where
   abbrev rest : Asked → Presentation → Word → Outcome Fraction
-  rest asked T w = loadedOf asked T w steps width area
+  rest asked T w = loadedOf asked T w budget room area
 
   pub images-refused : (asked : Asked) (r : Refusal) → readTableWith readProgram table program ≡ refusal r
-      → AsFound (outcomeOf asked table program steps width area) r
+      → AsFound (outcomeOf asked table program budget room area) r
   unfolding reverse leftReverse commit
   images-refused Reverse = program-refused readProgram table program (rest Reverse) program-early
   images-refused LeftReverse = program-refused readProgram table program (rest LeftReverse) program-early
   images-refused (Commit h) = program-refused readProgram table program (rest (Commit h)) program-early
 
   pub images-run : (asked : Asked) (T : Presentation) → readTable table ≡ answered T → (w : Word) → readProgram (T .size) program ≡ answered w
-      → outcomeOf asked table program steps width area ≡ rest asked T w
+      → outcomeOf asked table program budget room area ≡ rest asked T w
   unfolding reverse leftReverse commit
   images-run Reverse T e w f = program-runs readProgram table program (rest Reverse) T w e f
   images-run LeftReverse T e w f = program-runs readProgram table program (rest LeftReverse) T w e f

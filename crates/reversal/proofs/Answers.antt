@@ -26,12 +26,12 @@ use Rattle.loading.proofs.Late.{Late, late-refusal, late-unless, late-stop}
 use Rattle.reversal.specs.Fraction.{FractionWritten}
 use Rattle.reversal.specs.Asked.{Answers}
 
-module _ (T : Presentation) (word : Word) (steps : ℕ) (workspace before : List ℕ) where
+module _ (T : Presentation) (word : Word) (budget : ℕ) (workspace before : List ℕ) where
   abbrev outcome : Outcome Fraction
-  outcome = fractionOf (length before) (end T word steps workspace)
+  outcome = fractionOf (length before) (end T word budget workspace)
 
   -- an answer that states the outcome of the ending
-  answers-by : (e : Ending) → end T word steps workspace ≡ e → (r : Reversed) (after : List ℕ) → reversed r ≡ mapped sizes (fractionOf (length before) e)
+  answers-by : (e : Ending) → end T word budget workspace ≡ e → (r : Reversed) (after : List ℕ) → reversed r ≡ mapped sizes (fractionOf (length before) e)
       → after ≡ outputAfter fractionBytes (fractionOf (length before) e) before → Answers outcome before after r
   answers-by e h r after p q =
       record {
@@ -39,10 +39,10 @@ module _ (T : Presentation) (word : Word) (steps : ℕ) (workspace before : List
         area = q ∙ sym (ap (λ d. outputAfter fractionBytes (fractionOf (length before) d) before) h);
       }
 
-  module _ (n d k r : ℕ) (p : Reverses T word steps workspace (Finished n d k r)) where
+  module _ (n d k r : ℕ) (p : Reverses T word budget workspace (Finished n d k r)) where
     pub area-short : length before < n + d → Answers outcome before before (Refused AnswerShort)
     area-short h =
-        let q = done T word steps workspace n d k r p in
+        let q = done T word budget workspace n d k r p in
         let e = lt-ltb (length before) (length (q .N) + length (q .D)) (omega (arith, q .n-length, q .d-length)) in
         answers-by (finished (q .N) (q .D) k r) (q .is) (Refused AnswerShort) before
         (sym (ap (λ t. mapped sizes (unless t 13 (record { numerator = q .N; denominator = q .D; steps = k }))) e))
@@ -51,7 +51,7 @@ module _ (T : Presentation) (word : Word) (steps : ℕ) (workspace before : List
     pub answer-written : n + d ≤ length before → (after : List ℕ) → FractionWritten workspace n d before after
         → Answers outcome before after (Answer n d k)
     answer-written h after w =
-        let q = done T word steps workspace n d k r p in
+        let q = done T word budget workspace n d k r p in
         let e = le-ltb (length before) (length (q .N) + length (q .D)) (omega (arith, q .n-length, q .d-length)) in
         answers-by (finished (q .N) (q .D) k r) (q .is) (Answer n d k) after
         (ap₂ (λ i j. answered (record { numerator = i; denominator = j; steps = k })) (sym (q .n-length)) (sym (q .d-length))
@@ -59,12 +59,13 @@ module _ (T : Presentation) (word : Word) (steps : ℕ) (workspace before : List
         (w (q .N) (q .D) (q .n-length) (q .d-length) (q .stands)
         ∙ sym (ap (λ t. outputAfter fractionBytes (unless t 13 (record { numerator = q .N; denominator = q .D; steps = k })) before) e))
 
-  pub met-open : (p : Pair) (k : ℕ) → Reverses T word steps workspace (Undefined p k) → Answers outcome before before (Refused (OpenPair p))
-  met-open p k q = answers-by (open-pair (p .a) (p .b) k) (met T word steps workspace p k q) (Refused (OpenPair p)) before refl refl
+  pub met-open : (p : Pair) (k : ℕ) → Reverses T word budget workspace (Undefined p k) → Answers outcome before before (Refused (OpenPair p))
+  met-open p k q = answers-by (open-pair (p .a) (p .b) k) (met T word budget workspace p k q) (Refused (OpenPair p)) before refl refl
 
-  pub was-stopped : (s : Stop) (why : Refusal) → why ≡ stopRefusal s → Reverses T word steps workspace (Stopped s) → Answers outcome before before (Refused why)
+  pub was-stopped : (s : Stop) (why : Refusal) → why ≡ stopRefusal s → Reverses T word budget workspace (Stopped s)
+      → Answers outcome before before (Refused why)
   was-stopped s why e q =
-      let h = halted T word steps workspace s q in
+      let h = halted T word budget workspace s q in
       answers-by (stopped (h .stop)) (h .is) (Refused why) before
       (ap refusal e ∙ sym (ap (λ x. refusal (stopRefusal x)) (h .told)) ∙ stop-numbered (h .stop)) refl
 

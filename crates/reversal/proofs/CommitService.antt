@@ -54,12 +54,12 @@ NotFinished (Finished n d k r) = ⊥
 NotFinished (Undefined p k) = Unit {0}
 NotFinished (Stopped s) = Unit {0}
 
-module _ (z : Sizes) (T : Presentation) (word : Word) (steps : ℕ) (workspace before : List ℕ) where
+module _ (z : Sizes) (T : Presentation) (word : Word) (budget : ℕ) (workspace before : List ℕ) where
   abbrev whole : Outcome Fraction
-  whole = committedOf z (length before) (end T word steps workspace)
+  whole = committedOf z (length before) (end T word budget workspace)
 
   abbrev reversed-outcome : Outcome Fraction
-  reversed-outcome = fractionOf (length before) (end T word steps workspace)
+  reversed-outcome = fractionOf (length before) (end T word budget workspace)
 
   -- where commit comes to what reverse does
   commits-as : whole ≡ reversed-outcome → {after : List ℕ} {r : Reversed}
@@ -67,27 +67,27 @@ module _ (z : Sizes) (T : Presentation) (word : Word) (steps : ℕ) (workspace b
   commits-as e a =
       record { result = a .result ∙ sym (ap (mapped sizes) e); area = a .area ∙ sym (ap (λ o. outputAfter fractionBytes o before) e) }
 
-  pub unfinished-commits : (e : EndingAnswer) → NotFinished e → Reverses T word steps workspace e → {after : List ℕ} {r : Reversed}
+  pub unfinished-commits : (e : EndingAnswer) → NotFinished e → Reverses T word budget workspace e → {after : List ℕ} {r : Reversed}
       → Answers reversed-outcome before after r → Answers whole before after r
   unfinished-commits (Finished n d k r) u p a = absurd u
   unfinished-commits (Undefined q k) u p a =
-      let e = met T word steps workspace q k p in
+      let e = met T word budget workspace q k p in
       commits-as (ap (committedOf z (length before)) e ∙ sym (ap (fractionOf (length before)) e)) a
   unfinished-commits (Stopped s) u p a =
-      let h = halted T word steps workspace s p in
+      let h = halted T word budget workspace s p in
       commits-as (ap (committedOf z (length before)) (h .is) ∙ sym (ap (fractionOf (length before)) (h .is))) a
 
-  module _ (n d k r : ℕ) (p : Reverses T word steps workspace (Finished n d k r)) where
+  module _ (n d k r : ℕ) (p : Reverses T word budget workspace (Finished n d k r)) where
     abbrev own : Sizes
     own = record { numerator = n; denominator = d; steps = k }
 
-    by-numbers : {t : Bool} → agree z own ≡ t → whole ≡ cond t (fractionOf (length before) (end T word steps workspace)) (refused 18 unplaced)
+    by-numbers : {t : Bool} → agree z own ≡ t → whole ≡ cond t (fractionOf (length before) (end T word budget workspace)) (refused 18 unplaced)
     by-numbers {t} e =
-        let q = done T word steps workspace n d k r p in
-        let sized : sizesOf (end T word steps workspace) ≡ answered own =
+        let q = done T word budget workspace n d k r p in
+        let sized : sizesOf (end T word budget workspace) ≡ answered own =
         ap sizesOf (q .is) ∙ ap₂ (λ i j. answered (record { numerator = i; denominator = j; steps = k })) (q .n-length) (q .d-length) in
-        ap (λ o. o >>= λ y. cond (agree z y) (fractionOf (length before) (end T word steps workspace)) (refused 18 unplaced)) sized
-        ∙ ap (λ t. cond t (fractionOf (length before) (end T word steps workspace)) (refused 18 unplaced)) e
+        ap (λ o. o >>= λ y. cond (agree z y) (fractionOf (length before) (end T word budget workspace)) (refused 18 unplaced)) sized
+        ∙ ap (λ t. cond t (fractionOf (length before) (end T word budget workspace)) (refused 18 unplaced)) e
 
     pub own-commits : agree z own ≡ true → {after : List ℕ} {s : Reversed} → Answers reversed-outcome before after s
         → Answers whole before after s
@@ -104,7 +104,7 @@ committed-late z area e = late-then (sizesOf e) _ (sizes-late e) (λ y. late-con
 
 -- THE SERVICE
 
-module _ (table program : List ℕ) (steps width : ℕ) (z : Sizes) (area : ℕ) where
+module _ (table program : List ℕ) (budget room : ℕ) (z : Sizes) (area : ℕ) where
   -- AND ENQUIRE AND REVERSE
 
   agreed : (t : Bool) (o : Outcome Fraction) (f : Fraction) → cond t o (refused 18 unplaced) ≡ answered f → o ≡ answered f
@@ -117,31 +117,31 @@ module _ (table program : List ℕ) (steps width : ℕ) (z : Sizes) (area : ℕ)
       agreed (agree z (x .0)) (fractionOf area e) f (x .2)
 
   -- what commit answers, reverse answers
-  pub commit-reverses : (f : Fraction) → commit table program steps width z area ≡ answered f → reverse table program steps width area ≡ answered f
+  pub commit-reverses : (f : Fraction) → commit table program budget room z area ≡ answered f → reverse table program budget room area ≡ answered f
   unfolding commit reverse
   commit-reverses f h =
-      let l = answer-of (readTableWith readProgram table program) (λ l. committedOf z area (reversing (l .table) steps width (l .word))) f h in
-      goes-on (readTableWith readProgram table program) (l .0) (l .1) _ ∙ committed-reverses (reversing (l .0 .table) steps width (l .0 .word)) f (l .2)
+      let l = answer-of (readTableWith readProgram table program) (λ l. committedOf z area (reversing (l .table) budget room (l .word))) f h in
+      goes-on (readTableWith readProgram table program) (l .0) (l .1) _ ∙ committed-reverses (reversing (l .0 .table) budget room (l .0 .word)) f (l .2)
 
-module _ (table program : List ℕ) (steps : ℕ) (workspace : List ℕ) (z : Sizes) (before : List ℕ) where
+module _ (table program : List ℕ) (budget : ℕ) (workspace : List ℕ) (z : Sizes) (before : List ℕ) where
   abbrev outcome : Outcome Fraction
-  outcome = commit table program steps (length workspace) z (length before)
+  outcome = commit table program budget (length workspace) z (length before)
 
   abbrev reversal : Outcome Fraction
-  reversal = reverse table program steps (length workspace) (length before)
+  reversal = reverse table program budget (length workspace) (length before)
 
   -- the service's promise
   pub promised : (workspace′ after : List ℕ) (told : Outcome Sizes) → told ≡ mapped sizes outcome → after ≡ outputAfter fractionBytes outcome before
-      → workspace′ ≡ workspaceAfter outcome workspace → CommitPromise table program steps z workspace workspace′ before after told
+      → workspace′ ≡ workspaceAfter outcome workspace → CommitPromise table program budget z workspace workspace′ before after told
   promised workspace′ after told t a k = record { stated = t; answer-is = a; workspace-is = k; meaning = record { answers = answers; as-reverse = as-reverse } }
     where
       same : (f : Fraction) → outcome ≡ answered f → outcome ≡ reversal
-      same f e = e ∙ sym (commit-reverses table program steps (length workspace) z (length before) f e)
+      same f e = e ∙ sym (commit-reverses table program budget (length workspace) z (length before) f e)
 
-      answers : enquire table program steps (length workspace) ≡ answered z → z .numerator + z .denominator ≤ length before
+      answers : enquire table program budget (length workspace) ≡ answered z → z .numerator + z .denominator ≤ length before
           → (told ≡ answered z) × (after ≡ outputAfter fractionBytes reversal before)
       answers h l =
-          let c = foretells table program steps (length workspace) (length before) .answers z h l in (
+          let c = foretells table program budget (length workspace) (length before) .answers z h l in (
             t ∙ (ap (mapped sizes) (c .3) ∙ ap answered (c .1)),
             a ∙ ap (λ o. outputAfter fractionBytes o before) (c .3 ∙ sym (c .2)),
           )

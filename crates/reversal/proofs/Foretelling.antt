@@ -66,7 +66,7 @@ module _ (area : ℕ) where
   after (refused n place) f g h p =
       record { answers = λ z e. impossible (cc); short-area = λ z e. impossible (cc); refuses = λ i there e. (cc, λ z. cc) }
 
-pub foretells : (table program : List ℕ) (steps width : ℕ) → EnquireSays table program steps width (enquire table program steps width)
+pub foretells : (table program : List ℕ) (budget room : ℕ) → EnquireSays table program budget room (enquire table program budget room)
 unfolding reverse enquire commit
-foretells table program steps width area =
-    after area (readTableWith readProgram table program) _ _ _ (λ l. of-ending area (reversing (l .table) steps width (l .word)))
+foretells table program budget room area =
+    after area (readTableWith readProgram table program) _ _ _ (λ l. of-ending area (reversing (l .table) budget room (l .word)))

@@ -7,7 +7,7 @@ use lib.Dec.{ltb}
 use lib.ListN.{length, replicate, length-reverse}
 use Rattle.model.specs.Word.{Word}
 use Rattle.model.specs.Presentation.{Presentation}
-use Rattle.model.specs.Reversing.{Ending, finished, open-pair, stopped, budget, room, reversing}
+use Rattle.model.specs.Reversing.{Ending, finished, open-pair, stopped, no-budget, no-room, reversing}
 use Rattle.model.specs.Outcome.{Outcome, answered, unless, mapped}
 use Rattle.model.specs.Images.{readTable, readProgram}
 use Rattle.model.specs.Mirror.{mirror, mirrorCheck, leftReversing}
@@ -35,28 +35,28 @@ use Rattle.reversal.specs.LeftReverse.{underMirror, turnedFraction, Left
 
 -- A PROGRAM UNDER A TABLE THAT WAS LOADED
 
-module _ (T : Presentation) (w : Word) (steps width area : ℕ) where
-  no-mirror-outcome : (p : Pair) → mirrorCheck T ≡ refusal (NoMirror p) → leftFraction T w steps width area ≡ refusal (NoMirror p)
+module _ (T : Presentation) (w : Word) (budget room area : ℕ) where
+  no-mirror-outcome : (p : Pair) → mirrorCheck T ≡ refusal (NoMirror p) → leftFraction T w budget room area ≡ refusal (NoMirror p)
   unfolding leftFraction
-  no-mirror-outcome p e = still-refused (mirrorCheck T) (NoMirror p) e (λ ok. fractionOf area (leftReversing T steps width w))
+  no-mirror-outcome p e = still-refused (mirrorCheck T) (NoMirror p) e (λ ok. fractionOf area (leftReversing T budget room w))
 
-  under-mirror : mirrorCheck T ≡ answered tt → leftFraction T w steps width area ≡ underMirror T w steps width area
+  under-mirror : mirrorCheck T ≡ answered tt → leftFraction T w budget room area ≡ underMirror T w budget room area
   unfolding leftFraction
-  under-mirror e = goes-on (mirrorCheck T) tt e (λ ok. fractionOf area (leftReversing T steps width w)) ∙ ap (fractionOf area) (left-is-right T steps width w)
+  under-mirror e = goes-on (mirrorCheck T) tt e (λ ok. fractionOf area (leftReversing T budget room w)) ∙ ap (fractionOf area) (left-is-right T budget room w)
 
-module _ (T : Presentation) (w : Word) (steps : ℕ) (workspace before : List ℕ) where
+module _ (T : Presentation) (w : Word) (budget : ℕ) (workspace before : List ℕ) where
   -- 16 comes before the work
   pub no-mirror : (p : Pair) → mirrorCheck T ≡ refusal (NoMirror p)
-      → States (leftFraction T w steps (length workspace) (length before)) workspace workspace before before (Refused (NoMirror p))
+      → States (leftFraction T w budget (length workspace) (length before)) workspace workspace before before (Refused (NoMirror p))
   no-mirror p e =
-      run-states _ (refusal (NoMirror p)) (no-mirror-outcome T w steps (length workspace) (length before) p e)
+      run-states _ (refusal (NoMirror p)) (no-mirror-outcome T w budget (length workspace) (length before) p e)
       (record { result = refl; area = refl; work = refl })
 
   pub has-mirror : mirrorCheck T ≡ answered tt → (workspace′ after : List ℕ) (r : Reversed) → workspace′ ≡ replicate (length workspace) 0
-      → Answers (underMirror T w steps (length workspace) (length before)) before after r
-      → States (leftFraction T w steps (length workspace) (length before)) workspace workspace′ before after r
+      → Answers (underMirror T w budget (length workspace) (length before)) before after r
+      → States (leftFraction T w budget (length workspace) (length before)) workspace workspace′ before after r
   has-mirror e workspace′ after r =
-      answered-states LeftReverse (reversing (mirror T) steps (length workspace) (reverse w)) _ (under-mirror T w steps (length workspace) (length before) e)
+      answered-states LeftReverse (reversing (mirror T) budget (length workspace) (reverse w)) _ (under-mirror T w budget (length workspace) (length before) e)
 
 -- THE ANSWER READ BACKWARD AGAIN
 
@@ -76,27 +76,27 @@ module _ (area : ℕ) where
       (record { numerator = n; denominator = d; steps = k })
       (ap₂ (λ x y. record { numerator = x; denominator = y; steps = k }) (reverse-reverse n) (reverse-reverse d))
   turned-ending (open-pair a b k) = refl
-  turned-ending (stopped budget) = refl
-  turned-ending (stopped room) = refl
+  turned-ending (stopped no-budget) = refl
+  turned-ending (stopped no-room) = refl
 
 -- THE SERVICE
 
-module _ (table program : List ℕ) (steps : ℕ) (workspace before : List ℕ) where
+module _ (table program : List ℕ) (budget : ℕ) (workspace before : List ℕ) where
   abbrev outcome : Outcome Fraction
-  outcome = leftReverse table program steps (length workspace) (length before)
+  outcome = leftReverse table program budget (length workspace) (length before)
 
   -- the service's promise
   pub promised : (workspace′ after : List ℕ) (told : Outcome Sizes) → told ≡ mapped sizes outcome → after ≡ outputAfter fractionBytes outcome before
-      → workspace′ ≡ workspaceAfter outcome workspace → LeftPromise table program steps workspace workspace′ before after told
+      → workspace′ ≡ workspaceAfter outcome workspace → LeftPromise table program budget workspace workspace′ before after told
   promised workspace′ after told t a k = record { stated = t; answer-is = a; workspace-is = k; meaning = says }
     where
-      says : LeftSays table program steps (length workspace) before after told
+      says : LeftSays table program budget (length workspace) before after told
       says T e w f m =
-          let o = images-run table program steps (length workspace) (length before) LeftReverse T e w f
-          ∙ under-mirror T w steps (length workspace) (length before) m in
+          let o = images-run table program budget (length workspace) (length before) LeftReverse T e w f
+          ∙ under-mirror T w budget (length workspace) (length before) m in
           let told-is = t ∙ ap (mapped sizes) o in
           let written-is = a ∙ ap (λ q. outputAfter fractionBytes q before) o in
-          let right = reversing (mirror T) steps (length workspace) (reverse w) in
+          let right = reversing (mirror T) budget (length workspace) (reverse w) in
           let left : mapped turnedFraction (mapped (fractionLeft after) told) ≡ fractionOf (length before) right =
           ap (mapped turnedFraction)
           (ap₂ (λ x y. mapped (fractionLeft x) y) written-is told-is ∙ left-outcome (fractionOf (length before) (readBackward right)) before)
@@ -105,5 +105,6 @@ module _ (table program : List ℕ) (steps : ℕ) (workspace before : List ℕ) 
             told-is = told-is;
             written-is = written-is;
             left-is-right = left-is-right T;
-            orders-say = subst (OrderMeaning (mirror T) (reverse w)) (sym left) (order-meaning (mirror T) steps (length workspace) (length before) (reverse w));
+            orders-say = subst (OrderMeaning (mirror T) (reverse w)) (sym left)
+                (order-meaning (mirror T) budget (length workspace) (length before) (reverse w));
           }

@@ -116,15 +116,15 @@ sizes-turned (answered f) =
     ap₂ (λ i j. answered (record { numerator = i; denominator = j; steps = f .steps })) (length-reverse (f .numerator)) (length-reverse (f .denominator))
 sizes-turned (refused n place) = refl
 
-module _ (T : Presentation) (word : Word) (budget width : ℕ) (before mid : List ℕ) where
+module _ (T : Presentation) (word : Word) (budget room : ℕ) (before mid : List ℕ) where
   abbrev outcome : Outcome Fraction
-  outcome = fractionOf (length before) (reversing T budget width word)
+  outcome = fractionOf (length before) (reversing T budget room word)
 
   abbrev backward : Outcome Fraction
-  backward = fractionOf (length before) (readBackward (reversing T budget width word))
+  backward = fractionOf (length before) (readBackward (reversing T budget room word))
 
   turned-outcome : backward ≡ mapped turnedFraction outcome
-  turned-outcome = fraction-turned (length before) (reversing T budget width word)
+  turned-outcome = fraction-turned (length before) (reversing T budget room word)
 
   pub refused-backward : (r : Refusal) → Answers outcome before mid (Refused r) → Answers backward before mid (Refused r)
   refused-backward r a =

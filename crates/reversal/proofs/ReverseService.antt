@@ -30,10 +30,10 @@ pub left-outcome : (o : Outcome Fraction) (before : List ℕ) → mapped (fracti
 left-outcome (answered f) before = ap answered (left-fraction f before)
 left-outcome (refused i numbers) before = refl
 
-module _ (table program : List ℕ) (steps width area : ℕ) where
-  pub reverse-says : (told : Outcome Sizes) (before after : List ℕ) → told ≡ mapped sizes (reverse table program steps width area)
-      → after ≡ outputAfter fractionBytes (reverse table program steps width area) before → ReverseSays table program told after
+module _ (table program : List ℕ) (budget room area : ℕ) where
+  pub reverse-says : (told : Outcome Sizes) (before after : List ℕ) → told ≡ mapped sizes (reverse table program budget room area)
+      → after ≡ outputAfter fractionBytes (reverse table program budget room area) before → ReverseSays table program told after
   reverse-says told before after t a T e w f =
-      let run = images-run table program steps width area Reverse T e w f in
-      let left = ap₂ (λ x y. mapped (fractionLeft x) y) a t ∙ (left-outcome (reverse table program steps width area) before ∙ run) in
-      subst (OrderMeaning T w) (sym left) (order-meaning T steps width area w)
+      let run = images-run table program budget room area Reverse T e w f in
+      let left = ap₂ (λ x y. mapped (fractionLeft x) y) a t ∙ (left-outcome (reverse table program budget room area) before ∙ run) in
+      subst (OrderMeaning T w) (sym left) (order-meaning T budget room area w)

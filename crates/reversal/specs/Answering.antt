@@ -32,9 +32,9 @@ pub record States (outcome : Outcome Fraction) (workspace workspace′ before af
 
 -- a program under a table, each as it was read
 abbrev pub loadedOf : Asked → Presentation → Word → ℕ → ℕ → ℕ → Outcome Fraction
-loadedOf Reverse T w steps width area = fractionOf area (reversing T steps width w)
-loadedOf LeftReverse T w steps width area = leftFraction T w steps width area
-loadedOf (Commit h) T w steps width area = committedOf (handed h) area (reversing T steps width w)
+loadedOf Reverse T w budget room area = fractionOf area (reversing T budget room w)
+loadedOf LeftReverse T w budget room area = leftFraction T w budget room area
+loadedOf (Commit h) T w budget room area = committedOf (handed h) area (reversing T budget room w)
 
 -- .. under every table that the cells stand for
 abbrev pub LoadedAnswered : Asked → List ℕ → ℕ → List ℕ → ℕ → List ℕ → List ℕ → List ℕ → List ℕ → Reversed → Type 0
@@ -44,10 +44,10 @@ LoadedAnswered asked cells size program budget workspace workspace′ before aft
 
 -- the services reverse, left_reverse and commit, of the images
 abbrev pub outcomeOf : Asked → List ℕ → List ℕ → ℕ → ℕ → ℕ → Outcome Fraction
-outcomeOf Reverse table program steps width area = reverse table program steps width area
-outcomeOf LeftReverse table program steps width area = leftReverse table program steps width area
-outcomeOf (Commit h) table program steps width area = commit table program steps width (handed h) area
+outcomeOf Reverse table program budget room area = reverse table program budget room area
+outcomeOf LeftReverse table program budget room area = leftReverse table program budget room area
+outcomeOf (Commit h) table program budget room area = commit table program budget room (handed h) area
 
 abbrev pub ImagesAnswered : Asked → List ℕ → List ℕ → ℕ → List ℕ → List ℕ → List ℕ → List ℕ → Reversed → Type 0
-ImagesAnswered asked table program steps workspace workspace′ before after r =
-    States (outcomeOf asked table program steps (length workspace) (length before)) workspace workspace′ before after r
+ImagesAnswered asked table program budget workspace workspace′ before after r =
+    States (outcomeOf asked table program budget (length workspace) (length before)) workspace workspace′ before after r

@@ -9,12 +9,12 @@ use Rattle.model.specs.Areas.{fractionBytes, outputAfter, workspaceAfter}
 
 -- with the numbers of an answered enquiry, and an area as long as both lengths together, commit answers with them, and writes what reverse would write; and
 -- whatever it answers, reverse would answer and write
-pub record CommitSays (table program : List ℕ) (steps width : ℕ) (z : Sizes) (before after : List ℕ) (told : Outcome Sizes) : Type 0 where
-  pub answers : enquire table program steps width ≡ answered z → z .numerator + z .denominator ≤ length before
-      → (told ≡ answered z) × (after ≡ outputAfter fractionBytes (reverse table program steps width (length before)) before)
+pub record CommitSays (table program : List ℕ) (budget room : ℕ) (z : Sizes) (before after : List ℕ) (told : Outcome Sizes) : Type 0 where
+  pub answers : enquire table program budget room ≡ answered z → z .numerator + z .denominator ≤ length before
+      → (told ≡ answered z) × (after ≡ outputAfter fractionBytes (reverse table program budget room (length before)) before)
   pub as-reverse : (y : Sizes) → told ≡ answered y
-      → (mapped sizes (reverse table program steps width (length before)) ≡ answered y)
-      × (after ≡ outputAfter fractionBytes (reverse table program steps width (length before)) before)
+      → (mapped sizes (reverse table program budget room (length before)) ≡ answered y)
+      × (after ≡ outputAfter fractionBytes (reverse table program budget room (length before)) before)
 
 -- THE SERVICE'S PROMISE (6.16): the outcome that is told, both areas after the call, and what the outcome means
 pub record CommitPromise (table program : List ℕ) (allowance : ℕ) (numbers : Sizes) (workspace workspace′ answer answer′ : List ℕ)

@@ -43,8 +43,8 @@ pub record Foretells (told : Outcome Sizes) (area : ℕ) (reversing : Outcome Fr
 
 -- WHAT AN ANSWER MEANS (specification 6.15): what was told, of the same images, allowance and workspace, and of every answer area
 abbrev pub EnquireSays : List ℕ → List ℕ → ℕ → ℕ → Outcome Sizes → Type 0
-EnquireSays table program steps width told =
-    (area : ℕ) → Foretells told area (reverse table program steps width area) (λ z. commit table program steps width z area)
+EnquireSays table program budget room told =
+    (area : ℕ) → Foretells told area (reverse table program budget room area) (λ z. commit table program budget room z area)
 
 -- THE SERVICE'S PROMISE (6.15): the outcome that is told, the workspace after the call, and what the outcome means
 pub record EnquirePromise (table program : List ℕ) (allowance : ℕ) (workspace workspace′ : List ℕ) (outcome : Outcome Sizes) : Type 0 where

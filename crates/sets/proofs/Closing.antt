@@ -36,44 +36,44 @@ told-then : {A B : Type 0} (o : Outcome A) (f : A → Outcome B) → told (o >>=
 told-then (answered x) f = refl
 told-then (refused n place) f = refl
 
-module _ (T : Presentation) (steps width : ℕ) where
+module _ (T : Presentation) (budget room : ℕ) where
   -- a place that is there
   on-place : (rounds m : ℕ) (vs : List Positive) → m < length vs
-      → grownFrom T steps width (suc rounds) m vs ≡ (takenPairs T steps width (placesAt m) vs >>= grownFrom T steps width rounds (suc m))
+      → grownFrom T budget room (suc rounds) m vs ≡ (takenPairs T budget room (placesAt m) vs >>= grownFrom T budget room rounds (suc m))
   unfolding grownFrom
   on-place rounds m vs h =
-      ap (λ t. cond t (takenPairs T steps width (placesAt m) vs >>= grownFrom T steps width rounds (suc m)) (answered vs)) (lt-ltb m (length vs) h)
+      ap (λ t. cond t (takenPairs T budget room (placesAt m) vs >>= grownFrom T budget room rounds (suc m)) (answered vs)) (lt-ltb m (length vs) h)
 
   -- no place is left
-  past-places : (rounds m : ℕ) (vs : List Positive) → length vs ≤ m → grownFrom T steps width rounds m vs ≡ answered vs
+  past-places : (rounds m : ℕ) (vs : List Positive) → length vs ≤ m → grownFrom T budget room rounds m vs ≡ answered vs
   unfolding grownFrom
   past-places zero m vs h = refl
   past-places (suc rounds) m vs h =
-      ap (λ t. cond t (takenPairs T steps width (placesAt m) vs >>= grownFrom T steps width rounds (suc m)) (answered vs)) (le-ltb m (length vs) h)
+      ap (λ t. cond t (takenPairs T budget room (placesAt m) vs >>= grownFrom T budget room rounds (suc m)) (answered vs)) (le-ltb m (length vs) h)
 
   -- the words alone are longer than the workspace, and a place is left
-  long-places : (m : ℕ) (vs : List Positive) (after : List Positive → Outcome (Unit {0})) → width < setBytes vs
-      → (takenPairs T steps width (placesAt m) vs >>= after) ≡ stoppedAs Room
-  long-places zero vs after h = pair-stops T steps width vs (sidedPair First 0 0) [] after h
+  long-places : (m : ℕ) (vs : List Positive) (after : List Positive → Outcome (Unit {0})) → room < setBytes vs
+      → (takenPairs T budget room (placesAt m) vs >>= after) ≡ stoppedAs Room
+  long-places zero vs after h = pair-stops T budget room vs (sidedPair First 0 0) [] after h
   long-places (suc m) vs after h =
-      pair-stops T steps width vs (sidedPair Second (suc m) 0) (map (sidedPair Second (suc m)) (range 1 m) ++ sided First (suc m)) after h
+      pair-stops T budget room vs (sidedPair Second (suc m) 0) (map (sidedPair Second (suc m)) (range 1 m) ++ sided First (suc m)) after h
 
-  long-stops : (rounds m : ℕ) (vs : List Positive) → 1 ≤ rounds → m < length vs → width < setBytes vs
-      → told (grownFrom T steps width rounds m vs) ≡ stoppedAs Room
+  long-stops : (rounds m : ℕ) (vs : List Positive) → 1 ≤ rounds → m < length vs → room < setBytes vs
+      → told (grownFrom T budget room rounds m vs) ≡ stoppedAs Room
   long-stops zero m vs r h long = absurd (omega arith)
   long-stops (suc rounds) m vs r h long =
       ap told (on-place rounds m vs h)
-      ∙ (told-then (takenPairs T steps width (placesAt m) vs) (grownFrom T steps width rounds (suc m))
-      ∙ long-places m vs (λ ws. told (grownFrom T steps width rounds (suc m) ws)) long)
+      ∙ (told-then (takenPairs T budget room (placesAt m) vs) (grownFrom T budget room rounds (suc m))
+      ∙ long-places m vs (λ ws. told (grownFrom T budget room rounds (suc m) ws)) long)
 
   -- the first words do
-  pub first-stops : width < 1 + 2 * T .size → stoppedAs Room ≡ told (grownSet T steps width)
+  pub first-stops : room < 1 + 2 * T .size → stoppedAs Room ≡ told (grownSet T budget room)
   unfolding grownSet
   first-stops h =
       sym (long-stops mostWords 0 (firstWords (T .size)) (omega arith) (omega (arith, first-count (T .size))) (omega (arith, first-bytes (T .size))))
 
 -- so many places were gone through; the next word begins at a byte
-pub record Closing (T : Presentation) (steps width : ℕ) (area : List ℕ) (h : Held) (at : ℕ) : Type 0 where
+pub record Closing (T : Presentation) (budget room : ℕ) (area : List ℕ) (h : Held) (at : ℕ) : Type 0 where
   pub place : ℕ
   pub rounds : ℕ
   pub all : place + rounds ≡ mostWords
@@ -81,12 +81,12 @@ pub record Closing (T : Presentation) (steps width : ℕ) (area : List ℕ) (h :
   pub growing : Growing (T .size) area h words
   pub within : place ≤ length words
   pub at-is : at ≡ setBytes (take place words)
-  pub left : grownSet T steps width ≡ grownFrom T steps width rounds place words
+  pub left : grownSet T budget room ≡ grownFrom T budget room rounds place words
 
-pub closing-begun : (T : Presentation) (steps width size : ℕ) (area : List ℕ) → T .size ≡ size → size ≤ 16 → 1 + 2 * size ≤ length area
-    → take (1 + 2 * size) area ≡ listingBytes (firstWords size) → Closing T steps width area (record { used = 1 + 2 * size; words = 1 + size }) 0
+pub closing-begun : (T : Presentation) (budget room size : ℕ) (area : List ℕ) → T .size ≡ size → size ≤ 16 → 1 + 2 * size ≤ length area
+    → take (1 + 2 * size) area ≡ listingBytes (firstWords size) → Closing T budget room area (record { used = 1 + 2 * size; words = 1 + size }) 0
 unfolding grownSet
-closing-begun T steps width size area e small inside bytes =
+closing-begun T budget room size area e small inside bytes =
     let n = first-count (T .size) in
     record {
       place = 0;
@@ -110,12 +110,12 @@ closing-begun T steps width size area e small inside bytes =
       left = refl;
     }
 
-module _ {T : Presentation} {steps width : ℕ} {area : List ℕ} {h : Held} {at : ℕ} (k : Closing T steps width area h at) where
+module _ {T : Presentation} {budget room : ℕ} {area : List ℕ} {h : Held} {at : ℕ} (k : Closing T budget room area h at) where
   used-all : h .used ≡ setBytes (take (length (k .words)) (k .words))
   used-all = used-is (T .size) area (h .used) (k .words) (k .growing .lists) ∙ ap setBytes (sym (take-length (k .words)))
 
-  pub closing-closed : h .used ≤ at → answered tt ≡ told (grownSet T steps width)
-  closing-closed l = sym (ap told (k .left ∙ past-places T steps width (k .rounds) (k .place) (k .words) (gone (decLt (k .place) (length (k .words))))))
+  pub closing-closed : h .used ≤ at → answered tt ≡ told (grownSet T budget room)
+  closing-closed l = sym (ap told (k .left ∙ past-places T budget room (k .rounds) (k .place) (k .words) (gone (decLt (k .place) (length (k .words))))))
     where
       gone : Dec (k .place < length (k .words)) → length (k .words) ≤ k .place
       gone (yes p) = absurd (omega (arith, word-inside (T .size) area (h .used) (k .words) (k .growing .lists) (k .place) p, k .at-is))
@@ -128,11 +128,11 @@ module _ {T : Presentation} {steps width : ℕ} {area : List ℕ} {h : Held} {at
     pub closing-end : HasEnd area at
     closing-end = word-has-end (T .size) area (h .used) (k .words) (k .growing .lists) (k .place) here at (k .at-is)
 
-    step : grownSet T steps width ≡ (takenPairs T steps width (placesAt (k .place)) (k .words) >>= grownFrom T steps width (k .rounds - 1) (suc (k .place)))
+    step : grownSet T budget room ≡ (takenPairs T budget room (placesAt (k .place)) (k .words) >>= grownFrom T budget room (k .rounds - 1) (suc (k .place)))
     step =
         let e : k .rounds ≡ suc (k .rounds - 1) = omega (arith, k .all, here, k .growing .few) in
         k .left
-        ∙ (ap (λ r. grownFrom T steps width r (k .place) (k .words)) e ∙ on-place T steps width (k .rounds - 1) (k .place) (k .words) here)
+        ∙ (ap (λ r. grownFrom T budget room r (k .place) (k .words)) e ∙ on-place T budget room (k .rounds - 1) (k .place) (k .words) here)
 
     module _ (end : ℕ) (f : EndFound area at end) where
       pub closing-later : {cells : List ℕ} → Stands cells T → LaterWord cells area h (record { at = at; letters = end - at }) T (k .words) (k .place)
@@ -144,26 +144,26 @@ module _ {T : Presentation} {steps width : ℕ} {area : List ℕ} {h : Held} {at
           }
 
       -- the pairs of the place were taken
-      module _ (after : List ℕ) (r : Step) (same : length area ≡ width) (kept : length after ≡ length area)
-          (means : StepMeans (T .size) after (k .words) (takenPairs T steps (length area) (placesAt (k .place)) (k .words)) r) where
-        at-width : StepMeans (T .size) after (k .words) (takenPairs T steps width (placesAt (k .place)) (k .words)) r
-        at-width = subst (λ i. StepMeans (T .size) after (k .words) (takenPairs T steps i (placesAt (k .place)) (k .words)) r) same means
+      module _ (after : List ℕ) (r : Step) (same : length area ≡ room) (kept : length after ≡ length area)
+          (means : StepMeans (T .size) after (k .words) (takenPairs T budget (length area) (placesAt (k .place)) (k .words)) r) where
+        at-room : StepMeans (T .size) after (k .words) (takenPairs T budget room (placesAt (k .place)) (k .words)) r
+        at-room = subst (λ i. StepMeans (T .size) after (k .words) (takenPairs T budget i (placesAt (k .place)) (k .words)) r) same means
 
-        pub closing-ended : (g : Grown) → r ≡ Ended g → grownAs g ≡ told (grownSet T steps width)
+        pub closing-ended : (g : Grown) → r ≡ Ended g → grownAs g ≡ told (grownSet T budget room)
         closing-ended g e =
-            let ended : StepMeans (T .size) after (k .words) (takenPairs T steps width (placesAt (k .place)) (k .words)) (Ended g) =
-            subst (StepMeans (T .size) after (k .words) (takenPairs T steps width (placesAt (k .place)) (k .words))) e at-width in
-            let n : length after ≡ width = kept ∙ same in
-            ended (λ ws. told (grownFrom T steps width (k .rounds - 1) (suc (k .place)) ws))
+            let ended : StepMeans (T .size) after (k .words) (takenPairs T budget room (placesAt (k .place)) (k .words)) (Ended g) =
+            subst (StepMeans (T .size) after (k .words) (takenPairs T budget room (placesAt (k .place)) (k .words))) e at-room in
+            let n : length after ≡ room = kept ∙ same in
+            ended (λ ws. told (grownFrom T budget room (k .rounds - 1) (suc (k .place)) ws))
             (λ ws more few long.
-            long-stops T steps width (k .rounds - 1) (suc (k .place)) ws (omega (arith, k .all, here)) (omega (arith, here)) (omega (arith, n)))
-            ∙ (sym (told-then (takenPairs T steps width (placesAt (k .place)) (k .words)) (grownFrom T steps width (k .rounds - 1) (suc (k .place))))
+            long-stops T budget room (k .rounds - 1) (suc (k .place)) ws (omega (arith, k .all, here)) (omega (arith, here)) (omega (arith, n)))
+            ∙ (sym (told-then (takenPairs T budget room (placesAt (k .place)) (k .words)) (grownFrom T budget room (k .rounds - 1) (suc (k .place))))
             ∙ ap told (sym step))
 
-        pub closing-more : (h′ : Held) → r ≡ Going h′ → Closing T steps width after h′ (end + 1)
+        pub closing-more : (h′ : Held) → r ≡ Going h′ → Closing T budget room after h′ (end + 1)
         closing-more h′ e =
-            let g : Grew (T .size) after (k .words) (takenPairs T steps width (placesAt (k .place)) (k .words)) h′ =
-            subst (StepMeans (T .size) after (k .words) (takenPairs T steps width (placesAt (k .place)) (k .words))) e at-width in
+            let g : Grew (T .size) after (k .words) (takenPairs T budget room (placesAt (k .place)) (k .words)) h′ =
+            subst (StepMeans (T .size) after (k .words) (takenPairs T budget room (placesAt (k .place)) (k .words))) e at-room in
             let n : length (g .words) ≡ length (k .words) + length (g .added) = ap length (g .extends) ∙ length-append (k .words) (g .added) in
             record {
               place = suc (k .place);
@@ -175,5 +175,5 @@ module _ {T : Presentation} {steps width : ℕ} {area : List ℕ} {h : Held} {at
               at-is =
                   next-start (T .size) area (h .used) (k .words) (k .growing .lists) (k .place) here at (k .at-is) end f
                   ∙ (sym (start-more (k .words) (g .added) (suc (k .place)) here) ∙ ap (λ l. setBytes (take (suc (k .place)) l)) (sym (g .extends)));
-              left = step ∙ ap (λ o. o >>= grownFrom T steps width (k .rounds - 1) (suc (k .place))) (g .is);
+              left = step ∙ ap (λ o. o >>= grownFrom T budget room (k .rounds - 1) (suc (k .place))) (g .is);
             }

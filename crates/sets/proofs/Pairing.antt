@@ -10,7 +10,7 @@ use lib.Seq.{drop-drop, take-add, length-take-le}
 use Rattle.model.specs.Word.{Positive, positive, negative}
 use Rattle.model.specs.Presentation.{Presentation}
 use Rattle.model.specs.Range.{Lettered}
-use Rattle.model.specs.Reversing.{Ending, finished, open-pair, stopped, budget, room, reversing}
+use Rattle.model.specs.Reversing.{Ending, finished, open-pair, stopped, no-budget, no-room, reversing}
 use Rattle.model.specs.Enumeration.{Two}
 use Rattle.model.specs.Outcome.{Outcome, _>>=_}
 use Rattle.model.specs.Signed.{setBytes, addedTo}
@@ -38,38 +38,38 @@ use Rattle.sets.proofs.Spelling.{used-is, word-named, word-part, word-i
 -- ENDINGS
 
 -- the numerator at the room's start
-pub record Numerator (n : ℕ) (room : List ℕ) (e : Ending) (count : ℕ) : Type 0 where
+pub record Numerator (n : ℕ) (no-room : List ℕ) (e : Ending) (count : ℕ) : Type 0 where
   pub word : Positive
   pub others : Positive
   pub steps : ℕ
   pub relations : ℕ
   pub is : e ≡ finished word others steps relations
-  pub stands : take count room ≡ word
+  pub stands : take count no-room ≡ word
   pub named : Lettered n (positive word)
-  pub fits : count ≤ length room
+  pub fits : count ≤ length no-room
 
-module _ {n : ℕ} {room : List ℕ} where
-  numerator-of : (e : Ending) → LeavesWord e room → LeavesLetters n e → (count d k r : ℕ) → Finished count d k r ≡ endingAnswer e
-      → Numerator n room e count
+module _ {n : ℕ} {no-room : List ℕ} where
+  numerator-of : (e : Ending) → LeavesWord e no-room → LeavesLetters n e → (count d k r : ℕ) → Finished count d k r ≡ endingAnswer e
+      → Numerator n no-room e count
   numerator-of (finished w o i j) h l count d k r e =
       let c : count ≡ length w = cc in
-      let all : letters (take (length w + length o) room) ≡ letters (take (length w) room) ++ letters (take (length o) (drop (length w) room)) =
-      ap letters (take-add (length w) (length o) room) ∙ letters-append (take (length w) room) (take (length o) (drop (length w) room)) in
+      let all : letters (take (length w + length o) no-room) ≡ letters (take (length w) no-room) ++ letters (take (length o) (drop (length w) no-room)) =
+      ap letters (take-add (length w) (length o) no-room) ∙ letters-append (take (length w) no-room) (take (length o) (drop (length w) no-room)) in
       let long : length (positive w ++ negative o) ≡ length w + length o =
       length-append (positive w) (negative o) ∙ ap₂ (λ x y. x + y) (length-positive w) (length-negative o) in
-      let short : length (take (length w + length o) room) ≡ length w + length o =
-      sym (length-letters (take (length w + length o) room)) ∙ (ap length h ∙ long) in
-      let inside : length w ≤ length room = omega (arith, short, length-take (length w + length o) room) in
-      let front : letters (take (length w) room) ≡ positive w =
-      front-of (letters (take (length w) room)) (letters (take (length o) (drop (length w) room))) (positive w) (negative o)
-      (length-letters (take (length w) room) ∙ (length-take-le (length w) room inside ∙ sym (length-positive w))) (sym all ∙ h) .0 in
+      let short : length (take (length w + length o) no-room) ≡ length w + length o =
+      sym (length-letters (take (length w + length o) no-room)) ∙ (ap length h ∙ long) in
+      let inside : length w ≤ length no-room = omega (arith, short, length-take (length w + length o) no-room) in
+      let front : letters (take (length w) no-room) ≡ positive w =
+      front-of (letters (take (length w) no-room)) (letters (take (length o) (drop (length w) no-room))) (positive w) (negative o)
+      (length-letters (take (length w) no-room) ∙ (length-take-le (length w) no-room inside ∙ sym (length-positive w))) (sym all ∙ h) .0 in
       record {
         word = w;
         others = o;
         steps = i;
         relations = j;
         is = refl;
-        stands = ap (λ i. take i room) c ∙ letters-forward (take (length w) room) w front;
+        stands = ap (λ i. take i no-room) c ∙ letters-forward (take (length w) no-room) w front;
         named = lettered-front n (positive w) (negative o) l;
         fits = omega (arith, c, inside);
       }
@@ -85,8 +85,8 @@ module _ (vs : List Positive) (after : List Positive → Outcome (Unit {0})) whe
   stop-met : (e : Ending) (s : Stop) → Stopped s ≡ endingAnswer e → grownAs (GrownStopped s) ≡ (addedTo vs e >>= after)
   stop-met (finished w o i j) s e = impossible (cc)
   stop-met (open-pair a b i) s e = impossible (cc)
-  stop-met (stopped budget) s e = let f : s ≡ Budget = cc in ap stoppedAs f
-  stop-met (stopped room) s e = let f : s ≡ Room = cc in ap stoppedAs f
+  stop-met (stopped no-budget) s e = let f : s ≡ Budget = cc in ap stoppedAs f
+  stop-met (stopped no-room) s e = let f : s ≡ Room = cc in ap stoppedAs f
 
 -- THE PAIR
 
@@ -106,7 +106,7 @@ module _ {cells area : List ℕ} {h : Held} {u v : Span} {T : Presentation} {vs 
 
   in-room : afterPair T steps (length area) vs p ≡ addedTo vs (reversing T steps (length area - h .used) (pairWord vs p))
   in-room =
-      ap (λ t. addedTo vs (cond t (stopped room) (reversing T steps (length area - setBytes vs) (pairWord vs p))))
+      ap (λ t. addedTo vs (cond t (stopped no-room) (reversing T steps (length area - setBytes vs) (pairWord vs p))))
       (le-ltb (length area) (setBytes vs) (omega (arith, bytes, inside)))
       ∙ ap (λ k. addedTo vs (reversing T steps (length area - k) (pairWord vs p))) (sym bytes)
 
@@ -119,7 +119,7 @@ module _ {cells area : List ℕ} {h : Held} {u v : Span} {T : Presentation} {vs 
   pub pair-long : length area - h .used < u .letters + v .letters → (after : List Positive → Outcome (Unit {0}))
       → stoppedAs Room ≡ (afterPair T steps (length area) vs p >>= after)
   pair-long l after =
-      let e : reversing T steps (length area - h .used) (pairWord vs p) ≡ stopped room =
+      let e : reversing T steps (length area - h .used) (pairWord vs p) ≡ stopped no-room =
       reversing-long T steps (length area - h .used) (pairWord vs p) (omega (arith, word-letters)) in
       sym (ap (λ o. o >>= after) (in-room ∙ ap (addedTo vs) e))
 

@@ -131,7 +131,7 @@ module _ (cells room mid : List ℕ) (left right : ℕ) (T : Presentation) (u v 
   pair-serves =
       load-serves mid left (length mid - right) u v ordered (omega arith) left-word right-word (s .stands) (s .u-named) (s .v-named)
 
-  pub pair-reverses : (steps : ℕ) (after : List ℕ) (r : EndingAnswer) → Reverses T (wordAt mid left (length mid - right)) steps after r
-      → Reverses T (negative u ++ positive v) steps after r
-  pair-reverses steps after r p =
-      subst (λ w. Reverses T w steps after r) (loaded mid left (length mid - right) u v ordered (omega arith) left-word right-word) p
+  pub pair-reverses : (budget : ℕ) (after : List ℕ) (r : EndingAnswer) → Reverses T (wordAt mid left (length mid - right)) budget after r
+      → Reverses T (negative u ++ positive v) budget after r
+  pair-reverses budget after r p =
+      subst (λ w. Reverses T w budget after r) (loaded mid left (length mid - right) u v ordered (omega arith) left-word right-word) p

@@ -8,7 +8,7 @@ use borrow.Author.Tests.{lt-ltb}
 use lib.ListN.{length, take, length-append}
 use Rattle.model.specs.Word.{Positive}
 use Rattle.model.specs.Presentation.{Presentation}
-use Rattle.model.specs.Reversing.{room, stopped, reversing}
+use Rattle.model.specs.Reversing.{no-room, stopped, reversing}
 use Rattle.model.specs.Enumeration.{range, Two}
 use Rattle.model.specs.Outcome.{Outcome, answered, refused, _>>=_}
 use Rattle.model.specs.Signed.{setBytes, addedTo, takenPairs}
@@ -28,37 +28,37 @@ pub then-assoc : {A B C : Type 0} (o : Outcome A) (f : A → Outcome B) (g : B �
 then-assoc (answered x) f g = refl
 then-assoc (refused n place) f g = refl
 
-module _ (T : Presentation) (steps width : ℕ) where
+module _ (T : Presentation) (budget room : ℕ) where
   pub taken-both : (ps qs : List Two) (vs : List Positive)
-      → takenPairs T steps width (ps ++ qs) vs ≡ (takenPairs T steps width ps vs >>= takenPairs T steps width qs)
+      → takenPairs T budget room (ps ++ qs) vs ≡ (takenPairs T budget room ps vs >>= takenPairs T budget room qs)
   taken-both [] qs vs = refl
   taken-both (p ∷ ps) qs vs =
-      step (afterPair T steps width vs p) (taken-both ps qs)
-      ∙ sym (then-assoc (afterPair T steps width vs p) (takenPairs T steps width ps) (takenPairs T steps width qs))
+      step (afterPair T budget room vs p) (taken-both ps qs)
+      ∙ sym (then-assoc (afterPair T budget room vs p) (takenPairs T budget room ps) (takenPairs T budget room qs))
     where
       step : (o : Outcome (List Positive))
-          → ((ws : List Positive) → takenPairs T steps width (ps ++ qs) ws ≡ (takenPairs T steps width ps ws >>= takenPairs T steps width qs))
-          → (o >>= takenPairs T steps width (ps ++ qs)) ≡ (o >>= λ ws. (takenPairs T steps width ps ws >>= takenPairs T steps width qs))
+          → ((ws : List Positive) → takenPairs T budget room (ps ++ qs) ws ≡ (takenPairs T budget room ps ws >>= takenPairs T budget room qs))
+          → (o >>= takenPairs T budget room (ps ++ qs)) ≡ (o >>= λ ws. (takenPairs T budget room ps ws >>= takenPairs T budget room qs))
       step (answered ws) both = both ws
       step (refused n place) both = refl
 
   -- a pair where the words alone are longer than the workspace
-  pub pair-stops : (ws : List Positive) (p : Two) (ps : List Two) (after : List Positive → Outcome (Unit {0})) → width < setBytes ws
-      → (takenPairs T steps width (p ∷ ps) ws >>= after) ≡ stoppedAs Room
+  pub pair-stops : (ws : List Positive) (p : Two) (ps : List Two) (after : List Positive → Outcome (Unit {0})) → room < setBytes ws
+      → (takenPairs T budget room (p ∷ ps) ws >>= after) ≡ stoppedAs Room
   pair-stops ws p ps after h =
-      ap (λ t. (addedTo ws (cond t (stopped room) (reversing T steps (width - setBytes ws) (pairWord ws p))) >>= takenPairs T steps width ps) >>= after)
-      (lt-ltb width (setBytes ws) h)
+      ap (λ t. (addedTo ws (cond t (stopped no-room) (reversing T budget (room - setBytes ws) (pairWord ws p))) >>= takenPairs T budget room ps) >>= after)
+      (lt-ltb room (setBytes ws) h)
 
   -- so that what stops for the words that come last does so before them
   pub stops-before : (vs words : List Positive) (ps : List Two) (after : List Positive → Outcome (Unit {0})) → length vs ≤ length words
-      → StopsLong width vs after → StopsLong width words (λ ws. takenPairs T steps width ps ws >>= after)
+      → StopsLong room vs after → StopsLong room words (λ ws. takenPairs T budget room ps ws >>= after)
   stops-before vs words [] after h stops ws more few long = stops ws (omega arith) few long
   stops-before vs words (p ∷ ps) after h stops ws more few long = pair-stops ws p ps after long
 
 -- PAIRS OF ONE PLACE
 
 -- so many of the pairs were taken; the next word begins at a byte
-pub record Taking (T : Presentation) (steps width : ℕ) (vs : List Positive) (pair : ℕ → Two) (total : ℕ) (area : List ℕ) (h : Held) (at : ℕ) : Type 0 where
+pub record Taking (T : Presentation) (budget room : ℕ) (vs : List Positive) (pair : ℕ → Two) (total : ℕ) (area : List ℕ) (h : Held) (at : ℕ) : Type 0 where
   pub passed : ℕ
   pub within : passed ≤ total
   pub words : List Positive
@@ -66,11 +66,11 @@ pub record Taking (T : Presentation) (steps width : ℕ) (vs : List Positive) (p
   pub added : List Positive
   pub extends : words ≡ vs ++ added
   pub at-is : at ≡ setBytes (take passed vs)
-  pub left : takenPairs T steps width (map pair (range 0 total)) vs ≡ takenPairs T steps width (map pair (range passed (total - passed))) words
+  pub left : takenPairs T budget room (map pair (range 0 total)) vs ≡ takenPairs T budget room (map pair (range passed (total - passed))) words
 
-pub taking-begun : (T : Presentation) (steps width : ℕ) (vs : List Positive) (pair : ℕ → Two) (total : ℕ) (area : List ℕ) (h : Held)
-    → Growing (T .size) area h vs → Taking T steps width vs pair total area h 0
-taking-begun T steps width vs pair total area h g =
+pub taking-begun : (T : Presentation) (budget room : ℕ) (vs : List Positive) (pair : ℕ → Two) (total : ℕ) (area : List ℕ) (h : Held)
+    → Growing (T .size) area h vs → Taking T budget room vs pair total area h 0
+taking-begun T budget room vs pair total area h g =
     let e : total ≡ total - 0 = omega arith in
     record {
       passed = 0;
@@ -80,13 +80,13 @@ taking-begun T steps width vs pair total area h g =
       added = [];
       extends = sym (append-nil vs);
       at-is = refl;
-      left = ap (λ k. takenPairs T steps width (map pair (range 0 k)) vs) e;
+      left = ap (λ k. takenPairs T budget room (map pair (range 0 k)) vs) e;
     }
 
-module _ {T : Presentation} {steps width : ℕ} {vs : List Positive} {pair : ℕ → Two} {total : ℕ} {area : List ℕ} {h : Held} {at : ℕ}
-    (k : Taking T steps width vs pair total area h at) (few : total ≤ length vs) where
+module _ {T : Presentation} {budget room : ℕ} {vs : List Positive} {pair : ℕ → Two} {total : ℕ} {area : List ℕ} {h : Held} {at : ℕ}
+    (k : Taking T budget room vs pair total area h at) (few : total ≤ length vs) where
   abbrev whole : Outcome (List Positive)
-  whole = takenPairs T steps width (map pair (range 0 total)) vs
+  whole = takenPairs T budget room (map pair (range 0 total)) vs
 
   words-length : length (k .words) ≡ length vs + length (k .added)
   words-length = ap length (k .extends) ∙ length-append vs (k .added)
@@ -101,7 +101,7 @@ module _ {T : Presentation} {steps width : ℕ} {vs : List Positive} {pair : ℕ
       let e : total - k .passed ≡ 0 = omega arith in
       record {
         words = k .words;
-        is = k .left ∙ ap (λ n. takenPairs T steps width (map pair (range (k .passed) n)) (k .words)) e;
+        is = k .left ∙ ap (λ n. takenPairs T budget room (map pair (range (k .passed) n)) (k .words)) e;
         growing = k .growing;
         added = k .added;
         extends = k .extends;
@@ -118,32 +118,32 @@ module _ {T : Presentation} {steps width : ℕ} {vs : List Positive} {pair : ℕ
     abbrev rest : List Two
     rest = map pair (range (suc (k .passed)) (total - suc (k .passed)))
 
-    step : whole ≡ (afterPair T steps width (k .words) (pair (k .passed)) >>= takenPairs T steps width rest)
+    step : whole ≡ (afterPair T budget room (k .words) (pair (k .passed)) >>= takenPairs T budget room rest)
     step =
         let e : total - k .passed ≡ suc (total - suc (k .passed)) = omega arith in
-        k .left ∙ ap (λ n. takenPairs T steps width (map pair (range (k .passed) n)) (k .words)) e
+        k .left ∙ ap (λ n. takenPairs T budget room (map pair (range (k .passed) n)) (k .words)) e
 
     -- the pair was taken
-    module _ (after : List ℕ) (r : Step) (same : length area ≡ width) (kept : length after ≡ length area)
-        (means : StepMeans (T .size) after (k .words) (afterPair T steps (length area) (k .words) (pair (k .passed))) r) where
-      at-width : StepMeans (T .size) after (k .words) (afterPair T steps width (k .words) (pair (k .passed))) r
-      at-width = subst (λ i. StepMeans (T .size) after (k .words) (afterPair T steps i (k .words) (pair (k .passed))) r) same means
+    module _ (after : List ℕ) (r : Step) (same : length area ≡ room) (kept : length after ≡ length area)
+        (means : StepMeans (T .size) after (k .words) (afterPair T budget (length area) (k .words) (pair (k .passed))) r) where
+      at-room : StepMeans (T .size) after (k .words) (afterPair T budget room (k .words) (pair (k .passed))) r
+      at-room = subst (λ i. StepMeans (T .size) after (k .words) (afterPair T budget i (k .words) (pair (k .passed))) r) same means
 
       pub taking-ended : (g : Grown) → r ≡ Ended g → StepMeans (T .size) after vs whole (Ended g)
       taking-ended g e go stops =
-          let ended : StepMeans (T .size) after (k .words) (afterPair T steps width (k .words) (pair (k .passed))) (Ended g) =
-          subst (StepMeans (T .size) after (k .words) (afterPair T steps width (k .words) (pair (k .passed)))) e at-width in
-          let n : length after ≡ width = kept ∙ same in
-          let later : StopsLong (length after) (k .words) (λ ws. takenPairs T steps width rest ws >>= go) =
-          subst (λ i. StopsLong i (k .words) (λ ws. takenPairs T steps width rest ws >>= go)) (sym n)
-          (stops-before T steps width vs (k .words) rest go (omega (arith, words-length)) (subst (λ i. StopsLong i vs go) n stops)) in
-          ended (λ ws. takenPairs T steps width rest ws >>= go) later
-          ∙ (sym (then-assoc (afterPair T steps width (k .words) (pair (k .passed))) (takenPairs T steps width rest) go) ∙ ap (λ o. o >>= go) (sym step))
+          let ended : StepMeans (T .size) after (k .words) (afterPair T budget room (k .words) (pair (k .passed))) (Ended g) =
+          subst (StepMeans (T .size) after (k .words) (afterPair T budget room (k .words) (pair (k .passed)))) e at-room in
+          let n : length after ≡ room = kept ∙ same in
+          let later : StopsLong (length after) (k .words) (λ ws. takenPairs T budget room rest ws >>= go) =
+          subst (λ i. StopsLong i (k .words) (λ ws. takenPairs T budget room rest ws >>= go)) (sym n)
+          (stops-before T budget room vs (k .words) rest go (omega (arith, words-length)) (subst (λ i. StopsLong i vs go) n stops)) in
+          ended (λ ws. takenPairs T budget room rest ws >>= go) later
+          ∙ (sym (then-assoc (afterPair T budget room (k .words) (pair (k .passed))) (takenPairs T budget room rest) go) ∙ ap (λ o. o >>= go) (sym step))
 
-      pub taking-more : (h′ : Held) → r ≡ Going h′ → (end : ℕ) → EndFound area at end → Taking T steps width vs pair total after h′ (end + 1)
+      pub taking-more : (h′ : Held) → r ≡ Going h′ → (end : ℕ) → EndFound area at end → Taking T budget room vs pair total after h′ (end + 1)
       taking-more h′ e end f =
-          let g : Grew (T .size) after (k .words) (afterPair T steps width (k .words) (pair (k .passed))) h′ =
-          subst (StepMeans (T .size) after (k .words) (afterPair T steps width (k .words) (pair (k .passed)))) e at-width in
+          let g : Grew (T .size) after (k .words) (afterPair T budget room (k .words) (pair (k .passed))) h′ =
+          subst (StepMeans (T .size) after (k .words) (afterPair T budget room (k .words) (pair (k .passed)))) e at-room in
           record {
             passed = suc (k .passed);
             within = on;
@@ -154,7 +154,7 @@ module _ {T : Presentation} {steps width : ℕ} {vs : List Positive} {pair : ℕ
             at-is =
                 next-start (T .size) area (h .used) (k .words) (k .growing .lists) (k .passed) here at start end f
                 ∙ (ap (λ l. setBytes (take (suc (k .passed)) l)) (k .extends) ∙ start-more vs (k .added) (suc (k .passed)) (omega arith));
-            left = step ∙ ap (λ o. o >>= takenPairs T steps width rest) (g .is);
+            left = step ∙ ap (λ o. o >>= takenPairs T budget room rest) (g .is);
           }
 
     pub taking-placed : (end : ℕ) → EndFound area at end → Placed (k .words) (k .passed) (record { at = at; letters = end - at })

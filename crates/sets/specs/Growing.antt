@@ -54,7 +54,7 @@ pub record Grew (n : ℕ) (area : List ℕ) (vs : List Positive) (outcome : Outc
 
 -- what comes after more words than vs: 12 where they are longer than the workspace
 abbrev pub StopsLong : ℕ → List Positive → (List Positive → Outcome (Unit {0})) → Type 0
-StopsLong width vs after = (ws : List Positive) → length vs < length ws → length ws ≤ mostWords → width < setBytes ws → after ws ≡ stoppedAs Room
+StopsLong room vs after = (ws : List Positive) → length vs < length ws → length ws ≤ mostWords → room < setBytes ws → after ws ≡ stoppedAs Room
 
 -- growing has ended: whatever comes after the outcome, the answer is that of the whole
 abbrev pub StepMeans : ℕ → List ℕ → List Positive → Outcome (List Positive) → Step → Type 0
@@ -74,7 +74,7 @@ pairWord vs p = negative (getD vs (p .a) []) ++ positive (getD vs (p .b) [])
 
 -- the list after the pair was taken
 abbrev pub afterPair : Presentation → ℕ → ℕ → List Positive → Two → Outcome (List Positive)
-afterPair T steps width vs p = addedTo vs (beside T steps width vs (pairWord vs p))
+afterPair T budget room vs p = addedTo vs (beside T budget room vs (pairWord vs p))
 
 -- the words u and v of a table in the cells have places in the list
 pub record Paired (cells area : List ℕ) (h : Held) (u v : Span) (T : Presentation) (vs : List Positive) (p : Two) : Type 0 where

@@ -10,4 +10,4 @@ use Rattle.sets.specs.declared.growing.Grown.{Grown}
 use Rattle.sets.specs.Growing.{grownAs}
 
 abbrev pub SetMeans : List ℕ → ℕ → ℕ → ℕ → Grown → Type 0
-SetMeans cells size width budget r = (T : Presentation) → Of cells size T → grownAs r ≡ mapped (λ vs. tt) (grownSet T budget width)
+SetMeans cells size room budget r = (T : Presentation) → Of cells size T → grownAs r ≡ mapped (λ vs. tt) (grownSet T budget room)

@@ -43,38 +43,38 @@ grown-late TooLarge area = refl
 grown-late (Stopped Budget) area = refl
 grown-late (Stopped Room) area = refl
 
-module _ (cells mirrored : List ℕ) (size budget width : ℕ) {r : Cleared} (cubes : CubesMean Mirror mirrored size budget width r) where
+module _ (cells mirrored : List ℕ) (size budget room : ℕ) {r : Cleared} (cubes : CubesMean Mirror mirrored size budget room r) where
   -- what the check of the mirror's triples comes to
   cube-is : (T : Presentation) → Of cells size T → Of mirrored size (mirror T)
-      → ofMirror (cubeCheck (mirror T) budget width (triples (T .size))) ≡ clearedAs r
-  cube-is T o u = sym (cubes .states (mirror T) u ∙ ap (λ n. ofMirror (cubeCheck (mirror T) budget width (triples n))) (sym (o .sized)))
+      → ofMirror (cubeCheck (mirror T) budget room (triples (T .size))) ≡ clearedAs r
+  cube-is T o u = sym (cubes .states (mirror T) u ∙ ap (λ n. ofMirror (cubeCheck (mirror T) budget room (triples n))) (sym (o .sized)))
 
-  pub mirror-refused : (why : Refusal) → r ≡ Refused why → MirrorThenSet cells mirrored size budget width (Refused why)
+  pub mirror-refused : (why : Refusal) → r ≡ Refused why → MirrorThenSet cells mirrored size budget room (Refused why)
   mirror-refused why e = record {
-    states = λ T o u. sym (still-refused (ofMirror (cubeCheck (mirror T) budget width (triples (T .size)))) why (cube-is T o u ∙ ap clearedAs e) _);
+    states = λ T o u. sym (still-refused (ofMirror (cubeCheck (mirror T) budget room (triples (T .size)))) why (cube-is T o u ∙ ap clearedAs e) _);
     late = λ area. ap (λ c. workspaceAfter (clearedAs c) area) (sym e) ∙ cubes .late area;
   }
 
-  pub set-grown : r ≡ Passed → (g : Grown) → SetMeans cells size width budget g → MirrorThenSet cells mirrored size budget width (grownRefusal g)
+  pub set-grown : r ≡ Passed → (g : Grown) → SetMeans cells size room budget g → MirrorThenSet cells mirrored size budget room (grownRefusal g)
   set-grown e g s = record {
     states =
         λ T o u. grown-stated g ∙ s T o
-        ∙ sym (goes-on (ofMirror (cubeCheck (mirror T) budget width (triples (T .size)))) tt (cube-is T o u ∙ ap clearedAs e) _);
+        ∙ sym (goes-on (ofMirror (cubeCheck (mirror T) budget room (triples (T .size)))) tt (cube-is T o u ∙ ap clearedAs e) _);
     late = grown-late g;
   }
 
-module _ (T : Presentation) (budget width : ℕ) where
-  pub mirror-offends : (p : Pair) → mirrorCheck T ≡ refusal (NoMirror p) → prepared T budget width ≡ refusal (NoMirror p)
+module _ (T : Presentation) (budget room : ℕ) where
+  pub mirror-offends : (p : Pair) → mirrorCheck T ≡ refusal (NoMirror p) → prepared T budget room ≡ refusal (NoMirror p)
   unfolding prepared
-  mirror-offends p e = still-refused (mirrorCheck T) (NoMirror p) e (λ ok. cleared T budget width >>= λ ok. mirrorThenSet T budget width)
+  mirror-offends p e = still-refused (mirrorCheck T) (NoMirror p) e (λ ok. cleared T budget room >>= λ ok. mirrorThenSet T budget room)
 
   module _ (has : mirrorCheck T ≡ answered tt) where
-    table-checked : prepared T budget width ≡ (cleared T budget width >>= λ ok. mirrorThenSet T budget width)
+    table-checked : prepared T budget room ≡ (cleared T budget room >>= λ ok. mirrorThenSet T budget room)
     unfolding prepared
-    table-checked = goes-on (mirrorCheck T) tt has (λ ok. cleared T budget width >>= λ ok. mirrorThenSet T budget width)
+    table-checked = goes-on (mirrorCheck T) tt has (λ ok. cleared T budget room >>= λ ok. mirrorThenSet T budget room)
 
-    pub table-refused : (r : Refusal) → clearedAs (Refused r) ≡ cleared T budget width → clearedAs (Refused r) ≡ prepared T budget width
-    table-refused r e = sym (table-checked ∙ still-refused (cleared T budget width) r (sym e) (λ ok. mirrorThenSet T budget width))
+    pub table-refused : (r : Refusal) → clearedAs (Refused r) ≡ cleared T budget room → clearedAs (Refused r) ≡ prepared T budget room
+    table-refused r e = sym (table-checked ∙ still-refused (cleared T budget room) r (sym e) (λ ok. mirrorThenSet T budget room))
 
-    pub table-clears : answered tt ≡ cleared T budget width → prepared T budget width ≡ mirrorThenSet T budget width
-    table-clears e = table-checked ∙ goes-on (cleared T budget width) tt (sym e) (λ ok. mirrorThenSet T budget width)
+    pub table-clears : answered tt ≡ cleared T budget room → prepared T budget room ≡ mirrorThenSet T budget room
+    table-clears e = table-checked ∙ goes-on (cleared T budget room) tt (sym e) (λ ok. mirrorThenSet T budget room)

@@ -45,47 +45,47 @@ after-stated k (Same j r) = refl
 after-stated k (Different j) = refl
 after-stated k (Refused r) = refl
 
-module _ (cells : List ℕ) (T : Presentation) (s : Stands cells T) (word : Word) (steps : ℕ) (workspace : List ℕ) where
+module _ (cells : List ℕ) (T : Presentation) (s : Stands cells T) (word : Word) (budget : ℕ) (workspace : List ℕ) where
   -- what a finished reversing left
-  pub left-of : (n d k r : ℕ) (p : Reverses T word steps workspace (Finished n d k r)) → Left cells workspace n d T (done T word steps workspace n d k r p .N)
-      (done T word steps workspace n d k r p .D)
+  pub left-of : (n d k r : ℕ) (p : Reverses T word budget workspace (Finished n d k r)) → Left cells workspace n d T (done T word budget workspace n d k r p .N)
+      (done T word budget workspace n d k r p .D)
   left-of n d k r p =
-      let q = done T word steps workspace n d k r p in
+      let q = done T word budget workspace n d k r p in
       record {
         stands = s;
-        inside = finishable T word steps workspace (Finished n d k r) p;
+        inside = finishable T word budget workspace (Finished n d k r) p;
         n-long = q .n-length;
         d-long = q .d-length;
         word = q .stands;
         named = subst (LeavesLetters (T .size)) (q .is) (p .named);
       }
 
-module _ (T : Presentation) (word : Word) (steps : ℕ) (workspace : List ℕ) where
-  pub settled-finished : (n d k r : ℕ) (p : Reverses T word steps workspace (Finished n d k r)) (c : Compared)
-      → compared c ≡ forwardVerdict T (done T word steps workspace n d k r p .N) (done T word steps workspace n d k r p .D) steps (length workspace)
-      → comparedSigned (afterFirstAs k c) ≡ signedOf T steps (length workspace) (reversing T steps (length workspace) word)
+module _ (T : Presentation) (word : Word) (budget : ℕ) (workspace : List ℕ) where
+  pub settled-finished : (n d k r : ℕ) (p : Reverses T word budget workspace (Finished n d k r)) (c : Compared)
+      → compared c ≡ forwardVerdict T (done T word budget workspace n d k r p .N) (done T word budget workspace n d k r p .D) budget (length workspace)
+      → comparedSigned (afterFirstAs k c) ≡ signedOf T budget (length workspace) (reversing T budget (length workspace) word)
   settled-finished n d k r p c e =
-      let q = done T word steps workspace n d k r p in
-      after-stated k c ∙ ap (mapped (afterFirst k)) e ∙ ap (signedOf T steps (length workspace)) (sym (q .is))
+      let q = done T word budget workspace n d k r p in
+      after-stated k c ∙ ap (mapped (afterFirst k)) e ∙ ap (signedOf T budget (length workspace)) (sym (q .is))
 
-  pub settled-open : (p : Pair) (k : ℕ) → Reverses T word steps workspace (Undefined p k) → comparedSigned (SignedRefused (OpenPair p)) ≡ signedOf T steps
-      (length workspace) (reversing T steps (length workspace) word)
-  settled-open p k q = sym (ap (signedOf T steps (length workspace)) (met T word steps workspace p k q))
+  pub settled-open : (p : Pair) (k : ℕ) → Reverses T word budget workspace (Undefined p k) → comparedSigned (SignedRefused (OpenPair p)) ≡ signedOf T budget
+      (length workspace) (reversing T budget (length workspace) word)
+  settled-open p k q = sym (ap (signedOf T budget (length workspace)) (met T word budget workspace p k q))
 
-  pub settled-stopped : (s : StopAnswer) → Reverses T word steps workspace (Stopped s) → comparedSigned (SignedRefused (stopRefusal s)) ≡ signedOf T steps
-      (length workspace) (reversing T steps (length workspace) word)
+  pub settled-stopped : (s : StopAnswer) → Reverses T word budget workspace (Stopped s) → comparedSigned (SignedRefused (stopRefusal s)) ≡ signedOf T budget
+      (length workspace) (reversing T budget (length workspace) word)
   settled-stopped s q =
-      let h = halted T word steps workspace s q in
-      ap (λ x. comparedSigned (SignedRefused (stopRefusal x))) (sym (h .told)) ∙ stop-numbered (h .stop) ∙ ap (signedOf T steps (length workspace))
+      let h = halted T word budget workspace s q in
+      ap (λ x. comparedSigned (SignedRefused (stopRefusal x))) (sym (h .told)) ∙ stop-numbered (h .stop) ∙ ap (signedOf T budget (length workspace))
       (sym (h .is))
 
 -- THE WORKSPACE
 
 -- whatever comes of the reversings, the work has begun
-pub signed-late : (T : Presentation) (steps width : ℕ) (e : Ending) → Late (signedOf T steps width e)
-signed-late T steps width (finished n d k r) = late-mapped (afterFirst k) _ (forward-late T n d steps width)
-signed-late T steps width (open-pair a b k) = late-refusal refl
-signed-late T steps width (stopped s) = late-stop s
+pub signed-late : (T : Presentation) (budget room : ℕ) (e : Ending) → Late (signedOf T budget room e)
+signed-late T budget room (finished n d k r) = late-mapped (afterFirst k) _ (forward-late T n d budget room)
+signed-late T budget room (open-pair a b k) = late-refusal refl
+signed-late T budget room (stopped s) = late-stop s
 
 -- THE WHOLE COMPARISON
 
@@ -98,41 +98,41 @@ regrouped (answered x) (answered y) (refused n p) g rest = refl
 regrouped (answered x) (refused n p) c g rest = refl
 regrouped (refused n p) b c g rest = refl
 
-module _ (T : Presentation) (w v : Word) (steps width : ℕ) where
+module _ (T : Presentation) (w v : Word) (budget room : ℕ) where
   abbrev rest : Outcome SignedVerdict
-  rest = signedOf T steps width (reversing T steps width (inverse w ++ v))
+  rest = signedOf T budget room (reversing T budget room (inverse w ++ v))
 
-  begins-prepared : signedComparison T w v steps width ≡ (prepared T steps width >>= λ ok. rest)
+  begins-prepared : signedComparison T w v budget room ≡ (prepared T budget room >>= λ ok. rest)
   unfolding signedComparison prepared
-  begins-prepared = sym (regrouped (mirrorCheck T) (cleared T steps width) (ofMirror (cubeCheck (mirror T) steps width (triples (T .size))))
-      (grownSet T steps width) rest)
+  begins-prepared = sym (regrouped (mirrorCheck T) (cleared T budget room) (ofMirror (cubeCheck (mirror T) budget room (triples (T .size))))
+      (grownSet T budget room) rest)
 
-  pub signed-refused : (r : Refusal) → refusal r ≡ prepared T steps width → refusal r ≡ signedComparison T w v steps width
-  signed-refused r e = sym (begins-prepared ∙ still-refused (prepared T steps width) r (sym e) (λ ok. rest))
+  pub signed-refused : (r : Refusal) → refusal r ≡ prepared T budget room → refusal r ≡ signedComparison T w v budget room
+  signed-refused r e = sym (begins-prepared ∙ still-refused (prepared T budget room) r (sym e) (λ ok. rest))
 
-  pub signed-runs : answered tt ≡ prepared T steps width → signedComparison T w v steps width ≡ rest
-  signed-runs e = begins-prepared ∙ goes-on (prepared T steps width) tt (sym e) (λ ok. rest)
+  pub signed-runs : answered tt ≡ prepared T budget room → signedComparison T w v budget room ≡ rest
+  signed-runs e = begins-prepared ∙ goes-on (prepared T budget room) tt (sym e) (λ ok. rest)
 
 -- THE SERVICE
 
-module _ (table first second : List ℕ) (steps width : ℕ) where
+module _ (table first second : List ℕ) (budget room : ℕ) where
   abbrev judges : Images Word → Outcome SignedVerdict
-  judges p = signedComparison (p .table) (p .first) (p .second) steps width
+  judges p = signedComparison (p .table) (p .first) (p .second) budget room
 
-  pub read-refused : (r : Refusal) → readImages readProgram table first second ≡ refusal r → AsFound (compareSigned table first second steps width) r
+  pub read-refused : (r : Refusal) → readImages readProgram table first second ≡ refusal r → AsFound (compareSigned table first second budget room) r
   unfolding compareSigned
   read-refused = images-refused readProgram table first second judges program-early
 
   pub compare-runs : (T : Presentation) (w v : Word) → readTable table ≡ answered T → readProgram (T .size) first ≡ answered w
       → readProgram (T .size) second ≡ answered v
-      → compareSigned table first second steps width ≡ signedComparison T w v steps width
+      → compareSigned table first second budget room ≡ signedComparison T w v budget room
   unfolding compareSigned
   compare-runs = images-run readProgram table first second judges
 
   -- what the answer says
-  pub says : (o : Outcome SignedVerdict) → o ≡ compareSigned table first second steps width → SignedSays table first second steps width o
+  pub says : (o : Outcome SignedVerdict) → o ≡ compareSigned table first second budget room → SignedSays table first second budget room o
   says o e T t w v ew ev =
       let r = table-in-range table T t in
-      subst (ComparisonSigned T w v steps width) (sym (e ∙ compare-runs T w v t ew ev))
-      (comparison-signed T r steps width w v (program-in-range (T .size) (r .few) first w ew .letters)
+      subst (ComparisonSigned T w v budget room) (sym (e ∙ compare-runs T w v t ew ev))
+      (comparison-signed T r budget room w v (program-in-range (T .size) (r .few) first w ew .letters)
       (program-in-range (T .size) (r .few) second v ev .letters))

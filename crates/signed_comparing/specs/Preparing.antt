@@ -28,24 +28,24 @@ grownRefusal TooLarge = Refused SetTooLarge
 grownRefusal (Stopped Budget) = Refused (AllowanceUsed Set)
 grownRefusal (Stopped Room) = Refused (WorkspaceShort Set)
 
-module _ (T : Presentation) (steps width : ℕ) where
+module _ (T : Presentation) (budget room : ℕ) where
   -- the cube check of the mirror, then the set, of which only is used that it closes
   abbrev pub mirrorThenSet : Outcome (Unit {0})
-  mirrorThenSet = ofMirror (cubeCheck (mirror T) steps width (triples (T .size))) >>= λ ok. mapped (λ vs. tt) (grownSet T steps width)
+  mirrorThenSet = ofMirror (cubeCheck (mirror T) budget room (triples (T .size))) >>= λ ok. mapped (λ vs. tt) (grownSet T budget room)
 
   -- all that comes before the two reversings
   unfoldable pub prepared : Outcome (Unit {0})
-  prepared = mirrorCheck T >>= λ ok. cleared T steps width >>= λ ok. mirrorThenSet
+  prepared = mirrorCheck T >>= λ ok. cleared T budget room >>= λ ok. mirrorThenSet
 
 -- under every table that has a mirror, where the cells stand for the table and the others for its mirror; a refusal comes after the work has begun
-pub record MirrorThenSet (cells mirrored : List ℕ) (size budget width : ℕ) (r : Cleared) : Type 0 where
-  pub states : (T : Presentation) → Of cells size T → Of mirrored size (mirror T) → clearedAs r ≡ mirrorThenSet T budget width
+pub record MirrorThenSet (cells mirrored : List ℕ) (size budget room : ℕ) (r : Cleared) : Type 0 where
+  pub states : (T : Presentation) → Of cells size T → Of mirrored size (mirror T) → clearedAs r ≡ mirrorThenSet T budget room
   pub late : (area : List ℕ) → workspaceAfter (clearedAs r) area ≡ replicate (length area) 0
 
 abbrev pub BothPrepare : List ℕ → List ℕ → ℕ → ℕ → ℕ → Cleared → Type 0
-BothPrepare cells mirrored size budget width r =
-    (T : Presentation) → Of cells size T → mirrorCheck T ≡ answered tt → Of mirrored size (mirror T) → clearedAs r ≡ prepared T budget width
+BothPrepare cells mirrored size budget room r =
+    (T : Presentation) → Of cells size T → mirrorCheck T ≡ answered tt → Of mirrored size (mirror T) → clearedAs r ≡ prepared T budget room
 
 -- under every table that the cells stand for
 abbrev pub Prepares : List ℕ → ℕ → ℕ → ℕ → Cleared → Type 0
-Prepares cells size budget width r = (T : Presentation) → Of cells size T → clearedAs r ≡ prepared T budget width
+Prepares cells size budget room r = (T : Presentation) → Of cells size T → clearedAs r ≡ prepared T budget room

@@ -31,8 +31,8 @@ pub record Ran (cells workspace : List ℕ) (ending : Ending) : Type 0 where
   pub table : Presentation
   pub stands : Stands cells table
   pub word : Word
-  pub steps : ℕ
-  pub reverses : Reverses table word steps workspace ending
+  pub budget : ℕ
+  pub reverses : Reverses table word budget workspace ending
 
 abbrev pub Settles : List ℕ → List ℕ → Ending → ℕ → ComparedSigned → Type 0
 Settles cells workspace ending budget r =
@@ -46,9 +46,9 @@ pub record SignedCompared (cells : List ℕ) (size : ℕ) (first second : List �
 
 -- WHAT A VERDICT MEANS (6.18), of the programs in the images
 abbrev pub SignedSays : List ℕ → List ℕ → List ℕ → ℕ → ℕ → Outcome SignedVerdict → Type 0
-SignedSays table first second steps width outcome =
+SignedSays table first second budget room outcome =
     (T : Presentation) → readTable table ≡ answered T → (w v : Word) → readProgram (T .size) first ≡ answered w → readProgram (T .size) second ≡ answered v
-    → ComparisonSigned T w v steps width outcome
+    → ComparisonSigned T w v budget room outcome
 
 -- THE SERVICE'S PROMISE (6.18): the outcome that is told, the workspace after the call, and what the outcome means
 pub record SignedPromise (table first second : List ℕ) (allowance : ℕ) (workspace workspace′ : List ℕ) (outcome : Outcome SignedVerdict) : Type 0 where

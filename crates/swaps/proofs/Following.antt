@@ -30,10 +30,10 @@ entry-in-range n (e ∷ es) (suc i) h p = entry-in-range n es i (omega arith) (p
 pub the-entries : {image : List ℕ} {size count : ℕ} (f : ChainOf image size count) (es : List Entry) → readChain size image ≡ answered es → f .entries ≡ es
 the-entries f es e = cc (f .read, e)
 
-module _ (T : Presentation) (width : ℕ) (u : Positive) (es : List Entry) (v : Positive) where
-  pub follow-end : (i : ℕ) → length es ≤ i → followed T width i u (drop i es) v ≡ answered (cond (equal u v) joins ends-elsewhere)
+module _ (T : Presentation) (room : ℕ) (u : Positive) (es : List Entry) (v : Positive) where
+  pub follow-end : (i : ℕ) → length es ≤ i → followed T room i u (drop i es) v ≡ answered (cond (equal u v) joins ends-elsewhere)
   unfolding followed
-  follow-end i h = ap (λ l. followed T width i u l v) (past es i h)
+  follow-end i h = ap (λ l. followed T room i u l v) (past es i h)
     where
       past : (l : List Entry) (n : ℕ) → length l ≤ n → drop n l ≡ []
       past [] zero g = refl
@@ -43,21 +43,21 @@ module _ (T : Presentation) (width : ℕ) (u : Positive) (es : List Entry) (v : 
 
   module _ (i : ℕ) (h : i < length es) where
     abbrev go : Positive → Outcome Passage
-    go w = followed T width (suc i) w (drop (suc i) es) v
+    go w = followed T room (suc i) w (drop (suc i) es) v
 
-    one : followed T width i u (drop i es) v ≡ followedBy width i go (applied T u (getD es i blank))
+    one : followed T room i u (drop i es) v ≡ followedBy room i go (applied T u (getD es i blank))
     unfolding followed
-    one = ap (λ l. followed T width i u l v) (drop-cons es i blank h)
+    one = ap (λ l. followed T room i u l v) (drop-cons es i blank h)
 
-    pub follow-breaks : applied T u (getD es i blank) ≡ none → followed T width i u (drop i es) v ≡ answered (breaks i)
-    follow-breaks e = one ∙ ap (followedBy width i go) e
+    pub follow-breaks : applied T u (getD es i blank) ≡ none → followed T room i u (drop i es) v ≡ answered (breaks i)
+    follow-breaks e = one ∙ ap (followedBy room i go) e
 
     module _ (w : Positive) (e : applied T u (getD es i blank) ≡ some w) where
-      pub follow-short : width < length w → followed T width i u (drop i es) v ≡ refused 12 unplaced
-      follow-short l = one ∙ (ap (followedBy width i go) e ∙ ap (λ t. cond t (refused 12 unplaced) (go w)) (lt-ltb width (length w) l))
+      pub follow-short : room < length w → followed T room i u (drop i es) v ≡ refused 12 unplaced
+      follow-short l = one ∙ (ap (followedBy room i go) e ∙ ap (λ t. cond t (refused 12 unplaced) (go w)) (lt-ltb room (length w) l))
 
-      pub follow-on : length w ≤ width → followed T width i u (drop i es) v ≡ followed T width (i + 1) w (drop (i + 1) es) v
+      pub follow-on : length w ≤ room → followed T room i u (drop i es) v ≡ followed T room (i + 1) w (drop (i + 1) es) v
       follow-on l =
           one
-          ∙ (ap (followedBy width i go) e
-          ∙ (ap (λ t. cond t (refused 12 unplaced) (go w)) (le-ltb width (length w) l) ∙ ap (λ j. followed T width j w (drop j es) v) (sym (add-one i))))
+          ∙ (ap (followedBy room i go) e
+          ∙ (ap (λ t. cond t (refused 12 unplaced) (go w)) (le-ltb room (length w) l) ∙ ap (λ j. followed T room j w (drop j es) v) (sym (add-one i))))

@@ -31,38 +31,39 @@ stored-fits size n bytes s =
     let f : length (letters (take (length n) bytes)) ≤ length bytes = simp (length-letters, length-take) (omega arith) in
     omega arith
 
-module _ (cells start mid : List ℕ) (a b c steps kept : ℕ) (T : Presentation) (n : length mid ≡ length start)
-    (w : Works (T .size) (side T steps (length mid) a b c) mid (Found kept)) where
-  left-found : FoundWord (T .size) mid (side T steps (length mid) a b c) kept
-  left-found = was-found (side T steps (length mid) a b c) kept w
+module _ (cells start mid : List ℕ) (a b c budget kept : ℕ) (T : Presentation) (n : length mid ≡ length start)
+    (w : Works (T .size) (side T budget (length mid) a b c) mid (Found kept)) where
+  left-found : FoundWord (T .size) mid (side T budget (length mid) a b c) kept
+  left-found = was-found (side T budget (length mid) a b c) kept w
 
   pub kept-fits : kept ≤ length mid
   kept-fits = omega (arith, left-found .count, stored-fits (T .size) (left-found .word) mid (left-found .stored))
 
-  left-side : side T steps (length start) a b c ≡ residue (left-found .word)
-  left-side = ap (λ i. side T steps i a b c) (sym n) ∙ left-found .is
+  left-side : side T budget (length start) a b c ≡ residue (left-found .word)
+  left-side = ap (λ i. side T budget i a b c) (sym n) ∙ left-found .is
 
   module _ (x y : Positive) (e : complete T a b ≡ complement x y) (t : Serves cells (positive (b ∷ a ∷ c ∷ [])) T) (after : List ℕ) where
-    width-left : length after ≡ length mid → length (drop kept after) ≡ length start - length (left-found .word)
-    width-left k = length-drop kept after ∙ omega (arith, n, left-found .count)
+    room-left : length after ≡ length mid → length (drop kept after) ≡ length start - length (left-found .word)
+    room-left k = length-drop kept after ∙ omega (arith, n, left-found .count)
 
-    works-after : (v : ResidueAnswer) → RightSide cells mid kept b a c steps after v
-        → Works (T .size) (side T steps (length start - length (left-found .word)) b a c) (drop kept after) v
+    works-after : (v : ResidueAnswer) → RightSide cells mid kept b a c budget after v
+        → Works (T .size) (side T budget (length start - length (left-found .word)) b a c) (drop kept after) v
     works-after v r =
-        subst (λ i. Works (T .size) (side T steps i b a c) (drop kept after) v) (width-left (r .same-length)) (r .works T t)
+        subst (λ i. Works (T .size) (side T budget i b a c) (drop kept after) v) (room-left (r .same-length)) (r .works T t)
 
-    pub no-right-side : RightSide cells mid kept b a c steps after Missing → Fails ≡ cubeAnswer (cubeAt T steps (length start) (record { a = a; b = b; c = c }))
-    no-right-side r = right-missing T steps (length start) a b c x y e (left-found .word) left-side (drop kept after) (works-after Missing r)
+    pub no-right-side : RightSide cells mid kept b a c budget after Missing
+        → Fails ≡ cubeAnswer (cubeAt T budget (length start) (record { a = a; b = b; c = c }))
+    no-right-side r = right-missing T budget (length start) a b c x y e (left-found .word) left-side (drop kept after) (works-after Missing r)
 
-    pub right-side-halts : (s : Stop) → RightSide cells mid kept b a c steps after (Halted s)
-        → Halts s ≡ cubeAnswer (cubeAt T steps (length start) (record { a = a; b = b; c = c }))
+    pub right-side-halts : (s : Stop) → RightSide cells mid kept b a c budget after (Halted s)
+        → Halts s ≡ cubeAnswer (cubeAt T budget (length start) (record { a = a; b = b; c = c }))
     right-side-halts s r =
-        right-halts T steps (length start) a b c x y e (left-found .word) left-side s (drop kept after) (works-after (Halted s) r)
+        right-halts T budget (length start) a b c x y e (left-found .word) left-side s (drop kept after) (works-after (Halted s) r)
 
   -- both are words
-  module _ (t : Serves cells (positive (b ∷ a ∷ c ∷ [])) T) (after : List ℕ) (count : ℕ) (r : RightSide cells mid kept b a c steps after (Found count)) where
-    right-found : FoundWord (T .size) (drop kept after) (side T steps (length (drop kept after)) b a c) count
-    right-found = was-found (side T steps (length (drop kept after)) b a c) count (r .works T t)
+  module _ (t : Serves cells (positive (b ∷ a ∷ c ∷ [])) T) (after : List ℕ) (count : ℕ) (r : RightSide cells mid kept b a c budget after (Found count)) where
+    right-found : FoundWord (T .size) (drop kept after) (side T budget (length (drop kept after)) b a c) count
+    right-found = was-found (side T budget (length (drop kept after)) b a c) count (r .works T t)
 
     pub left : Positive
     left = left-found .word
@@ -87,10 +88,10 @@ module _ (cells start mid : List ℕ) (a b c steps kept : ℕ) (T : Presentation
         }
 
     pub both-agree : (x y : Positive) → complete T a b ≡ complement x y
-        → cubeAnswer (empties (reversing T steps (length after) (negative left ++ positive right)))
-        ≡ cubeAnswer (cubeAt T steps (length start) (record { a = a; b = b; c = c }))
+        → cubeAnswer (empties (reversing T budget (length after) (negative left ++ positive right)))
+        ≡ cubeAnswer (cubeAt T budget (length start) (record { a = a; b = b; c = c }))
     unfolding left right
     both-agree x y e =
-        ap (λ i. cubeAnswer (empties (reversing T steps i (negative left ++ positive right)))) (r .same-length ∙ n)
-        ∙ both-words T steps (length start) a b c x y e left left-side right
-        (ap (λ i. side T steps i b a c) (sym (width-left x y e t after (r .same-length))) ∙ right-found .is)
+        ap (λ i. cubeAnswer (empties (reversing T budget i (negative left ++ positive right)))) (r .same-length ∙ n)
+        ∙ both-words T budget (length start) a b c x y e left left-side right
+        (ap (λ i. side T budget i b a c) (sym (room-left x y e t after (r .same-length))) ∙ right-found .is)

@@ -7,7 +7,7 @@ use lib.Dec.{eqb}
 use lib.ListN.{getD}
 use Rattle.model.specs.Word.{positive}
 use Rattle.model.specs.Presentation.{Presentation, swapped, complete}
-use Rattle.model.specs.Reversing.{budget, room}
+use Rattle.model.specs.Reversing.{no-budget, no-room}
 use Rattle.model.specs.Enumeration.{Two, Three}
 use Rattle.model.specs.Outcome.{pair-of, triple-of, Outcome, refused, _>>=_}
 use Rattle.model.specs.Checks.{balanced, weightCheck, CubeVerdict, holds, fails, halts, reported, cubeAt, cubeCheck}
@@ -57,35 +57,35 @@ weights-append T (p ∷ xs) ys =
 
 -- TRIPLES
 
-module _ (T : Presentation) (steps width : ℕ) (t : Three) (ts : List Three) where
+module _ (T : Presentation) (budget room : ℕ) (t : Three) (ts : List Three) where
   verdict-holds : (v : CubeVerdict) → Holds ≡ cubeAnswer v → v ≡ holds
   verdict-holds holds e = refl
   verdict-holds fails e = impossible (cc)
   verdict-holds (halts s) e = impossible (cc)
 
-  pub triple-passes : Holds ≡ cubeAnswer (cubeAt T steps width t) → cubeCheck T steps width (t ∷ ts) ≡ cubeCheck T steps width ts
-  triple-passes e = ap (λ v. reported t v (cubeCheck T steps width ts)) (verdict-holds (cubeAt T steps width t) e)
+  pub triple-passes : Holds ≡ cubeAnswer (cubeAt T budget room t) → cubeCheck T budget room (t ∷ ts) ≡ cubeCheck T budget room ts
+  triple-passes e = ap (λ v. reported t v (cubeCheck T budget room ts)) (verdict-holds (cubeAt T budget room t) e)
 
-  pub triple-fails : Fails ≡ cubeAnswer (cubeAt T steps width t) → refused 9 (triple-of (t .a) (t .b) (t .c)) ≡ cubeCheck T steps width (t ∷ ts)
-  triple-fails e = go (cubeAt T steps width t) refl e
+  pub triple-fails : Fails ≡ cubeAnswer (cubeAt T budget room t) → refused 9 (triple-of (t .a) (t .b) (t .c)) ≡ cubeCheck T budget room (t ∷ ts)
+  triple-fails e = go (cubeAt T budget room t) refl e
     where
-      go : (v : CubeVerdict) → cubeAt T steps width t ≡ v → Fails ≡ cubeAnswer v → refused 9 (triple-of (t .a) (t .b) (t .c)) ≡ cubeCheck T steps width (t ∷ ts)
+      go : (v : CubeVerdict) → cubeAt T budget room t ≡ v → Fails ≡ cubeAnswer v → refused 9 (triple-of (t .a) (t .b) (t .c)) ≡ cubeCheck T budget room (t ∷ ts)
       go holds f g = impossible (cc)
-      go fails f g = sym (ap (λ v. reported t v (cubeCheck T steps width ts)) f)
+      go fails f g = sym (ap (λ v. reported t v (cubeCheck T budget room ts)) f)
       go (halts s) f g = impossible (cc)
 
-  pub triple-halts : (s : Stop) → Halts s ≡ cubeAnswer (cubeAt T steps width t)
-      → stoppedAs s (record { a = t .a; b = t .b; c = t .c }) ≡ cubeCheck T steps width (t ∷ ts)
-  triple-halts s e = go (cubeAt T steps width t) refl s e
+  pub triple-halts : (s : Stop) → Halts s ≡ cubeAnswer (cubeAt T budget room t)
+      → stoppedAs s (record { a = t .a; b = t .b; c = t .c }) ≡ cubeCheck T budget room (t ∷ ts)
+  triple-halts s e = go (cubeAt T budget room t) refl s e
     where
-      go : (v : CubeVerdict) → cubeAt T steps width t ≡ v → (s : Stop) → Halts s ≡ cubeAnswer v
-          → stoppedAs s (record { a = t .a; b = t .b; c = t .c }) ≡ cubeCheck T steps width (t ∷ ts)
+      go : (v : CubeVerdict) → cubeAt T budget room t ≡ v → (s : Stop) → Halts s ≡ cubeAnswer v
+          → stoppedAs s (record { a = t .a; b = t .b; c = t .c }) ≡ cubeCheck T budget room (t ∷ ts)
       go holds f s g = impossible (cc)
       go fails f s g = impossible (cc)
-      go (halts budget) f Budget g = sym (ap (λ v. reported t v (cubeCheck T steps width ts)) f)
-      go (halts budget) f Room g = impossible (cc)
-      go (halts room) f Budget g = impossible (cc)
-      go (halts room) f Room g = sym (ap (λ v. reported t v (cubeCheck T steps width ts)) f)
+      go (halts no-budget) f Budget g = sym (ap (λ v. reported t v (cubeCheck T budget room ts)) f)
+      go (halts no-budget) f Room g = impossible (cc)
+      go (halts no-room) f Budget g = impossible (cc)
+      go (halts no-room) f Room g = sym (ap (λ v. reported t v (cubeCheck T budget room ts)) f)
 
 -- three letters of the table
 pub of-serves : {cells : List ℕ} {size : ℕ} {T : Presentation} → Of cells size T → (a b c : ℕ) → 1 ≤ a → a ≤ size → 1 ≤ b → b ≤ size → 1 ≤ c → c ≤ size

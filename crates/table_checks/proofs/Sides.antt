@@ -70,36 +70,36 @@ a-word (residue n) k e = (n, refl)
 a-word missing k e = impossible (cc)
 a-word (halted s) k e = impossible (cc)
 
-module _ (T : Presentation) (steps width a b c : ℕ) where
+module _ (T : Presentation) (budget room a b c : ℕ) where
   abbrev to-b : Residue
-  to-b = under T steps width (a ∷ []) (b ∷ [])
+  to-b = under T budget room (a ∷ []) (b ∷ [])
 
   abbrev to-c : Residue
-  to-c = under T steps width (a ∷ []) (c ∷ [])
+  to-c = under T budget room (a ∷ []) (c ∷ [])
 
   -- the case of each inner complement
-  side-by : side T steps width a b c ≡ andThen to-b (λ x. andThen to-c (λ y. under T steps width x y))
+  side-by : side T budget room a b c ≡ andThen to-b (λ x. andThen to-c (λ y. under T budget room x y))
   unfolding side
   side-by = refl
 
-  pub first-ends : (bytes : List ℕ) (r : ResidueAnswer) → NoWord r → r ≡ residueAnswer to-b → Works (T .size) (side T steps width a b c) bytes r
-  first-ends bytes r none e = rw side-by (ends-there to-b (λ x. andThen to-c (λ y. under T steps width x y)) r none e)
+  pub first-ends : (bytes : List ℕ) (r : ResidueAnswer) → NoWord r → r ≡ residueAnswer to-b → Works (T .size) (side T budget room a b c) bytes r
+  first-ends bytes r none e = rw side-by (ends-there to-b (λ x. andThen to-c (λ y. under T budget room x y)) r none e)
 
   module _ (x : Positive) (ex : to-b ≡ residue x) where
-    pub second-ends : (bytes : List ℕ) (r : ResidueAnswer) → NoWord r → r ≡ residueAnswer to-c → Works (T .size) (side T steps width a b c) bytes r
-    second-ends bytes r none e = rw (side-by, ex) (ends-there to-c (λ y. under T steps width x y) r none e)
+    pub second-ends : (bytes : List ℕ) (r : ResidueAnswer) → NoWord r → r ≡ residueAnswer to-c → Works (T .size) (side T budget room a b c) bytes r
+    second-ends bytes r none e = rw (side-by, ex) (ends-there to-c (λ y. under T budget room x y) r none e)
 
-    pub both-found : (y : Positive) → to-c ≡ residue y → side T steps width a b c ≡ under T steps width x y
+    pub both-found : (y : Positive) → to-c ≡ residue y → side T budget room a b c ≡ under T budget room x y
     both-found y ey = side-by ∙ rw (ex, ey) refl
 
 -- a residual of two letters that is found is their complement
-module _ (T : Presentation) (steps width a b : ℕ) {x : Positive} (e : under T steps width (a ∷ []) (b ∷ []) ≡ residue x) where
+module _ (T : Presentation) (budget room a b : ℕ) {x : Positive} (e : under T budget room (a ∷ []) (b ∷ []) ≡ residue x) where
   pub found-other : Positive
-  found-other = under-residue T steps width (a ∷ []) (b ∷ []) e .0
+  found-other = under-residue T budget room (a ∷ []) (b ∷ []) e .0
 
   pub found-rule : complete T a b ≡ complement x found-other
   unfolding found-other
-  found-rule = residual-letters T a b (under-residue T steps width (a ∷ []) (b ∷ []) e .1)
+  found-rule = residual-letters T a b (under-residue T budget room (a ∷ []) (b ∷ []) e .1)
 
   -- so its cell is not that of an undefined pair
   pub found-cell : {cells : List ℕ} {word : Word} → Serves cells word T → InRange (T .size) a → InRange (T .size) b → getD cells (cellAt a b) 0 ≡ 255 → ⊥

@@ -9,7 +9,7 @@ use lib.Dec.{eqb}
 use lib.ListN.{length, take, drop}
 use Rattle.model.specs.Word.{Positive, positive, negative, inverse}
 use Rattle.model.specs.Presentation.{Presentation, undefined, complement, complete}
-use Rattle.model.specs.Reversing.{Ending, finished, open-pair, stopped, budget, room, reversing}
+use Rattle.model.specs.Reversing.{Ending, finished, open-pair, stopped, no-budget, no-room, reversing}
 use Rattle.model.specs.Enumeration.{Three}
 use Rattle.model.specs.Checks.{Residue, residue, missing, halted, CubeVerdict, empties, bothMissing, bothThere, whereDefined, side, against, cubeAt}
 use Rattle.model.specs.Stated.{endingAnswer}
@@ -34,8 +34,8 @@ verdict-answer (finished [] [] k r) = refl
 verdict-answer (finished [] (x ∷ d) k r) = ap (λ t. cond t Holds Fails) (ne-eqb (suc (length d)) 0 (λ e. omega arith))
 verdict-answer (finished (x ∷ n) d k r) = ap (λ t. cond t (cond (eqb (length d) 0) Holds Fails) Fails) (ne-eqb (suc (length n)) 0 (λ e. omega arith))
 verdict-answer (open-pair a b k) = refl
-verdict-answer (stopped budget) = refl
-verdict-answer (stopped room) = refl
+verdict-answer (stopped no-budget) = refl
+verdict-answer (stopped no-room) = refl
 
 -- L inverted where it stood and R moved to the end are a word that is loaded
 module _ (cells bytes mid last : List ℕ) (left right : ℕ) (T : Presentation) (l r : Positive) (s : Sides cells bytes left right T l r)
@@ -58,82 +58,82 @@ module _ (cells bytes mid last : List ℕ) (left right : ℕ) (T : Presentation)
       load-serves last left (length last - right) l r (omega (arith, last-length, s .fit)) (omega arith) left-word right-word (s .stands) (s .l-named)
       (s .r-named)
 
-  pub agree-verdict : (steps : ℕ) (after : List ℕ) (v : EndingAnswer) → length after ≡ length last
-      → Reverses T (wordAt last left (length last - right)) steps after v
-      → verdictOf v ≡ cubeAnswer (empties (reversing T steps (length bytes) (negative l ++ positive r)))
-  agree-verdict steps after v n p =
+  pub agree-verdict : (budget : ℕ) (after : List ℕ) (v : EndingAnswer) → length after ≡ length last
+      → Reverses T (wordAt last left (length last - right)) budget after v
+      → verdictOf v ≡ cubeAnswer (empties (reversing T budget (length bytes) (negative l ++ positive r)))
+  agree-verdict budget after v n p =
       let w : wordAt last left (length last - right) ≡ negative l ++ positive r =
       loaded last left (length last - right) l r (omega (arith, last-length, s .fit)) (omega arith) left-word right-word in
       ap verdictOf (p .answer)
-      ∙ (verdict-answer (reversing T steps (length after) (wordAt last left (length last - right)))
-      ∙ ap₂ (λ i u. cubeAnswer (empties (reversing T steps i u))) (n ∙ last-length) w)
+      ∙ (verdict-answer (reversing T budget (length after) (wordAt last left (length last - right)))
+      ∙ ap₂ (λ i u. cubeAnswer (empties (reversing T budget i u))) (n ∙ last-length) w)
 
 -- ONE TRIPLE
 
-module _ (T : Presentation) (steps width a b c : ℕ) where
+module _ (T : Presentation) (budget room a b c : ℕ) where
   abbrev triple : Three
   triple = record { a = a; b = b; c = c }
 
   abbrev rest : CubeVerdict
-  rest = against T steps width a b c (side T steps width a b c)
+  rest = against T budget room a b c (side T budget room a b c)
 
-  at-triple : cubeAt T steps width triple ≡ whereDefined (complete T a b) rest
+  at-triple : cubeAt T budget room triple ≡ whereDefined (complete T a b) rest
   unfolding cubeAt
   at-triple = refl
 
   -- specification 4.4: where the pair a, b is open the triple passes, and nothing is reversed
-  pub open-holds : complete T a b ≡ undefined → Holds ≡ cubeAnswer (cubeAt T steps width triple)
+  pub open-holds : complete T a b ≡ undefined → Holds ≡ cubeAnswer (cubeAt T budget room triple)
   open-holds e = sym (ap cubeAnswer (at-triple ∙ ap (λ p. whereDefined p rest) e))
 
   module _ (x y : Positive) (e : complete T a b ≡ complement x y) where
-    goes-on : cubeAt T steps width triple ≡ rest
+    goes-on : cubeAt T budget room triple ≡ rest
     goes-on = at-triple ∙ ap (λ p. whereDefined p rest) e
 
-    pub left-halts : (s : Stop) (area : List ℕ) → Works (T .size) (side T steps width a b c) area (Halted s)
-        → Halts s ≡ cubeAnswer (cubeAt T steps width triple)
+    pub left-halts : (s : Stop) (area : List ℕ) → Works (T .size) (side T budget room a b c) area (Halted s)
+        → Halts s ≡ cubeAnswer (cubeAt T budget room triple)
     unfolding against
     left-halts s area w =
-        let h = was-halted (side T steps width a b c) s w in
-        ap Halts (h .2) ∙ sym (ap cubeAnswer (goes-on ∙ ap (against T steps width a b c) (h .1)))
+        let h = was-halted (side T budget room a b c) s w in
+        ap Halts (h .2) ∙ sym (ap cubeAnswer (goes-on ∙ ap (against T budget room a b c) (h .1)))
 
     -- L is undefined
     missing-answer : (m : Residue) (area : List ℕ) (v : ResidueAnswer) → Works (T .size) m area v → missingSide v ≡ cubeAnswer (bothMissing m)
     missing-answer (residue n) area v w = ap missingSide (w .answer)
     missing-answer missing area v w = ap missingSide (w .answer)
-    missing-answer (halted budget) area v w = ap missingSide (w .answer)
-    missing-answer (halted room) area v w = ap missingSide (w .answer)
+    missing-answer (halted no-budget) area v w = ap missingSide (w .answer)
+    missing-answer (halted no-room) area v w = ap missingSide (w .answer)
 
-    pub left-missing : (area area′ : List ℕ) (v : ResidueAnswer) → Works (T .size) (side T steps width a b c) area Missing
-        → Works (T .size) (side T steps width b a c) area′ v → missingSide v ≡ cubeAnswer (cubeAt T steps width triple)
+    pub left-missing : (area area′ : List ℕ) (v : ResidueAnswer) → Works (T .size) (side T budget room a b c) area Missing
+        → Works (T .size) (side T budget room b a c) area′ v → missingSide v ≡ cubeAnswer (cubeAt T budget room triple)
     unfolding against
     left-missing area area′ v w w′ =
-        missing-answer (side T steps width b a c) area′ v w′
-        ∙ sym (ap cubeAnswer (goes-on ∙ ap (against T steps width a b c) (was-missing (side T steps width a b c) w)))
+        missing-answer (side T budget room b a c) area′ v w′
+        ∙ sym (ap cubeAnswer (goes-on ∙ ap (against T budget room a b c) (was-missing (side T budget room a b c) w)))
 
     -- L is the word l
-    module _ (l : Positive) (el : side T steps width a b c ≡ residue l) where
-      there : cubeAt T steps width triple
-          ≡ bothThere (λ r. empties (reversing T steps width (negative l ++ positive r))) (side T steps (width - length l) b a c)
+    module _ (l : Positive) (el : side T budget room a b c ≡ residue l) where
+      there : cubeAt T budget room triple
+          ≡ bothThere (λ r. empties (reversing T budget room (negative l ++ positive r))) (side T budget (room - length l) b a c)
       unfolding against
-      there = goes-on ∙ ap (against T steps width a b c) el
+      there = goes-on ∙ ap (against T budget room a b c) el
 
-      pub right-missing : (area : List ℕ) → Works (T .size) (side T steps (width - length l) b a c) area Missing
-          → Fails ≡ cubeAnswer (cubeAt T steps width triple)
+      pub right-missing : (area : List ℕ) → Works (T .size) (side T budget (room - length l) b a c) area Missing
+          → Fails ≡ cubeAnswer (cubeAt T budget room triple)
       right-missing area w =
-          sym (ap cubeAnswer (there ∙ ap (bothThere (λ r. empties (reversing T steps width (negative l ++ positive r))))
-          (was-missing (side T steps (width - length l) b a c) w)))
+          sym (ap cubeAnswer (there ∙ ap (bothThere (λ r. empties (reversing T budget room (negative l ++ positive r))))
+          (was-missing (side T budget (room - length l) b a c) w)))
 
-      pub right-halts : (s : Stop) (area : List ℕ) → Works (T .size) (side T steps (width - length l) b a c) area (Halted s)
-          → Halts s ≡ cubeAnswer (cubeAt T steps width triple)
+      pub right-halts : (s : Stop) (area : List ℕ) → Works (T .size) (side T budget (room - length l) b a c) area (Halted s)
+          → Halts s ≡ cubeAnswer (cubeAt T budget room triple)
       right-halts s area w =
-          let h = was-halted (side T steps (width - length l) b a c) s w in
+          let h = was-halted (side T budget (room - length l) b a c) s w in
           ap Halts (h .2)
-          ∙ sym (ap cubeAnswer (there ∙ ap (bothThere (λ r. empties (reversing T steps width (negative l ++ positive r)))) (h .1)))
+          ∙ sym (ap cubeAnswer (there ∙ ap (bothThere (λ r. empties (reversing T budget room (negative l ++ positive r)))) (h .1)))
 
-      pub both-words : (r : Positive) → side T steps (width - length l) b a c ≡ residue r
-          → cubeAnswer (empties (reversing T steps width (negative l ++ positive r))) ≡ cubeAnswer (cubeAt T steps width triple)
+      pub both-words : (r : Positive) → side T budget (room - length l) b a c ≡ residue r
+          → cubeAnswer (empties (reversing T budget room (negative l ++ positive r))) ≡ cubeAnswer (cubeAt T budget room triple)
       both-words r er =
-          sym (ap cubeAnswer (there ∙ ap (bothThere (λ r. empties (reversing T steps width (negative l ++ positive r)))) er))
+          sym (ap cubeAnswer (there ∙ ap (bothThere (λ r. empties (reversing T budget room (negative l ++ positive r)))) er))
 
 -- the tests of `verdict_of`
 pub fails-by-denominator : (n d k r : ℕ) → n ≡ 0 → (d ≡ 0 → ⊥) → verdictOf (Finished n d k r) ≡ Fails

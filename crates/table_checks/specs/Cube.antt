@@ -65,5 +65,5 @@ pub record RightSide (cells before : List ℕ) (kept a b c budget : ℕ) (after 
   pub works : SideWorks cells a b c budget (drop kept after) r
 
 abbrev pub CubeMeans : List ℕ → ℕ → ℕ → ℕ → ℕ → ℕ → CubeAnswer → Type 0
-CubeMeans cells width a b c budget v =
-    (T : Presentation) → Serves cells (positive (a ∷ b ∷ c ∷ [])) T → v ≡ cubeAnswer (cubeAt T budget width (record { a = a; b = b; c = c }))
+CubeMeans cells room a b c budget v =
+    (T : Presentation) → Serves cells (positive (a ∷ b ∷ c ∷ [])) T → v ≡ cubeAnswer (cubeAt T budget room (record { a = a; b = b; c = c }))

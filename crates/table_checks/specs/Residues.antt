@@ -43,8 +43,8 @@ pub record Works (size : ℕ) (m : Residue) (bytes : List ℕ) (r : ResidueAnswe
 
 -- under every presentation that the cells serve: a\b in so many bytes, and in the workspace C(a,b)\C(a,c) and (a\b)\(a\c)
 abbrev pub LettersMean : List ℕ → ℕ → ℕ → ℕ → ℕ → ResidueAnswer → Type 0
-LettersMean cells width a b budget r =
-    (T : Presentation) → Serves cells (positive (a ∷ b ∷ [])) T → r ≡ residueAnswer (under T budget width (a ∷ []) (b ∷ []))
+LettersMean cells room a b budget r =
+    (T : Presentation) → Serves cells (positive (a ∷ b ∷ [])) T → r ≡ residueAnswer (under T budget room (a ∷ []) (b ∷ []))
 
 abbrev pub WordsWork : List ℕ → ℕ → ℕ → ℕ → ℕ → List ℕ → ResidueAnswer → Type 0
 WordsWork cells a b c budget bytes r =

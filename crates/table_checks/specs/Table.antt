@@ -59,4 +59,4 @@ abbrev pub WeightsMean : List ℕ → ℕ → Weights → Type 0
 WeightsMean cells size r = (T : Presentation) → Of cells size T → weightsAs r ≡ weightCheck T (pairs size)
 
 abbrev pub TriplesMean : List ℕ → ℕ → ℕ → ℕ → Triples → Type 0
-TriplesMean cells size width budget r = (T : Presentation) → Of cells size T → triplesAs r ≡ cubeCheck T budget width (triples size)
+TriplesMean cells size room budget r = (T : Presentation) → Of cells size T → triplesAs r ≡ cubeCheck T budget room (triples size)

@@ -37,10 +37,10 @@ readable l =
       program-read = l .runs .accepted;
     }
 
-module _ (table program : List ℕ) (size count : ℕ) (q : Readable table program size count) (width area : ℕ) (ew : width ≡ 32768)
+module _ (table program : List ℕ) (size count : ℕ) (q : Readable table program size count) (room area : ℕ) (ew : room ≡ 32768)
     (ea : area ≡ 32768) where
   abbrev run : Outcome Fraction
-  run = reverse table program 65535 width area
+  run = reverse table program 65535 room area
 
   run-is : run ≡ outcome table program
   run-is = ap₂ (λ i j. reverse table program 65535 i j) ew ea

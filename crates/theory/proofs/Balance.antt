@@ -124,5 +124,5 @@ weight-balanced T even =
       equal-ends = λ u v n d k h f. ends-weigh-alike (weightOf T) T uniform u v n d h (reduces f);
     }
 
-pub weight-meaning : (T : Presentation) (steps width : ℕ) → WeightMeaning T (cleared T steps width)
-weight-meaning T steps width other = weight-balanced T (unless-8 T steps width other)
+pub weight-meaning : (T : Presentation) (budget room : ℕ) → WeightMeaning T (cleared T budget room)
+weight-meaning T budget room other = weight-balanced T (unless-8 T budget room other)

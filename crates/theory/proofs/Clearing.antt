@@ -73,9 +73,9 @@ module _ (T : Presentation) (even : weightCheck T (pairs (T .size)) ≡ answered
 
 -- WHERE THE TABLE CLEARS
 
-module _ (T : Presentation) (steps width : ℕ) (clear : cleared T steps width ≡ answered tt) where
+module _ (T : Presentation) (budget room : ℕ) (clear : cleared T budget room ≡ answered tt) where
   pub clear-homogeneous : Homogeneous (weightOf T) (complete T)
-  clear-homogeneous = checked-homogeneous T (clear-weights T steps width clear)
+  clear-homogeneous = checked-homogeneous T (clear-weights T budget room clear)
 
   -- THE CUBE RULE
 
@@ -86,11 +86,11 @@ module _ (T : Presentation) (steps width : ℕ) (clear : cleared T steps width �
       letters = complete-named T p e
 
       go : Dec (a < b) → CubeRule T a b c
-      go (yes h) = checked-rule T steps width clear (letters .0 .low) h (letters .1 .high) (n .low) (n .high) q r
+      go (yes h) = checked-rule T budget room clear (letters .0 .low) h (letters .1 .high) (n .low) (n .high) q r
       go (no h) =
           let below : b < a = omega arith in
           rule-turned T a b c
-          (checked-rule T steps width clear (letters .1 .low) below (letters .0 .high) (n .low) (n .high) r q)
+          (checked-rule T budget room clear (letters .1 .low) below (letters .0 .high) (n .low) (n .high) r q)
 
   pub clear-rule : (a b c : ℕ) → a ≢ b → a ≢ c → b ≢ c → CubeRule T a b c
   clear-rule a b c p q r = go (complete T a b) refl (decLe 1 c) (decLe c (T .size))

@@ -11,7 +11,8 @@ use native.Mathlib.Decide.{ℕ-discrete}
 use borrow.Author.Tests.{eq-eqb, ne-eqb}
 use Rattle.model.specs.Word.{Positive, positive, negative}
 use Rattle.model.specs.Presentation.{Presentation, weightOf, weigh}
-use Rattle.model.specs.Reversing.{Stop, budget, room, Ending, finished, open-pair, stopped, reversing, Finishes, EndsEmpty, CoversSteps, CoversRoom, differing}
+use Rattle.model.specs.Reversing.{Stop, no-budget, no-room, Ending, finished, open-pair, stopped, reversing, Finishes, EndsEmpty, CoversSteps, CoversRoom}
+use Rattle.model.specs.Reversing.{differing}
 use Rattle.model.specs.Equivalence.{Joined}
 use Rattle.model.specs.Outcome.{unplaced, Outcome, answered, refused, _>>=_}
 use Rattle.model.specs.Checks.{stopNumber, cleared}
@@ -33,45 +34,45 @@ pub data Meaning (T : Presentation) (u v : Positive) : Outcome Verdict → Type 
 
 -- THE CASES OF A COMPARISON
 
-module _ (T : Presentation) (u v : Positive) (steps width : ℕ) where
+module _ (T : Presentation) (u v : Positive) (budget room : ℕ) where
   -- only a table that clears leads to an answer
-  pub answered-clear : {verdict : Verdict} → comparison T u v steps width ≡ answered verdict → cleared T steps width ≡ answered tt
+  pub answered-clear : {verdict : Verdict} → comparison T u v budget room ≡ answered verdict → cleared T budget room ≡ answered tt
   unfolding comparison
-  answered-clear {verdict} h = go (cleared T steps width) h
+  answered-clear {verdict} h = go (cleared T budget room) h
     where
-      go : (o : Outcome (Unit {0})) → (o >>= λ ok. forwardVerdict T u v steps width) ≡ answered verdict → o ≡ answered tt
+      go : (o : Outcome (Unit {0})) → (o >>= λ ok. forwardVerdict T u v budget room) ≡ answered verdict → o ≡ answered tt
       go (answered x) e = refl
       go (refused n ps) e = impossible (cc)
 
-  module _ (clear : cleared T steps width ≡ answered tt) where
+  module _ (clear : cleared T budget room ≡ answered tt) where
     -- what is left of it
-    pub compared-forward : comparison T u v steps width ≡ forwardVerdict T u v steps width
+    pub compared-forward : comparison T u v budget room ≡ forwardVerdict T u v budget room
     unfolding comparison
-    compared-forward = ap (λ o. o >>= λ ok. forwardVerdict T u v steps width) clear
+    compared-forward = ap (λ o. o >>= λ ok. forwardVerdict T u v budget room) clear
 
-    compared-equal : weigh T u ≡ weigh T v → comparison T u v steps width ≡ verdictOf (reversing T steps width (negative u ++ positive v))
+    compared-equal : weigh T u ≡ weigh T v → comparison T u v budget room ≡ verdictOf (reversing T budget room (negative u ++ positive v))
     compared-equal h =
-        let after = verdictOf (reversing T steps width (negative u ++ positive v)) in
+        let after = verdictOf (reversing T budget room (negative u ++ positive v)) in
         compared-forward ∙ ap (λ t. cond t after (answered (different-after 0))) (eq-eqb (weigh T u) (weigh T v) h)
 
-    compared-unequal : weigh T u ≢ weigh T v → comparison T u v steps width ≡ answered (different-after 0)
+    compared-unequal : weigh T u ≢ weigh T v → comparison T u v budget room ≡ answered (different-after 0)
     compared-unequal h =
-        let after = verdictOf (reversing T steps width (negative u ++ positive v)) in
+        let after = verdictOf (reversing T budget room (negative u ++ positive v)) in
         compared-forward ∙ ap (λ t. cond t after (answered (different-after 0))) (ne-eqb (weigh T u) (weigh T v) h)
 
     -- JOINED WORDS AND THE EMPTY WORD
 
     pub joined-empties : Joined T u v → EndsEmpty T (negative u ++ positive v)
     joined-empties j =
-        let g = clear-complete T steps width clear u v (joined-equiv T u v j) in
+        let g = clear-complete T budget room clear u v (joined-equiv T u v j) in
         (g .0, finishes (g .1))
 
-    pub joined-same-after : Joined T u v → (k : ℕ) (run : Finishes T (negative u ++ positive v) [] [] k) → CoversSteps steps run → CoversRoom width run
-        → comparison T u v steps width ≡ answered (same-after k (differing run))
+    pub joined-same-after : Joined T u v → (k : ℕ) (run : Finishes T (negative u ++ positive v) [] [] k) → CoversSteps budget run → CoversRoom room run
+        → comparison T u v budget room ≡ answered (same-after k (differing run))
     joined-same-after j k run within fits =
-        compared-equal (joined-weight T (weightOf T) (clear-homogeneous T steps width clear) u v j)
+        compared-equal (joined-weight T (weightOf T) (clear-homogeneous T budget room clear) u v j)
         ∙ ap verdictOf
-        (ends-reversing T steps width (negative u ++ positive v) (finished [] [] k (differing run))
+        (ends-reversing T budget room (negative u ++ positive v) (finished [] [] k (differing run))
         (record { run = run; within = within; fits = fits; differ = refl }))
 
     pub empties-joined : {k : ℕ} → Finishes T (negative u ++ positive v) [] [] k → Joined T u v
@@ -93,25 +94,25 @@ module _ (T : Presentation) (u v : Positive) (steps width : ℕ) where
         different k (λ j. let e = not-empty (x ∷ n) d f j .0 in impossible (cc))
 
     stop-means : (s : Stop) → Meaning T u v (refused (stopNumber s) unplaced)
-    stop-means budget = out-of-budget
-    stop-means room = out-of-room
+    stop-means no-budget = out-of-budget
+    stop-means no-room = out-of-room
 
-    ending-means : (end : Ending) → Ends T steps width (negative u ++ positive v) end → Meaning T u v (verdictOf end)
+    ending-means : (end : Ending) → Ends T budget room (negative u ++ positive v) end → Meaning T u v (verdictOf end)
     ending-means (finished n d k r) t = judged-means n d r (t .run)
     ending-means (open-pair a b k) t =
         different k (λ j. open-unfinished T (t .reached .run) (t .here) (t .undefined-there) [] [] (joined-empties j .1))
     ending-means (stopped s) t = stop-means s
 
-    pub comparison-means : Meaning T u v (comparison T u v steps width)
+    pub comparison-means : Meaning T u v (comparison T u v budget room)
     comparison-means = go (ℕ-discrete (weigh T u) (weigh T v))
       where
-        go : Dec (weigh T u ≡ weigh T v) → Meaning T u v (comparison T u v steps width)
+        go : Dec (weigh T u ≡ weigh T v) → Meaning T u v (comparison T u v budget room)
         go (yes h) =
             subst (Meaning T u v) (sym (compared-equal h))
-            (ending-means (reversing T steps width (negative u ++ positive v)) (reversing-ends T steps width (negative u ++ positive v)))
+            (ending-means (reversing T budget room (negative u ++ positive v)) (reversing-ends T budget room (negative u ++ positive v)))
         go (no h) =
             subst (Meaning T u v) (sym (compared-unequal h))
-            (different 0 (λ j. h (joined-weight T (weightOf T) (clear-homogeneous T steps width clear) u v j)))
+            (different 0 (λ j. h (joined-weight T (weightOf T) (clear-homogeneous T budget room clear) u v j)))
 
   -- AND WHAT THE OUTCOME TELLS
 
@@ -127,8 +128,8 @@ module _ (T : Presentation) (u v : Positive) (steps width : ℕ) where
   means-apart k out-of-budget e i = impossible (cc)
   means-apart k out-of-room e i = impossible (cc)
 
-  pub same-joined : (k r : ℕ) → comparison T u v steps width ≡ answered (same-after k r) → Joined T u v
+  pub same-joined : (k r : ℕ) → comparison T u v budget room ≡ answered (same-after k r) → Joined T u v
   same-joined k r e = means-joined k r (comparison-means (answered-clear e)) e
 
-  pub different-apart : (k : ℕ) → comparison T u v steps width ≡ answered (different-after k) → Joined T u v → ⊥
+  pub different-apart : (k : ℕ) → comparison T u v budget room ≡ answered (different-after k) → Joined T u v → ⊥
   different-apart k e = means-apart k (comparison-means (answered-clear e)) e

@@ -51,7 +51,7 @@ module _ (T : Presentation) where
       }
 
   -- the same of the function
-  pub reversing-derivation : (steps width : ℕ) (u v : Positive) (k r : ℕ) → reversing T steps width (negative u ++ positive v) ≡ finished [] [] k r
+  pub reversing-derivation : (budget room : ℕ) (u v : Positive) (k r : ℕ) → reversing T budget room (negative u ++ positive v) ≡ finished [] [] k r
       → Derivation T u v k r
-  reversing-derivation steps width u v k r h =
-      run-derivation u v (reversing-finishes T steps width (negative u ++ positive v) [] [] k r h)
+  reversing-derivation budget room u v k r h =
+      run-derivation u v (reversing-finishes T budget room (negative u ++ positive v) [] [] k r h)

@@ -15,7 +15,7 @@ use borrow.Author.Tests.{leb-false, ltb-false, ltb-true}
 use Rattle.model.specs.Word.{Word, Positive, positive, negative}
 use Rattle.model.specs.Presentation.{Presentation}
 use Rattle.model.specs.Equivalence.{equal}
-use Rattle.model.specs.Reversing.{Ending, finished, open-pair, stopped, room, reversing, Residual}
+use Rattle.model.specs.Reversing.{Ending, finished, open-pair, stopped, no-room, reversing, Residual}
 use Rattle.model.specs.Enumeration.{range, Two}
 use Rattle.model.specs.Outcome.{answered, _>>=_, unless}
 use Rattle.model.specs.Range.{All, InRange, LetterInRange, TableInRange}
@@ -104,7 +104,7 @@ first-has n a h = List·Memᴰ·tail (Memᴰ·map (λ a. a ∷ []) (range-has 1 
 
 -- ONE PAIR
 
-module _ (T : Presentation) (inside : TableInRange T) (steps width : ℕ) where
+module _ (T : Presentation) (inside : TableInRange T) (budget room : ℕ) where
   -- from one list to the next: the words stay in their places, all have letters of the table, and they are no more than the most
   record Grows (vs ws : List Positive) : Type 0 where
     longer : Longer vs ws
@@ -118,24 +118,24 @@ module _ (T : Presentation) (inside : TableInRange T) (steps width : ℕ) where
   grows-then p q = record { longer = longer-then (p .longer) (q .longer); letters = q .letters; few = q .few }
 
   -- beside the set a reversing finishes as it does in the room that is left
-  beside-finished : (vs : List Positive) (w : Word) (n d : Positive) (k r : ℕ) → beside T steps width vs w ≡ finished n d k r
-      → reversing T steps (width - setBytes vs) w ≡ finished n d k r
-  beside-finished vs w n d k r h = go (ltb width (setBytes vs)) h
+  beside-finished : (vs : List Positive) (w : Word) (n d : Positive) (k r : ℕ) → beside T budget room vs w ≡ finished n d k r
+      → reversing T budget (room - setBytes vs) w ≡ finished n d k r
+  beside-finished vs w n d k r h = go (ltb room (setBytes vs)) h
     where
-      go : (t : Bool) → cond t (stopped room) (reversing T steps (width - setBytes vs) w) ≡ finished n d k r
-          → reversing T steps (width - setBytes vs) w ≡ finished n d k r
+      go : (t : Bool) → cond t (stopped no-room) (reversing T budget (room - setBytes vs) w) ≡ finished n d k r
+          → reversing T budget (room - setBytes vs) w ≡ finished n d k r
       go true e = impossible (cc)
       go false e = e
 
   -- its numerator has letters of the table where the two words have
-  numerator-letters : (width : ℕ) (u v n d : Positive) (k r : ℕ) → All (InRange (T .size)) u → All (InRange (T .size)) v
-      → reversing T steps width (negative u ++ positive v) ≡ finished n d k r → All (InRange (T .size)) n
-  numerator-letters width u v n d k r p q e =
+  numerator-letters : (room : ℕ) (u v n d : Positive) (k r : ℕ) → All (InRange (T .size)) u → All (InRange (T .size)) v
+      → reversing T budget room (negative u ++ positive v) ≡ finished n d k r → All (InRange (T .size)) n
+  numerator-letters room u v n d k r p q e =
       lettered-positive (T .size) n
       (all-first (LetterInRange (T .size)) (positive n) (negative d)
       (reduces-letters T inside
       (all-append (LetterInRange (T .size)) (negative u) (positive v) (negative-lettered (T .size) u p) (positive-lettered (T .size) v q))
-      (finished-reduces T steps width (negative u ++ positive v) n d k r e)))
+      (finished-reduces T budget room (negative u ++ positive v) n d k r e)))
 
   module _ (vs : List Positive) (letters : All (All (InRange (T .size))) vs) (few : length vs ≤ mostWords) where
     -- a word that is listed stays, and another one comes to the end
@@ -164,16 +164,16 @@ module _ (T : Presentation) (inside : TableInRange T) (steps width : ℕ) where
 
     -- one pair of words: u\v is in the list that is answered
     added : (u v : Positive) → All (InRange (T .size)) u → All (InRange (T .size)) v → (ws : List Positive)
-        → addedTo vs (beside T steps width vs (negative u ++ positive v)) ≡ answered ws
+        → addedTo vs (beside T budget room vs (negative u ++ positive v)) ≡ answered ws
         → Grows vs ws × ((r : Positive) × List·Memᴰ r ws × (d : Positive) × Residual T u v r d)
-    added u v p q ws h = go (beside T steps width vs (negative u ++ positive v)) refl h
+    added u v p q ws h = go (beside T budget room vs (negative u ++ positive v)) refl h
       where
-        go : (end : Ending) → beside T steps width vs (negative u ++ positive v) ≡ end → addedTo vs end ≡ answered ws
+        go : (end : Ending) → beside T budget room vs (negative u ++ positive v) ≡ end → addedTo vs end ≡ answered ws
             → Grows vs ws × ((r : Positive) × List·Memᴰ r ws × (d : Positive) × Residual T u v r d)
         go (finished n d k r) b e =
             let done = beside-finished vs (negative u ++ positive v) n d k r b in
-            let next = put n (numerator-letters (width - setBytes vs) u v n d k r p q done) e in
-            (next .0, (n, next .1, d, (k, reversing-finishes T steps (width - setBytes vs) (negative u ++ positive v) n d k r done .run)))
+            let next = put n (numerator-letters (room - setBytes vs) u v n d k r p q done) e in
+            (next .0, (n, next .1, d, (k, reversing-finishes T budget (room - setBytes vs) (negative u ++ positive v) n d k r done .run)))
         go (open-pair a b k) _ e = impossible (cc)
         go (stopped s) b e = impossible (cc)
 
@@ -203,13 +203,13 @@ module _ (T : Presentation) (inside : TableInRange T) (steps width : ℕ) where
 
   -- one pair of places after another
   taken-all : (ps : List Two) (vs ws : List Positive) → All (All (InRange (T .size))) vs → length vs ≤ mostWords → All (Places vs) ps
-      → takenPairs T steps width ps vs ≡ answered ws → Grows vs ws × All (λ p. Taken ws (p .a) (p .b)) ps
+      → takenPairs T budget room ps vs ≡ answered ws → Grows vs ws × All (λ p. Taken ws (p .a) (p .b)) ps
   taken-all [] vs ws letters few h e =
       let same : vs ≡ ws = cc in
       (subst (Grows vs) same (unchanged vs letters few), tt)
   taken-all (p ∷ ps) vs ws letters few h e =
-      let ending = beside T steps width vs (negative (getD vs (p .a) []) ++ positive (getD vs (p .b) [])) in
-      let first = went-on (addedTo vs ending) (takenPairs T steps width ps) e in
+      let ending = beside T budget room vs (negative (getD vs (p .a) []) ++ positive (getD vs (p .b) [])) in
+      let first = went-on (addedTo vs ending) (takenPairs T budget room ps) e in
       let one = added vs letters few (getD vs (p .a) []) (getD vs (p .b) []) (all-default (All (InRange (T .size))) [] tt vs letters (p .a))
       (all-default (All (InRange (T .size))) [] tt vs letters (p .b)) (first .0) (first .1) in
       let rest = taken-all ps (first .0) ws (one .0 .letters) (one .0 .few) (places-longer (one .0 .longer) ps (h .1)) (first .2) in
@@ -261,7 +261,7 @@ module _ (T : Presentation) (inside : TableInRange T) (steps width : ℕ) where
 
   -- from the place m on, with as many rounds as there may be places from there
   grown-closed : (rounds m : ℕ) (vs ws : List Positive) → mostWords ≤ m + rounds → m ≤ length vs → All (All (InRange (T .size))) vs → length vs ≤ mostWords
-      → TakenBelow vs m → grownFrom T steps width rounds m vs ≡ answered ws → Grows vs ws × TakenBelow ws (length ws)
+      → TakenBelow vs m → grownFrom T budget room rounds m vs ≡ answered ws → Grows vs ws × TakenBelow ws (length ws)
   unfolding grownFrom
   grown-closed zero m vs ws enough low letters few before e =
       let same : vs ≡ ws = cc in
@@ -272,12 +272,12 @@ module _ (T : Presentation) (inside : TableInRange T) (steps width : ℕ) where
     where
       go : (t : Bool) → ltb m (length vs) ≡ t
           → ((us : List Positive) → suc m ≤ length us → All (All (InRange (T .size))) us → length us ≤ mostWords → TakenBelow us (suc m)
-          → grownFrom T steps width rounds (suc m) us ≡ answered ws → Grows us ws × TakenBelow ws (length ws))
-          → cond t (takenPairs T steps width (placesAt m) vs >>= grownFrom T steps width rounds (suc m)) (answered vs) ≡ answered ws
+          → grownFrom T budget room rounds (suc m) us ≡ answered ws → Grows us ws × TakenBelow ws (length ws))
+          → cond t (takenPairs T budget room (placesAt m) vs >>= grownFrom T budget room rounds (suc m)) (answered vs) ≡ answered ws
           → Grows vs ws × TakenBelow ws (length ws)
       go true l further e =
           let below = ltb-true m (length vs) l in
-          let next = went-on (takenPairs T steps width (placesAt m) vs) (grownFrom T steps width rounds (suc m)) e in
+          let next = went-on (takenPairs T budget room (placesAt m) vs) (grownFrom T budget room rounds (suc m)) e in
           let taken = taken-all (placesAt m) vs (next .0) letters few (places-at vs m below) (next .1) in
           let longer = longer-length (taken .0 .longer) in
           let rest = further (next .0) (omega (arith, below, longer)) (taken .0 .letters) (taken .0 .few)
@@ -290,7 +290,7 @@ module _ (T : Presentation) (inside : TableInRange T) (steps width : ℕ) where
           (unchanged vs letters few, λ i j p q. before i j (omega arith) (omega arith))
 
   -- what is answered has all pairs of its places
-  pub set-closed : (S : List Positive) → grownSet T steps width ≡ answered S → ClosedSet T S
+  pub set-closed : (S : List Positive) → grownSet T budget room ≡ answered S → ClosedSet T S
   unfolding grownSet
   set-closed S e =
       let some = first-length (T .size) in

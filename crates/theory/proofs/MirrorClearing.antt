@@ -10,7 +10,7 @@ use borrow.Author.Tests.{eq-eqb}
 use Rattle.model.specs.Word.{Positive}
 use Rattle.model.specs.Presentation.{Presentation, Complement, undefined, complement, complete, weightOf, total, weigh}
 use Rattle.model.specs.Equivalence.{Joined}
-use Rattle.model.specs.Reversing.{budget, room}
+use Rattle.model.specs.Reversing.{no-budget, no-room}
 use Rattle.model.specs.Enumeration.{Two, Three, pairs, triples}
 use Rattle.model.specs.Outcome.{Place, pair-of, triple-of, mirror-triple-of, Outcome, answered, refused, _>>=_}
 use Rattle.model.specs.Range.{TableInRange}
@@ -69,9 +69,9 @@ module _ (T : Presentation) (range : TableInRange T) (has : mirrorCheck T ≡ an
   mirror-weights = balanced-check (mirror T) mirror-homogeneous (pairs (T .size))
 
   -- so clearing the mirror is its cube check
-  pub mirror-cube : (steps width : ℕ) → cleared (mirror T) steps width ≡ cubeCheck (mirror T) steps width (triples (T .size))
+  pub mirror-cube : (budget room : ℕ) → cleared (mirror T) budget room ≡ cubeCheck (mirror T) budget room (triples (T .size))
   unfolding cleared
-  mirror-cube steps width = ap (λ o. o >>= λ ok. cubeCheck (mirror T) steps width (triples (T .size))) mirror-weights
+  mirror-cube budget room = ap (λ o. o >>= λ ok. cubeCheck (mirror T) budget room (triples (T .size))) mirror-weights
 
 -- REFUSALS
 
@@ -90,16 +90,16 @@ of-mirror-passed : (o : Outcome (Unit {0})) → ofMirror o ≡ answered tt → o
 of-mirror-passed (answered x) e = refl
 of-mirror-passed (refused n place) e = impossible (cc)
 
-module _ (M : Presentation) (steps width a b c : ℕ) where
+module _ (M : Presentation) (budget room a b c : ℕ) where
   -- 17 is what 9 comes to
-  of-mirror-broken : (ts : List Three) → ofMirror (cubeCheck M steps width ts) ≡ refused 17 (mirror-triple-of a b c)
-      → cubeCheck M steps width ts ≡ refused 9 (triple-of a b c)
+  of-mirror-broken : (ts : List Three) → ofMirror (cubeCheck M budget room ts) ≡ refused 17 (mirror-triple-of a b c)
+      → cubeCheck M budget room ts ≡ refused 9 (triple-of a b c)
   of-mirror-broken [] h = impossible (cc)
-  of-mirror-broken (t ∷ ts) h = go (cubeAt M steps width t) (of-mirror-broken ts) h
+  of-mirror-broken (t ∷ ts) h = go (cubeAt M budget room t) (of-mirror-broken ts) h
     where
-      go : (v : CubeVerdict) → (ofMirror (cubeCheck M steps width ts) ≡ refused 17 (mirror-triple-of a b c)
-          → cubeCheck M steps width ts ≡ refused 9 (triple-of a b c))
-          → ofMirror (reported t v (cubeCheck M steps width ts)) ≡ refused 17 (mirror-triple-of a b c) → reported t v (cubeCheck M steps width ts) ≡ refused 9
+      go : (v : CubeVerdict) → (ofMirror (cubeCheck M budget room ts) ≡ refused 17 (mirror-triple-of a b c)
+          → cubeCheck M budget room ts ≡ refused 9 (triple-of a b c))
+          → ofMirror (reported t v (cubeCheck M budget room ts)) ≡ refused 17 (mirror-triple-of a b c) → reported t v (cubeCheck M budget room ts) ≡ refused 9
           (triple-of a b c)
       go holds rest e = rest e
       go fails rest e =
@@ -108,32 +108,32 @@ module _ (M : Presentation) (steps width a b c : ℕ) where
           let second : t .b ≡ b = cc in
           let third : t .c ≡ c = cc in
           cc
-      go (halts budget) rest e = let z : _≡_ {A = ℕ} 11 17 = cc in absurd (omega arith)
-      go (halts room) rest e = let z : _≡_ {A = ℕ} 12 17 = cc in absurd (omega arith)
+      go (halts no-budget) rest e = let z : _≡_ {A = ℕ} 11 17 = cc in absurd (omega arith)
+      go (halts no-room) rest e = let z : _≡_ {A = ℕ} 12 17 = cc in absurd (omega arith)
 
 -- THE MEANING
 
-module _ (T : Presentation) (range : TableInRange T) (steps width : ℕ) where
+module _ (T : Presentation) (range : TableInRange T) (budget room : ℕ) where
   abbrev cube : Outcome (Unit {0})
-  cube = cubeCheck (mirror T) steps width (triples (T .size))
+  cube = cubeCheck (mirror T) budget room (triples (T .size))
 
   abbrev rest : Outcome (Unit {0})
   rest = weightCheck T (pairs (T .size)) >>= λ ok. ofMirror cube
 
-  passed : mirrorCleared T steps width ≡ answered tt → cleared (mirror T) steps width ≡ answered tt
+  passed : mirrorCleared T budget room ≡ answered tt → cleared (mirror T) budget room ≡ answered tt
   unfolding mirrorCleared
   passed h =
       let first = both-pass (mirrorCheck T) rest h in
       let second = both-pass (weightCheck T (pairs (T .size))) (ofMirror cube) (first .1) in
-      mirror-cube T range (first .0) (second .0) steps width ∙ of-mirror-passed cube (second .1)
+      mirror-cube T range (first .0) (second .0) budget room ∙ of-mirror-passed cube (second .1)
 
-  broken : (a b c : ℕ) → mirrorCleared T steps width ≡ refused 17 (mirror-triple-of a b c) → cleared (mirror T) steps width ≡ refused 9 (triple-of a b c)
+  broken : (a b c : ℕ) → mirrorCleared T budget room ≡ refused 17 (mirror-triple-of a b c) → cleared (mirror T) budget room ≡ refused 9 (triple-of a b c)
   unfolding mirrorCleared mirrorCheck
   broken a b c h = go (mirrorCheck T) (weightCheck T (pairs (T .size))) refl refl h
     where
       go : (m w : Outcome (Unit {0})) → mirrorCheck T ≡ m → weightCheck T (pairs (T .size)) ≡ w
-          → (m >>= λ ok. w >>= λ ok. ofMirror cube) ≡ refused 17 (mirror-triple-of a b c) → cleared (mirror T) steps width ≡ refused 9 (triple-of a b c)
-      go (answered x) (answered y) p q e = mirror-cube T range p q steps width ∙ of-mirror-broken (mirror T) steps width a b c (triples (T .size)) e
+          → (m >>= λ ok. w >>= λ ok. ofMirror cube) ≡ refused 17 (mirror-triple-of a b c) → cleared (mirror T) budget room ≡ refused 9 (triple-of a b c)
+      go (answered x) (answered y) p q e = mirror-cube T range p q budget room ∙ of-mirror-broken (mirror T) budget room a b c (triples (T .size)) e
       go (answered x) (refused n place) p q e =
           let eight = weight-only T (pairs (T .size)) n place q in
           let z : n ≡ 17 = cc in
@@ -143,11 +143,11 @@ module _ (T : Presentation) (range : TableInRange T) (steps width : ℕ) where
           let z : n ≡ 17 = cc in
           absurd (omega arith)
 
-  pub mirror-meaning : MirrorMeaning T steps width (mirrorCleared T steps width)
+  pub mirror-meaning : MirrorMeaning T budget room (mirrorCleared T budget room)
   mirror-meaning =
       record {
         passed = passed;
         joined-backward = joined-backward T;
-        obeyed = λ h. cube-exactly (mirror T) steps width .passed (passed h);
-        broken = λ a b c h. cube-exactly (mirror T) steps width .broken (triple-of a b c) (broken a b c h);
+        obeyed = λ h. cube-exactly (mirror T) budget room .passed (passed h);
+        broken = λ a b c h. cube-exactly (mirror T) budget room .broken (triple-of a b c) (broken a b c h);
       }

@@ -11,7 +11,7 @@ use lib.ListN.{length, length-reverse}
 use Rattle.model.specs.Word.{Letter, forward, back, Word, Positive, flip, positive, negative, forwards, backs}
 use Rattle.model.specs.Presentation.{Presentation, Complement, undefined, complement, swapped}
 use Rattle.model.specs.Reversing.{Site, nowhere, at, beyond, siteAfter, site, replaced, Next, no-site, blocked, step, byComplement, bySite, next, Ending}
-use Rattle.model.specs.Reversing.{finished, stopped, room, ended, count, spent, onward, run, reversing}
+use Rattle.model.specs.Reversing.{finished, stopped, no-room, ended, count, spent, onward, run, reversing}
 use Rattle.model.specs.Mirror.{backward, mirror, leftOf, leftSite, leftComplete, leftReplaced, leftByComplement, leftBySite, leftNext, leftRun, leftReversing}
 use Rattle.model.proofs.Words.{beyond-at, beyond-nowhere, forwards-append, backs-append, map-reverse}
 use Rattle.model.proofs.Mirrors.{mirror-complete}
@@ -158,31 +158,31 @@ spent-backward w k r no-site = ended-backward w k r
 spent-backward w k r (blocked a b) = refl
 spent-backward w k r (step a b w′) = refl
 
-fits-backward : (t : Bool) (e f : Ending) → e ≡ readBackward f → cond t (stopped room) e ≡ readBackward (cond t (stopped room) f)
+fits-backward : (t : Bool) (e f : Ending) → e ≡ readBackward f → cond t (stopped no-room) e ≡ readBackward (cond t (stopped no-room) f)
 fits-backward true e f h = refl
 fits-backward false e f h = h
 
-module _ (T : Presentation) (width : ℕ) where
+module _ (T : Presentation) (room : ℕ) where
   onward-backward : (left k r : ℕ) (w : Word) (m : Next)
-      → ((k r : ℕ) (w : Word) → leftRun T width left k r w ≡ readBackward (run (mirror T) width left k r (reverse w)))
-      → onward width w k r (leftRun T width left) m ≡ readBackward (onward width (reverse w) k r (run (mirror T) width left) (nextBackward m))
+      → ((k r : ℕ) (w : Word) → leftRun T room left k r w ≡ readBackward (run (mirror T) room left k r (reverse w)))
+      → onward room w k r (leftRun T room left) m ≡ readBackward (onward room (reverse w) k r (run (mirror T) room left) (nextBackward m))
   onward-backward left k r w no-site go = ended-backward w k r
   onward-backward left k r w (blocked a b) go = refl
   onward-backward left k r w (step a b w′) go =
-      fits-backward (ltb width (length w′)) (leftRun T width left (suc k) (count a b r) w′)
-      (run (mirror T) width left (suc k) (count a b r) (reverse w′)) (go (suc k) (count a b r) w′)
-      ∙ ap (λ l. readBackward (cond (ltb width l) (stopped room) (run (mirror T) width left (suc k) (count a b r) (reverse w′)))) (sym (length-reverse w′))
+      fits-backward (ltb room (length w′)) (leftRun T room left (suc k) (count a b r) w′)
+      (run (mirror T) room left (suc k) (count a b r) (reverse w′)) (go (suc k) (count a b r) w′)
+      ∙ ap (λ l. readBackward (cond (ltb room l) (stopped no-room) (run (mirror T) room left (suc k) (count a b r) (reverse w′)))) (sym (length-reverse w′))
 
-  run-backward : (left k r : ℕ) (w : Word) → leftRun T width left k r w ≡ readBackward (run (mirror T) width left k r (reverse w))
+  run-backward : (left k r : ℕ) (w : Word) → leftRun T room left k r w ≡ readBackward (run (mirror T) room left k r (reverse w))
   unfolding run leftRun
   run-backward zero k r w =
       spent-backward w k r (leftNext T w) ∙ ap (λ m. readBackward (spent (reverse w) k r m)) (sym (next-backward T w))
   run-backward (suc left) k r w =
       onward-backward left k r w (leftNext T w) (run-backward left)
-      ∙ ap (λ m. readBackward (onward width (reverse w) k r (run (mirror T) width left) m)) (sym (next-backward T w))
+      ∙ ap (λ m. readBackward (onward room (reverse w) k r (run (mirror T) room left) m)) (sym (next-backward T w))
 
 pub left-is-right : (T : Presentation) → LeftIsRight T
 unfolding reversing leftReversing
-left-is-right T steps width w =
-    fits-backward (ltb width (length w)) (leftRun T width steps 0 0 w) (run (mirror T) width steps 0 0 (reverse w)) (run-backward T width steps 0 0 w)
-    ∙ ap (λ l. readBackward (cond (ltb width l) (stopped room) (run (mirror T) width steps 0 0 (reverse w)))) (sym (length-reverse w))
+left-is-right T budget room w =
+    fits-backward (ltb room (length w)) (leftRun T room budget 0 0 w) (run (mirror T) room budget 0 0 (reverse w)) (run-backward T room budget 0 0 w)
+    ∙ ap (λ l. readBackward (cond (ltb room l) (stopped no-room) (run (mirror T) room budget 0 0 (reverse w)))) (sym (length-reverse w))

@@ -8,7 +8,8 @@ use Prim.Native.Nat.{ℕ, _+_}
 use native.Mathlib.Omega.{arith}
 use Rattle.model.specs.Word.{Letter, forward, back, Word, Positive, positive, negative}
 use Rattle.model.specs.Presentation.{Presentation}
-use Rattle.model.specs.Reversing.{Site, nowhere, at, beyond, site, Ending, finished, open-pair, stopped, budget, room, reversing, Leftmost, Reduces, Finishes}
+use Rattle.model.specs.Reversing.{Site, nowhere, at, beyond, site, Ending, finished, open-pair, stopped, no-budget, no-room, reversing, Leftmost, Reduces}
+use Rattle.model.specs.Reversing.{Finishes}
 use Rattle.model.specs.Outcome.{Place, answered, refused, unless}
 use Rattle.model.specs.Services.{Fraction, fractionOf}
 use lib.Dec.{ltb}
@@ -118,7 +119,7 @@ module _ (T : Presentation) where
   none-stuck : (v : Word) → site v ≡ nowhere → Stuck T v
   none-stuck v e p s a b x y h c = impossible (cc)
 
-  met-open : {steps width : ℕ} {w : Word} {a b k : ℕ} → MeetsOpen T steps width w a b k → (v : Word) (j : ℕ) → Reduces T w v j → site v ≡ nowhere → ⊥
+  met-open : {budget room : ℕ} {w : Word} {a b k : ℕ} → MeetsOpen T budget room w a b k → (v : Word) (j : ℕ) → Reduces T w v j → site v ≡ nowhere → ⊥
   met-open m v j r e =
       let t = same-end (counted (m .reached .run)) (open-stuck T (m .last) (m .here) (m .undefined-there)) (counted (leftmost-too r e)) (none-stuck v e) in
       different-sites (m .here) e (t .0)
@@ -131,8 +132,8 @@ module _ (T : Presentation) where
   only-13 true f i place e = cc
   only-13 false f i place e = impossible (cc)
 
-  by-ending : (steps width area : ℕ) (w : Word) (end : Ending) → Ends T steps width w end → OrderMeaning T w (fractionOf area end)
-  by-ending steps width area w (finished n d i r) m =
+  by-ending : (budget room area : ℕ) (w : Word) (end : Ending) → Ends T budget room w end → OrderMeaning T w (fractionOf area end)
+  by-ending budget room area w (finished n d i r) m =
       let f : Fraction = record { numerator = n; denominator = d; steps = i } in
       let short = ltb area (length n + length d) in
       record {
@@ -144,12 +145,12 @@ module _ (T : Presentation) where
             (t .0 ∙ ap (λ x. positive (x .numerator) ++ negative (x .denominator)) same, t .1 ∙ ap (λ x. x .steps) same);
         unfinished = λ place e. absurd (omega (arith, only-13 short f _ place e));
       }
-  by-ending steps width area w (open-pair a b i) m =
+  by-ending budget room area w (open-pair a b i) m =
       record { orders = any-order w; reached = λ g e. impossible (cc); finished = λ g e. impossible (cc); unfinished = λ place e v k o h. met-open m v k o h }
-  by-ending steps width area w (stopped budget) m =
+  by-ending budget room area w (stopped no-budget) m =
       record { orders = any-order w; reached = λ g e. impossible (cc); finished = λ g e. impossible (cc); unfinished = λ place e. impossible (cc) }
-  by-ending steps width area w (stopped room) m =
+  by-ending budget room area w (stopped no-room) m =
       record { orders = any-order w; reached = λ g e. impossible (cc); finished = λ g e. impossible (cc); unfinished = λ place e. impossible (cc) }
 
-  pub order-meaning : (steps width area : ℕ) (w : Word) → OrderMeaning T w (fractionOf area (reversing T steps width w))
-  order-meaning steps width area w = by-ending steps width area w (reversing T steps width w) (reversing-ends T steps width w)
+  pub order-meaning : (budget room area : ℕ) (w : Word) → OrderMeaning T w (fractionOf area (reversing T budget room w))
+  order-meaning budget room area w = by-ending budget room area w (reversing T budget room w) (reversing-ends T budget room w)

@@ -14,6 +14,6 @@ pub reduces : {T : Presentation} {w w′ : Word} {k : ℕ} → Leftmost T w w′
 reduces Leftmost.stay = Reduces.stay
 reduces (Leftmost.go {w} {p} {s} {a} {b} e c l) = Reduces.go p a b s (site-split w e) c (reduces l)
 
-pub finished-reduces : (T : Presentation) (steps width : ℕ) (w : Word) (n d : Positive) (k r : ℕ) → reversing T steps width w ≡ finished n d k r
+pub finished-reduces : (T : Presentation) (budget room : ℕ) (w : Word) (n d : Positive) (k r : ℕ) → reversing T budget room w ≡ finished n d k r
     → Reduces T w (positive n ++ negative d) k
-finished-reduces T steps width w n d k r h = reduces (reversing-finishes T steps width w n d k r h .run)
+finished-reduces T budget room w n d k r h = reduces (reversing-finishes T budget room w n d k r h .run)

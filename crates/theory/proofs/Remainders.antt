@@ -12,7 +12,8 @@ use lib.ListN.{length}
 use borrow.Author.Tests.{lt-ltb, le-ltb, ltb-true}
 use Rattle.model.specs.Word.{Positive, positive, negative}
 use Rattle.model.specs.Presentation.{Presentation, complete, weightOf, weigh}
-use Rattle.model.specs.Reversing.{Stop, budget, room, Ending, finished, open-pair, stopped, reversing, Finishes, Residual, CoversSteps, CoversRoom, differing}
+use Rattle.model.specs.Reversing.{Stop, no-budget, no-room, Ending, finished, open-pair, stopped, reversing, Finishes, Residual, CoversSteps, CoversRoom}
+use Rattle.model.specs.Reversing.{differing}
 use Rattle.model.specs.Equivalence.{Joined}
 use Rattle.model.specs.Outcome.{unplaced, Outcome, answered, refused, _>>=_, unless}
 use Rattle.model.specs.Checks.{stopNumber, cleared}
@@ -37,42 +38,42 @@ pub data Meaning (T : Presentation) (u v : Positive) (area : ℕ) : Outcome (Rem
   out-of-room : Meaning T u v area (refused 12 unplaced)
   out-of-area : (m : Positive) → Completes T u v m → area < length m → Meaning T u v area (refused 13 unplaced)
 
-module _ (T : Presentation) (u v : Positive) (steps width area : ℕ) where
+module _ (T : Presentation) (u v : Positive) (budget room area : ℕ) where
   abbrev after : Outcome (Remainder Positive)
-  after = cond (ltb (weigh T v) (weigh T u)) (answered (none-after 0)) (remainderOf area (reversing T steps width (negative u ++ positive v)))
+  after = cond (ltb (weigh T v) (weigh T u)) (answered (none-after 0)) (remainderOf area (reversing T budget room (negative u ++ positive v)))
 
   -- only a table that clears leads to an answer
-  answered-clear : {r : Remainder Positive} → quotient T u v steps width area ≡ answered r → cleared T steps width ≡ answered tt
+  answered-clear : {r : Remainder Positive} → quotient T u v budget room area ≡ answered r → cleared T budget room ≡ answered tt
   unfolding quotient
-  answered-clear {r} h = go (cleared T steps width) h
+  answered-clear {r} h = go (cleared T budget room) h
     where
       go : (o : Outcome (Unit {0})) → (o >>= λ ok. after) ≡ answered r → o ≡ answered tt
       go (answered x) e = refl
       go (refused n ps) e = impossible (cc)
 
-  module _ (clear : cleared T steps width ≡ answered tt) where
+  module _ (clear : cleared T budget room ≡ answered tt) where
     -- THE CASES OF A QUOTIENT
 
-    pub lighter : weigh T v < weigh T u → quotient T u v steps width area ≡ answered (none-after 0)
+    pub lighter : weigh T v < weigh T u → quotient T u v budget room area ≡ answered (none-after 0)
     unfolding quotient
     lighter h =
         ap (λ o. o >>= λ ok. after) clear
-        ∙ ap (λ t. cond t (answered (none-after 0)) (remainderOf area (reversing T steps width (negative u ++ positive v)))) (lt-ltb (weigh T v) (weigh T u) h)
+        ∙ ap (λ t. cond t (answered (none-after 0)) (remainderOf area (reversing T budget room (negative u ++ positive v)))) (lt-ltb (weigh T v) (weigh T u) h)
 
-    pub as-heavy : weigh T u ≤ weigh T v → quotient T u v steps width area ≡ remainderOf area (reversing T steps width (negative u ++ positive v))
+    pub as-heavy : weigh T u ≤ weigh T v → quotient T u v budget room area ≡ remainderOf area (reversing T budget room (negative u ++ positive v))
     unfolding quotient
     as-heavy h =
         ap (λ o. o >>= λ ok. after) clear
-        ∙ ap (λ t. cond t (answered (none-after 0)) (remainderOf area (reversing T steps width (negative u ++ positive v)))) (le-ltb (weigh T v) (weigh T u) h)
+        ∙ ap (λ t. cond t (answered (none-after 0)) (remainderOf area (reversing T budget room (negative u ++ positive v)))) (le-ltb (weigh T v) (weigh T u) h)
 
     -- WORDS THAT FINISH THE PATTERN
 
     quotient-of : (m : Positive) → Completes T u v m → Divides (complete T) u v m
-    quotient-of m c = divides (complete-turn T) (clear-complete T steps width clear) u (joined-equiv T (u ++ m) v c)
+    quotient-of m c = divides (complete-turn T) (clear-complete T budget room clear) u (joined-equiv T (u ++ m) v c)
 
     completes-heavy : (m : Positive) → Completes T u v m → weigh T u ≤ weigh T v
     completes-heavy m c =
-        omega (arith, joined-weight T (weightOf T) (clear-homogeneous T steps width clear) (u ++ m) v c, total-append (weightOf T) u m)
+        omega (arith, joined-weight T (weightOf T) (clear-homogeneous T budget room clear) (u ++ m) v c, total-append (weightOf T) u m)
 
     defined : (m : Positive) → Completes T u v m → (n : Positive) × Residual T u v n []
     defined m c = let q = quotient-of m c in (q .n, (q .k, finishes (q .grid)))
@@ -87,7 +88,7 @@ module _ (T : Presentation) (u v : Positive) (steps width area : ℕ) where
     joined-completions : (m m′ : Positive) → Completes T u v m → Completes T u v m′ → Joined T m m′
     joined-completions m m′ c c′ =
         equiv-joined T
-        (quotients-agree (complete-turn T) (clear-complete T steps width clear) u (joined-equiv T (u ++ m) v c) (joined-equiv T (u ++ m′) v c′))
+        (quotients-agree (complete-turn T) (clear-complete T budget room clear) u (joined-equiv T (u ++ m) v c) (joined-equiv T (u ++ m′) v c′))
 
     -- WHAT EACH ENDING MEANS
 
@@ -97,10 +98,10 @@ module _ (T : Presentation) (u v : Positive) (steps width area : ℕ) where
     area-means n k f false e = moves n k f (finishes-completes n f)
 
     stop-means : (s : Stop) → Meaning T u v area (refused (stopNumber s) unplaced)
-    stop-means budget = out-of-budget
-    stop-means room = out-of-room
+    stop-means no-budget = out-of-budget
+    stop-means no-room = out-of-room
 
-    ending-means : (end : Ending) → Ends T steps width (negative u ++ positive v) end → Meaning T u v area (remainderOf area end)
+    ending-means : (end : Ending) → Ends T budget room (negative u ++ positive v) end → Meaning T u v area (remainderOf area end)
     ending-means (finished n [] k r) t = area-means n k (t .run) (ltb area (length n)) refl
     ending-means (finished n (x ∷ d) k r) t =
         none k (λ m c. let e = no-divisor n (x ∷ d) (t .run) m c in impossible (cc))
@@ -108,21 +109,21 @@ module _ (T : Presentation) (u v : Positive) (steps width area : ℕ) where
         none k (λ m c. let q = quotient-of m c in open-unfinished T (t .reached .run) (t .here) (t .undefined-there) (q .n) [] (finishes (q .grid)))
     ending-means (stopped s) t = stop-means s
 
-    quotient-means : Meaning T u v area (quotient T u v steps width area)
+    quotient-means : Meaning T u v area (quotient T u v budget room area)
     quotient-means = go (decLt (weigh T v) (weigh T u))
       where
-        go : Dec (weigh T v < weigh T u) → Meaning T u v area (quotient T u v steps width area)
+        go : Dec (weigh T v < weigh T u) → Meaning T u v area (quotient T u v budget room area)
         go (yes h) = subst (Meaning T u v area) (sym (lighter h)) (none 0 (λ m c. omega (arith, completes-heavy m c)))
         go (no h) =
             subst (Meaning T u v area) (sym (as-heavy (omega arith)))
-            (ending-means (reversing T steps width (negative u ++ positive v)) (reversing-ends T steps width (negative u ++ positive v)))
+            (ending-means (reversing T budget room (negative u ++ positive v)) (reversing-ends T budget room (negative u ++ positive v)))
 
-    covered : (m : Positive) → Completes T u v m → (n : Positive) (k : ℕ) (run : Finishes T (negative u ++ positive v) n [] k) → CoversSteps steps run
-        → CoversRoom width run → quotient T u v steps width area ≡ unless (ltb area (length n)) 13 (moves-after n k)
+    covered : (m : Positive) → Completes T u v m → (n : Positive) (k : ℕ) (run : Finishes T (negative u ++ positive v) n [] k) → CoversSteps budget run
+        → CoversRoom room run → quotient T u v budget room area ≡ unless (ltb area (length n)) 13 (moves-after n k)
     covered m c n k run within fits =
         as-heavy (completes-heavy m c)
         ∙ ap (remainderOf area)
-        (ends-reversing T steps width (negative u ++ positive v) (finished n [] k (differing run))
+        (ends-reversing T budget room (negative u ++ positive v) (finished n [] k (differing run))
         (record { run = run; within = within; fits = fits; differ = refl }))
 
   -- AND WHAT THE OUTCOME TELLS
@@ -162,7 +163,7 @@ module _ (T : Presentation) (u v : Positive) (steps width area : ℕ) where
   as-concluded out-of-room = by-workspace
   as-concluded (out-of-area m c h) = by-area
 
-  pub quotient-meaning : QuotientMeaning T u v steps width area (quotient T u v steps width area)
+  pub quotient-meaning : QuotientMeaning T u v budget room area (quotient T u v budget room area)
   quotient-meaning =
       record {
         moves-complete = λ m k e. means-moves m k (quotient-means (answered-clear e)) e .0;
@@ -176,8 +177,8 @@ module _ (T : Presentation) (u v : Positive) (steps width area : ℕ) where
       }
 
 -- under a table that clears, what two joined words begin with can be taken off both
-pub left-cancelling : (T : Presentation) (steps width : ℕ) → cleared T steps width ≡ answered tt → (u m m′ : Positive) → Joined T (u ++ m) (u ++ m′)
+pub left-cancelling : (T : Presentation) (budget room : ℕ) → cleared T budget room ≡ answered tt → (u m m′ : Positive) → Joined T (u ++ m) (u ++ m′)
     → Joined T m m′
-left-cancelling T steps width clear u m m′ j =
+left-cancelling T budget room clear u m m′ j =
     equiv-joined T
-    (cancel-left (complete-turn T) (clear-complete T steps width clear) u (joined-equiv T (u ++ m) (u ++ m′) j))
+    (cancel-left (complete-turn T) (clear-complete T budget room clear) u (joined-equiv T (u ++ m) (u ++ m′) j))

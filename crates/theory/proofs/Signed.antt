@@ -39,12 +39,12 @@ use Rattle.theory.proofs.Paving.{Within, Finishable, common-multiple, f
 
 -- CANCELLING ON THE RIGHT
 
-module _ (T : Presentation) (range : TableInRange T) (steps width : ℕ) (clear : mirrorCleared T steps width ≡ answered tt) where
+module _ (T : Presentation) (range : TableInRange T) (budget room : ℕ) (clear : mirrorCleared T budget room ≡ answered tt) where
   -- the mirror clears only where there is one
   has-mirror : mirrorCheck T ≡ answered tt
   unfolding mirrorCleared
   has-mirror =
-      both-pass (mirrorCheck T) (weightCheck T (pairs (T .size)) >>= λ ok. ofMirror (cubeCheck (mirror T) steps width (triples (T .size)))) clear .0
+      both-pass (mirrorCheck T) (weightCheck T (pairs (T .size)) >>= λ ok. ofMirror (cubeCheck (mirror T) budget room (triples (T .size)))) clear .0
 
   -- what two joined words end with can be taken off both: under the mirror, where it clears, that is what they begin with
   pub right-cancelling : (r u v : Positive) → Joined T (u ++ r) (v ++ r) → Joined T u v
@@ -52,7 +52,7 @@ module _ (T : Presentation) (range : TableInRange T) (steps width : ℕ) (clear 
       let backward : Joined (mirror T) (reverse r ++ reverse u) (reverse r ++ reverse v) =
       subst₂ (Joined (mirror T)) (reverse-append u r) (reverse-append v r) (joined-backward T range has-mirror (u ++ r) (v ++ r) .0 j) in
       joined-backward T range has-mirror u v .1
-      (left-cancelling (mirror T) steps width (mirror-meaning T range steps width .passed clear) (reverse r) (reverse u) (reverse v) backward)
+      (left-cancelling (mirror T) budget room (mirror-meaning T range budget room .passed clear) (reverse r) (reverse u) (reverse v) backward)
 
 -- A CLOSED SET
 
@@ -85,10 +85,10 @@ module _ (T : Presentation) (S : List Positive) (closed : ClosedSet T S) where
   finished-by-some = finishable T In set-diagram (closed .has-letters) (closed .in-letters)
 
   -- so the leftmost steps finish every word, and meet no open pair
-  no-open-pair : (w : Word) → Lettered (T .size) w → (steps width : ℕ) → NotOpen (reversing T steps width w)
-  no-open-pair w h steps width a b k e =
+  no-open-pair : (w : Word) → Lettered (T .size) w → (budget room : ℕ) → NotOpen (reversing T budget room w)
+  no-open-pair w h budget room a b k e =
       let f = finished-by-some w h in
-      let m = ends-exactly T steps width w (open-pair a b k) .0 e in
+      let m = ends-exactly T budget room w (open-pair a b k) .0 e in
       open-unfinished T (m .reached .run) (m .here) (m .undefined-there) (f .n) (f .d) (any-order T w .same-end (f .n) (f .d) (f .k) (f .run))
 
   -- what some order finishes with has letters of the table
@@ -153,12 +153,12 @@ signed-meaning T S settles w w′ h h′ =
       forward-never-open = λ n d p q.
           no-open-pair T S (settles .closed) (negative n ++ positive d)
           (all-append (LetterInRange (T .size)) (negative n) (positive d) (negative-lettered (T .size) n p) (positive-lettered (T .size) d q));
-      ends-in-letters = λ steps width n d k r e.
-          end-letters T S (settles .closed) (inverse w ++ w′) (letters T S settles w w′ h h′) n d k (ended steps width n d k r e);
-      joined-ends = λ steps width n d k r e. ends-are-joined T S settles w w′ h h′ n d k (ended steps width n d k r e);
-      ends-joined = λ steps width n d k r e. words-are-joined T S settles w w′ h h′ n d k (ended steps width n d k r e);
+      ends-in-letters = λ budget room n d k r e.
+          end-letters T S (settles .closed) (inverse w ++ w′) (letters T S settles w w′ h h′) n d k (ended budget room n d k r e);
+      joined-ends = λ budget room n d k r e. ends-are-joined T S settles w w′ h h′ n d k (ended budget room n d k r e);
+      ends-joined = λ budget room n d k r e. words-are-joined T S settles w w′ h h′ n d k (ended budget room n d k r e);
     }
   where
-    ended : (steps width : ℕ) (n d : Positive) (k r : ℕ) → reversing T steps width (inverse w ++ w′) ≡ finished n d k r
+    ended : (budget room : ℕ) (n d : Positive) (k r : ℕ) → reversing T budget room (inverse w ++ w′) ≡ finished n d k r
         → FinishesInSomeOrder T (inverse w ++ w′) n d k
-    ended steps width = finished-reduces T steps width (inverse w ++ w′)
+    ended budget room = finished-reduces T budget room (inverse w ++ w′)

@@ -7,7 +7,8 @@ use mathlib.Core.List.{List, [], _++_}
 use Prim.Native.Nat.{ℕ}
 use Rattle.model.specs.Word.{Word, Positive, inverse, positive, negative}
 use Rattle.model.specs.Presentation.{Presentation}
-use Rattle.model.specs.Reversing.{Stop, budget, room, Ending, finished, open-pair, stopped, reversing, differing, Finishes, EndsEmpty, CoversSteps, CoversRoom}
+use Rattle.model.specs.Reversing.{Stop, no-budget, no-room, Ending, finished, open-pair, stopped, reversing, differing, Finishes, EndsEmpty, CoversSteps}
+use Rattle.model.specs.Reversing.{CoversRoom}
 use Rattle.model.specs.Equivalence.{Joined}
 use Rattle.model.specs.Enumeration.{pairs, triples}
 use Rattle.model.specs.Outcome.{unplaced, Outcome, answered, refused, _>>=_, mapped}
@@ -36,56 +37,56 @@ data SignedMeans (T : Presentation) (w v : Word) : Outcome SignedVerdict → Typ
 
 -- WHAT COMES BEFORE THE REVERSINGS
 
-module _ (T : Presentation) (inside : TableInRange T) (steps width : ℕ) where
+module _ (T : Presentation) (inside : TableInRange T) (budget room : ℕ) where
   -- the mirror's clearing is its cube check, once there is a mirror and the table's weights are right
-  prepared-settles : (S : List Positive) → Prepared T steps width S → Settles T S
+  prepared-settles : (S : List Positive) → Prepared T budget room S → Settles T S
   unfolding mirrorCleared
   prepared-settles S p =
-      let cube = ofMirror (cubeCheck (mirror T) steps width (triples (T .size))) in
+      let cube = ofMirror (cubeCheck (mirror T) budget room (triples (T .size))) in
       record {
         in-range = inside;
-        clears = (steps, width, p .clears);
+        clears = (budget, room, p .clears);
         mirror-clears = (
-          steps,
-          width,
+          budget,
+          room,
           ap (λ o. o >>= λ ok. weightCheck T (pairs (T .size)) >>= λ ok. cube) (p .has-mirror)
-              ∙ (ap (λ o. o >>= λ ok. cube) (clear-weights T steps width (p .clears)) ∙ p .mirror-clears),
+              ∙ (ap (λ o. o >>= λ ok. cube) (clear-weights T budget room (p .clears)) ∙ p .mirror-clears),
         );
-        closed = set-closed T inside steps width S (p .grown);
+        closed = set-closed T inside budget room S (p .grown);
       }
 
   module _ (w v : Word) where
     -- then the outcome is that of the first reversing,
-    prepared-outcome : (S : List Positive) → Prepared T steps width S
-        → signedComparison T w v steps width ≡ signedOf T steps width (reversing T steps width (inverse w ++ v))
+    prepared-outcome : (S : List Positive) → Prepared T budget room S
+        → signedComparison T w v budget room ≡ signedOf T budget room (reversing T budget room (inverse w ++ v))
     unfolding signedComparison
     prepared-outcome S p =
-        let cube = ofMirror (cubeCheck (mirror T) steps width (triples (T .size))) in
-        let last = signedOf T steps width (reversing T steps width (inverse w ++ v)) in
-        ap (λ o. o >>= λ ok. cleared T steps width >>= λ ok. cube >>= λ ok. grownSet T steps width >>= λ vs. last) (p .has-mirror)
-        ∙ (ap (λ o. o >>= λ ok. cube >>= λ ok. grownSet T steps width >>= λ vs. last) (p .clears)
-        ∙ (ap (λ o. o >>= λ ok. grownSet T steps width >>= λ vs. last) (p .mirror-clears)
+        let cube = ofMirror (cubeCheck (mirror T) budget room (triples (T .size))) in
+        let last = signedOf T budget room (reversing T budget room (inverse w ++ v)) in
+        ap (λ o. o >>= λ ok. cleared T budget room >>= λ ok. cube >>= λ ok. grownSet T budget room >>= λ vs. last) (p .has-mirror)
+        ∙ (ap (λ o. o >>= λ ok. cube >>= λ ok. grownSet T budget room >>= λ vs. last) (p .clears)
+        ∙ (ap (λ o. o >>= λ ok. grownSet T budget room >>= λ vs. last) (p .mirror-clears)
         ∙ ap (λ o. o >>= λ vs. last) (p .grown)))
 
     -- and there is no answer without all of it
-    answered-prepared : {x : SignedVerdict} → signedComparison T w v steps width ≡ answered x → (S : List Positive) × Prepared T steps width S
+    answered-prepared : {x : SignedVerdict} → signedComparison T w v budget room ≡ answered x → (S : List Positive) × Prepared T budget room S
     unfolding signedComparison
     answered-prepared h =
-        let cube = ofMirror (cubeCheck (mirror T) steps width (triples (T .size))) in
-        let last = signedOf T steps width (reversing T steps width (inverse w ++ v)) in
-        let first = went-on (mirrorCheck T) (λ ok. cleared T steps width >>= λ ok. cube >>= λ ok. grownSet T steps width >>= λ vs. last) h in
-        let second = went-on (cleared T steps width) (λ ok. cube >>= λ ok. grownSet T steps width >>= λ vs. last) (first .2) in
-        let third = went-on cube (λ ok. grownSet T steps width >>= λ vs. last) (second .2) in
-        let fourth = went-on (grownSet T steps width) (λ vs. last) (third .2) in
+        let cube = ofMirror (cubeCheck (mirror T) budget room (triples (T .size))) in
+        let last = signedOf T budget room (reversing T budget room (inverse w ++ v)) in
+        let first = went-on (mirrorCheck T) (λ ok. cleared T budget room >>= λ ok. cube >>= λ ok. grownSet T budget room >>= λ vs. last) h in
+        let second = went-on (cleared T budget room) (λ ok. cube >>= λ ok. grownSet T budget room >>= λ vs. last) (first .2) in
+        let third = went-on cube (λ ok. grownSet T budget room >>= λ vs. last) (second .2) in
+        let fourth = went-on (grownSet T budget room) (λ vs. last) (third .2) in
         (fourth .0, record { has-mirror = first .1; clears = second .1; mirror-clears = third .1; grown = fourth .1 })
 
 -- THE MEANING
 
-module _ (T : Presentation) (inside : TableInRange T) (steps width : ℕ) (w v : Word) (in-w : Lettered (T .size) w) (in-v : Lettered (T .size) v) where
+module _ (T : Presentation) (inside : TableInRange T) (budget room : ℕ) (w v : Word) (in-w : Lettered (T .size) w) (in-v : Lettered (T .size) v) where
   -- a stop of either reversing
   stop-means : (s : Stop) → SignedMeans T w v (refused (stopNumber s) unplaced)
-  stop-means budget = out-of-steps
-  stop-means room = out-of-bytes
+  stop-means no-budget = out-of-steps
+  stop-means no-room = out-of-bytes
 
   -- where N and D are joined exactly if the words are, what an outcome says of N and D
   after-first : (n d : Positive) (k : ℕ) {o : Outcome Verdict} → (GroupJoined T w v → Joined T n d) → (Joined T n d → GroupJoined T w v) → Meaning T n d o
@@ -95,26 +96,26 @@ module _ (T : Presentation) (inside : TableInRange T) (steps width : ℕ) (w v :
   after-first n d k to from out-of-budget = out-of-steps
   after-first n d k to from out-of-room = out-of-bytes
 
-  module _ (S : List Positive) (p : Prepared T steps width S) where
+  module _ (S : List Positive) (p : Prepared T budget room S) where
     -- so the reversings say what they say under such a table
     settles : Settles T S
-    settles = prepared-settles T inside steps width S p
+    settles = prepared-settles T inside budget room S p
 
     says : SignedReversings T w v
     says = signed-meaning T S settles w v in-w in-v
 
     -- what each ending of the first reversing comes to
-    ending-means : (end : Ending) → reversing T steps width (inverse w ++ v) ≡ end → SignedMeans T w v (signedOf T steps width end)
+    ending-means : (end : Ending) → reversing T budget room (inverse w ++ v) ≡ end → SignedMeans T w v (signedOf T budget room end)
     ending-means (finished n d k r) e =
-        after-first n d k (says .joined-ends steps width n d k r e) (says .ends-joined steps width n d k r e)
-        (subst (Meaning T n d) (compared-forward T n d steps width (p .clears)) (comparison-means T n d steps width (p .clears)))
-    ending-means (open-pair a b k) e = absurd (says .never-open steps width a b k e)
+        after-first n d k (says .joined-ends budget room n d k r e) (says .ends-joined budget room n d k r e)
+        (subst (Meaning T n d) (compared-forward T n d budget room (p .clears)) (comparison-means T n d budget room (p .clears)))
+    ending-means (open-pair a b k) e = absurd (says .never-open budget room a b k e)
     ending-means (stopped s) e = stop-means s
 
-    comparison-says : SignedMeans T w v (signedComparison T w v steps width)
+    comparison-says : SignedMeans T w v (signedComparison T w v budget room)
     comparison-says =
-        subst (SignedMeans T w v) (sym (prepared-outcome T inside steps width w v S p))
-        (ending-means (reversing T steps width (inverse w ++ v)) refl)
+        subst (SignedMeans T w v) (sym (prepared-outcome T inside budget room w v S p))
+        (ending-means (reversing T budget room (inverse w ++ v)) refl)
 
     -- some order finishes the first reversing, so the leftmost one does; N and D of joined words are joined
     both-end : GroupJoined T w v → (n : Positive) × (d : Positive) × (k : ℕ) × Finishes T (inverse w ++ v) n d k × EndsEmpty T (negative n ++ positive d)
@@ -122,20 +123,20 @@ module _ (T : Presentation) (inside : TableInRange T) (steps width : ℕ) (w v :
         let f = finished-by-some T S (settles .closed) (inverse w ++ v)
         (all-append (LetterInRange (T .size)) (inverse w) v (inverse-lettered (T .size) w in-w) in-v) in
         let joined = ends-are-joined T S settles w v in-w in-v (f .n) (f .d) (f .k) (f .run) g in
-        (f .n, f .d, f .k, any-order T (inverse w ++ v) .same-end (f .n) (f .d) (f .k) (f .run), joined-empties T (f .n) (f .d) steps width (p .clears) joined)
+        (f .n, f .d, f .k, any-order T (inverse w ++ v) .same-end (f .n) (f .d) (f .k) (f .run), joined-empties T (f .n) (f .d) budget room (p .clears) joined)
 
     -- both reversings are covered
     both-covered : (n d : Positive) (k j : ℕ) (first : Finishes T (inverse w ++ v) n d k) (second : Finishes T (negative n ++ positive d) [] [] j)
-        → CoversSteps steps first → CoversRoom width first → CoversSteps steps second → CoversRoom width second
-        → signedComparison T w v steps width ≡ answered (same-after-both k j)
+        → CoversSteps budget first → CoversRoom room first → CoversSteps budget second → CoversRoom room second
+        → signedComparison T w v budget room ≡ answered (same-after-both k j)
     both-covered n d k j first second within fits within′ fits′ =
         let clear = p .clears in
-        let ended = ends-reversing T steps width (inverse w ++ v) (finished n d k (differing first))
+        let ended = ends-reversing T budget room (inverse w ++ v) (finished n d k (differing first))
         (record { run = first; within = within; fits = fits; differ = refl }) in
-        let compared = joined-same-after T n d steps width clear (empties-joined T n d steps width clear second) j second within′ fits′ in
-        prepared-outcome T inside steps width w v S p
-        ∙ (ap (signedOf T steps width) ended
-        ∙ ap (mapped (afterFirst k)) (sym (compared-forward T n d steps width clear) ∙ compared))
+        let compared = joined-same-after T n d budget room clear (empties-joined T n d budget room clear second) j second within′ fits′ in
+        prepared-outcome T inside budget room w v S p
+        ∙ (ap (signedOf T budget room) ended
+        ∙ ap (mapped (afterFirst k)) (sym (compared-forward T n d budget room clear) ∙ compared))
 
   -- AND WHAT THE OUTCOME TELLS
 
@@ -157,12 +158,12 @@ module _ (T : Presentation) (inside : TableInRange T) (steps width : ℕ) (w v :
   as-verdict-or-stop out-of-steps = by-allowance
   as-verdict-or-stop out-of-bytes = by-memory
 
-  pub comparison-signed : ComparisonSigned T w v steps width (signedComparison T w v steps width)
+  pub comparison-signed : ComparisonSigned T w v budget room (signedComparison T w v budget room)
   comparison-signed =
       record {
-        same-joined = λ k j e. let s = answered-prepared T inside steps width w v e in means-joined k j (comparison-says (s .0) (s .1)) e;
-        different-apart = λ k j e. let s = answered-prepared T inside steps width w v e in means-apart k j (comparison-says (s .0) (s .1)) e;
-        closed = set-closed T inside steps width;
+        same-joined = λ k j e. let s = answered-prepared T inside budget room w v e in means-joined k j (comparison-says (s .0) (s .1)) e;
+        different-apart = λ k j e. let s = answered-prepared T inside budget room w v e in means-apart k j (comparison-says (s .0) (s .1)) e;
+        closed = set-closed T inside budget room;
         verdict-or-stop = λ S p. as-verdict-or-stop (comparison-says S p);
         settled = signed-meaning T;
         reversings = says;

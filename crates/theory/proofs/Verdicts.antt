@@ -21,27 +21,27 @@ as-settled (different k a) = settled (different-after k)
 as-settled out-of-budget = by-allowance
 as-settled out-of-room = by-memory
 
-module _ (T : Presentation) (u v : Positive) (steps width : ℕ) where
+module _ (T : Presentation) (u v : Positive) (budget room : ℕ) where
   -- a verdict that is refused with 13 is `same`, where `different` is told as it is
   joined-beside-13 : (tell : Verdict → Outcome Verdict) → ((k : ℕ) → tell (different-after k) ≡ answered (different-after k))
-      → (o : Outcome Verdict) → comparison T u v steps width ≡ o → Settled answered o → (o >>= tell) ≡ refused 13 unplaced → Joined T u v
-  joined-beside-13 tell apart o e (settled (same-after k r)) h = same-joined T u v steps width k r e
+      → (o : Outcome Verdict) → comparison T u v budget room ≡ o → Settled answered o → (o >>= tell) ≡ refused 13 unplaced → Joined T u v
+  joined-beside-13 tell apart o e (settled (same-after k r)) h = same-joined T u v budget room k r e
   joined-beside-13 tell apart o e (settled (different-after k)) h = let told = apart k in impossible (cc)
   joined-beside-13 tell apart o e by-allowance h = let z : _≡_ {A = ℕ} 11 13 = cc in absurd (omega arith)
   joined-beside-13 tell apart o e by-memory h = let z : _≡_ {A = ℕ} 12 13 = cc in absurd (omega arith)
 
-  as-compared : cleared T steps width ≡ answered tt → Settled answered (comparison T u v steps width)
-  as-compared clear = as-settled (comparison-means T u v steps width clear)
+  as-compared : cleared T budget room ≡ answered tt → Settled answered (comparison T u v budget room)
+  as-compared clear = as-settled (comparison-means T u v budget room clear)
 
-  pub verdict-meaning : VerdictMeaning T u v steps width answered (comparison T u v steps width)
+  pub verdict-meaning : VerdictMeaning T u v budget room answered (comparison T u v budget room)
   verdict-meaning =
       record {
-        same-joined = same-joined T u v steps width;
-        different-apart = different-apart T u v steps width;
+        same-joined = same-joined T u v budget room;
+        different-apart = different-apart T u v budget room;
         verdict-or-stop = as-compared;
-        short-area = λ clear h. joined-beside-13 answered (λ k. refl) (comparison T u v steps width) refl (as-compared clear) (ap (λ o. o >>= answered) h);
-        ends-empty = joined-empties T u v steps width;
-        answers-same = joined-same-after T u v steps width;
+        short-area = λ clear h. joined-beside-13 answered (λ k. refl) (comparison T u v budget room) refl (as-compared clear) (ap (λ o. o >>= answered) h);
+        ends-empty = joined-empties T u v budget room;
+        answers-same = joined-same-after T u v budget room;
       }
 
   -- told in another way, in which an answer is the verdict itself, and `different` is always answered
@@ -56,14 +56,14 @@ module _ (T : Presentation) (u v : Positive) (steps width : ℕ) where
     settled-through by-allowance = by-allowance
     settled-through by-memory = by-memory
 
-    pub demand-three-told : VerdictMeaning T u v steps width tell (comparison T u v steps width >>= tell)
+    pub demand-three-told : VerdictMeaning T u v budget room tell (comparison T u v budget room >>= tell)
     demand-three-told =
         let d = verdict-meaning in
         record {
-          same-joined = λ k r h. d .same-joined k r (verdict-of (comparison T u v steps width) (same-after k r) h);
-          different-apart = λ k h. d .different-apart k (verdict-of (comparison T u v steps width) (different-after k) h);
+          same-joined = λ k r h. d .same-joined k r (verdict-of (comparison T u v budget room) (same-after k r) h);
+          different-apart = λ k h. d .different-apart k (verdict-of (comparison T u v budget room) (different-after k) h);
           verdict-or-stop = λ clear. settled-through (d .verdict-or-stop clear);
-          short-area = λ clear h. joined-beside-13 tell apart (comparison T u v steps width) refl (as-compared clear) h;
+          short-area = λ clear h. joined-beside-13 tell apart (comparison T u v budget room) refl (as-compared clear) h;
           ends-empty = d .ends-empty;
           answers-same = λ clear j k run within fits. ap (λ o. o >>= tell) (d .answers-same clear j k run within fits);
         }

@@ -35,4 +35,4 @@ pub record CubeMeaning (T : Presentation) (outcome : Outcome (Unit {0})) : Type 
   pub passed : outcome ≡ answered tt → All (Obeys T) (triples (T .size))
   pub broken : (name : Place) → outcome ≡ refused 9 name → FirstBroken T (triples (T .size)) name
   -- for the verdict on each triple, at every allowance and workspace, says so of the rule there
-  pub each-triple : (steps width : ℕ) (t : Three) → Says T t (cubeAt T steps width t)
+  pub each-triple : (budget room : ℕ) (t : Three) → Says T t (cubeAt T budget room t)

@@ -25,7 +25,7 @@ readBackward (stopped s) = stopped s
 
 -- left reversing is right reversing of the word read backward, signs kept, under the mirror: for every allowance, room and word
 abbrev pub LeftIsRight : Presentation → Type 0
-LeftIsRight T = (steps width : ℕ) (w : Word) → leftReversing T steps width w ≡ readBackward (reversing (mirror T) steps width (reverse w))
+LeftIsRight T = (budget room : ℕ) (w : Word) → leftReversing T budget room w ≡ readBackward (reversing (mirror T) budget room (reverse w))
 
 -- where a table has a mirror, words are joined exactly if they are joined under the mirror when read backward
 abbrev pub JoinedBackward : Presentation → Type 0
@@ -34,8 +34,8 @@ JoinedBackward T =
 
 -- clearing the mirror: an answer only where the mirror passes both checks, so that it obeys the cube rule at every triple; 17 only with the first triple of
 -- the mirror that breaks the rule
-pub record MirrorMeaning (T : Presentation) (steps width : ℕ) (outcome : Outcome (Unit {0})) : Type 0 where
-  pub passed : outcome ≡ answered tt → cleared (mirror T) steps width ≡ answered tt
+pub record MirrorMeaning (T : Presentation) (budget room : ℕ) (outcome : Outcome (Unit {0})) : Type 0 where
+  pub passed : outcome ≡ answered tt → cleared (mirror T) budget room ≡ answered tt
   pub obeyed : outcome ≡ answered tt → All (Obeys (mirror T)) (triples (T .size))
   pub broken : (a b c : ℕ) → outcome ≡ refused 17 (mirror-triple-of a b c) → FirstBroken (mirror T) (triples (T .size)) (triple-of a b c)
   -- where there is a mirror, joined words are those that are joined under it when read backward

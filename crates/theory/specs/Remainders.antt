@@ -25,8 +25,8 @@ pub data Concluded : Outcome (Remainder Positive) → Type 0 where
   by-workspace : Concluded (refused 12 unplaced)
   by-area : Concluded (refused 13 unplaced)
 
--- with so many steps allowed, a workspace of `width` bytes and an answer area of `area` bytes
-pub record QuotientMeaning (T : Presentation) (u v : Positive) (steps width area : ℕ) (outcome : Outcome (Remainder Positive)) : Type 0 where
+-- with so many steps allowed, a workspace of `room` bytes and an answer area of `area` bytes
+pub record QuotientMeaning (T : Presentation) (u v : Positive) (budget room area : ℕ) (outcome : Outcome (Remainder Positive)) : Type 0 where
   -- moves are answered only where they finish the pattern,
   pub moves-complete : (m : Positive) (k : ℕ) → outcome ≡ answered (moves-after m k) → Completes T u v m
   -- and they are the complement u\v, with v\u empty, worked out in so many steps
@@ -34,14 +34,14 @@ pub record QuotientMeaning (T : Presentation) (u v : Positive) (steps width area
   -- none is answered only where no moves at all finish it
   pub none-completes : (k : ℕ) → outcome ≡ answered (none-after k) → (m : Positive) → Completes T u v m → ⊥
   -- under a table that clears it is moves, none or a stop,
-  pub moves-none-or-stop : cleared T steps width ≡ answered tt → Concluded outcome
+  pub moves-none-or-stop : cleared T budget room ≡ answered tt → Concluded outcome
   -- and 13 comes only where moves that finish the pattern are known, and are more than the area holds
-  pub short-area : cleared T steps width ≡ answered tt → outcome ≡ refused 13 unplaced → (m : Positive) × Completes T u v m × (area < length m)
+  pub short-area : cleared T budget room ≡ answered tt → outcome ≡ refused 13 unplaced → (m : Positive) × Completes T u v m × (area < length m)
   -- where some moves finish the pattern, the reversing finishes with an empty denominator,
-  pub complement-defined : cleared T steps width ≡ answered tt → (m : Positive) → Completes T u v m → (n : Positive) × Residual T u v n []
+  pub complement-defined : cleared T budget room ≡ answered tt → (m : Positive) → Completes T u v m → (n : Positive) × Residual T u v n []
   -- and where allowance and workspace cover it, the answer is its numerator with its steps, or 13
-  pub answers-moves : cleared T steps width ≡ answered tt → (m : Positive) → Completes T u v m → (n : Positive) (k : ℕ)
-      (run : Finishes T (negative u ++ positive v) n [] k) → CoversSteps steps run → CoversRoom width run
+  pub answers-moves : cleared T budget room ≡ answered tt → (m : Positive) → Completes T u v m → (n : Positive) (k : ℕ)
+      (run : Finishes T (negative u ++ positive v) n [] k) → CoversSteps budget run → CoversRoom room run
       → outcome ≡ unless (ltb area (length n)) 13 (moves-after n k)
   -- any two ways to finish it are joined to each other
-  pub completions-joined : cleared T steps width ≡ answered tt → (m m′ : Positive) → Completes T u v m → Completes T u v m′ → Joined T m m′
+  pub completions-joined : cleared T budget room ≡ answered tt → (m m′ : Positive) → Completes T u v m → Completes T u v m′ → Joined T m m′

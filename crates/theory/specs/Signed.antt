@@ -27,8 +27,8 @@ pub record ClosedSet (T : Presentation) (S : List Positive) : Type 0 where
 -- the table clears, and its mirror does, each at some allowance and room; and the set is closed
 pub record Settles (T : Presentation) (S : List Positive) : Type 0 where
   pub in-range : TableInRange T
-  pub clears : (steps : ℕ) × (width : ℕ) × (cleared T steps width ≡ answered tt)
-  pub mirror-clears : (steps : ℕ) × (width : ℕ) × (mirrorCleared T steps width ≡ answered tt)
+  pub clears : (budget : ℕ) × (room : ℕ) × (cleared T budget room ≡ answered tt)
+  pub mirror-clears : (budget : ℕ) × (room : ℕ) × (mirrorCleared T budget room ≡ answered tt)
   pub closed : ClosedSet T S
 
 -- an ending that names no open pair
@@ -38,18 +38,18 @@ NotOpen end = (a b k : ℕ) → end ≡ open-pair a b k → ⊥
 -- what the reversings say of two words, at every allowance and room
 pub record SignedReversings (T : Presentation) (w w′ : Word) : Type 0 where
   -- the reversing of the first one's undoing, then the second, meets no open pair,
-  pub never-open : (steps width : ℕ) → NotOpen (reversing T steps width (inverse w ++ w′))
+  pub never-open : (budget room : ℕ) → NotOpen (reversing T budget room (inverse w ++ w′))
   -- nor does that of two words without back letters
-  pub forward-never-open : (n d : Positive) → All (InRange (T .size)) n → All (InRange (T .size)) d → (steps width : ℕ)
-      → NotOpen (reversing T steps width (negative n ++ positive d))
+  pub forward-never-open : (n d : Positive) → All (InRange (T .size)) n → All (InRange (T .size)) d → (budget room : ℕ)
+      → NotOpen (reversing T budget room (negative n ++ positive d))
   -- where it finishes, numerator and denominator have letters of the table,
-  pub ends-in-letters : (steps width : ℕ) (n d : Positive) (k r : ℕ) → reversing T steps width (inverse w ++ w′) ≡ finished n d k r
+  pub ends-in-letters : (budget room : ℕ) (n d : Positive) (k r : ℕ) → reversing T budget room (inverse w ++ w′) ≡ finished n d k r
       → All (InRange (T .size)) n × All (InRange (T .size)) d
   -- they are joined if the two words are,
-  pub joined-ends : (steps width : ℕ) (n d : Positive) (k r : ℕ) → reversing T steps width (inverse w ++ w′) ≡ finished n d k r
+  pub joined-ends : (budget room : ℕ) (n d : Positive) (k r : ℕ) → reversing T budget room (inverse w ++ w′) ≡ finished n d k r
       → GroupJoined T w w′ → Joined T n d
   -- and only then
-  pub ends-joined : (steps width : ℕ) (n d : Positive) (k r : ℕ) → reversing T steps width (inverse w ++ w′) ≡ finished n d k r
+  pub ends-joined : (budget room : ℕ) (n d : Positive) (k r : ℕ) → reversing T budget room (inverse w ++ w′) ≡ finished n d k r
       → Joined T n d → GroupJoined T w w′
 
 -- words of the table's letters, under a table that settles them
@@ -59,11 +59,11 @@ SignedMeaning T S = Settles T S → (w w′ : Word) → Lettered (T .size) w →
 -- THE COMPARISON
 
 -- at this allowance and workspace the table has a mirror and clears, its mirror clears, and the set is grown: what comes before the two reversings
-pub record Prepared (T : Presentation) (steps width : ℕ) (S : List Positive) : Type 0 where
+pub record Prepared (T : Presentation) (budget room : ℕ) (S : List Positive) : Type 0 where
   pub has-mirror : mirrorCheck T ≡ answered tt
-  pub clears : cleared T steps width ≡ answered tt
-  pub mirror-clears : ofMirror (cubeCheck (mirror T) steps width (triples (T .size))) ≡ answered tt
-  pub grown : grownSet T steps width ≡ answered S
+  pub clears : cleared T budget room ≡ answered tt
+  pub mirror-clears : ofMirror (cubeCheck (mirror T) budget room (triples (T .size))) ≡ answered tt
+  pub grown : grownSet T budget room ≡ answered S
 
 -- a verdict, or a stop by allowance or memory that names no place
 pub data VerdictOrStop : Outcome SignedVerdict → Type 0 where
@@ -71,25 +71,25 @@ pub data VerdictOrStop : Outcome SignedVerdict → Type 0 where
   by-allowance : VerdictOrStop (refused 11 unplaced)
   by-memory : VerdictOrStop (refused 12 unplaced)
 
--- what the outcome of comparing w and v says, with so many steps allowed and a workspace of `width` bytes
-pub record ComparisonSigned (T : Presentation) (w v : Word) (steps width : ℕ) (outcome : Outcome SignedVerdict) : Type 0 where
+-- what the outcome of comparing w and v says, with so many steps allowed and a workspace of `room` bytes
+pub record ComparisonSigned (T : Presentation) (w v : Word) (budget room : ℕ) (outcome : Outcome SignedVerdict) : Type 0 where
   -- `same` only if a chain of swaps, insertions and removals joins the two words
   pub same-joined : (k j : ℕ) → outcome ≡ answered (same-after-both k j) → GroupJoined T w v
   -- `different` only if none does
   pub different-apart : (k j : ℕ) → outcome ≡ answered (different-after-both k j) → GroupJoined T w v → ⊥
   -- the set that was grown is closed,
-  pub closed : (S : List Positive) → grownSet T steps width ≡ answered S → ClosedSet T S
+  pub closed : (S : List Positive) → grownSet T budget room ≡ answered S → ClosedSet T S
   -- after it the outcome is a verdict or a stop,
-  pub verdict-or-stop : (S : List Positive) → Prepared T steps width S → VerdictOrStop outcome
+  pub verdict-or-stop : (S : List Positive) → Prepared T budget room S → VerdictOrStop outcome
   -- where the table and its mirror clear and a closed set is known, no reversing of two words of the table's letters meets an open pair,
   pub settled : (S : List Positive) → SignedMeaning T S
   -- and so none of these words or of N and D
-  pub reversings : (S : List Positive) → Prepared T steps width S → SignedReversings T w v
+  pub reversings : (S : List Positive) → Prepared T budget room S → SignedReversings T w v
   -- of joined words the first reversing finishes, with N and D, and the second one, of N's undoing and then D, ends empty;
-  pub ends-empty : (S : List Positive) → Prepared T steps width S → GroupJoined T w v
+  pub ends-empty : (S : List Positive) → Prepared T budget room S → GroupJoined T w v
       → (n : Positive) × (d : Positive) × (k : ℕ) × Finishes T (inverse w ++ v) n d k × EndsEmpty T (negative n ++ positive d)
   -- and where allowance and workspace cover both, the answer is `same` with the steps of each
-  pub answers-same : (S : List Positive) → Prepared T steps width S
+  pub answers-same : (S : List Positive) → Prepared T budget room S
       → (n d : Positive) (k j : ℕ) (first : Finishes T (inverse w ++ v) n d k) (second : Finishes T (negative n ++ positive d) [] [] j)
-      → CoversSteps steps first → CoversRoom width first → CoversSteps steps second → CoversRoom width second
+      → CoversSteps budget first → CoversRoom room first → CoversSteps budget second → CoversRoom room second
       → outcome ≡ answered (same-after-both k j)

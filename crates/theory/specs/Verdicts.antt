@@ -19,17 +19,17 @@ pub data Settled (tell : Verdict → Outcome Verdict) : Outcome Verdict → Type
   by-memory : Settled tell (refused 12 unplaced)
 
 -- `tell` is how the service tells a verdict: chain may refuse one with 13
-pub record VerdictMeaning (T : Presentation) (u v : Positive) (steps width : ℕ) (tell : Verdict → Outcome Verdict) (outcome : Outcome Verdict) : Type 0 where
+pub record VerdictMeaning (T : Presentation) (u v : Positive) (budget room : ℕ) (tell : Verdict → Outcome Verdict) (outcome : Outcome Verdict) : Type 0 where
   -- `same` only if a chain of swaps joins the two words
   pub same-joined : (k r : ℕ) → outcome ≡ answered (same-after k r) → Joined T u v
   -- `different` only if none does
   pub different-apart : (k : ℕ) → outcome ≡ answered (different-after k) → Joined T u v → ⊥
   -- under a table that clears it is a verdict, as the service tells it, or a stop
-  pub verdict-or-stop : cleared T steps width ≡ answered tt → Settled tell outcome
+  pub verdict-or-stop : cleared T budget room ≡ answered tt → Settled tell outcome
   -- and 13 comes only where a chain of swaps joins the two words
-  pub short-area : cleared T steps width ≡ answered tt → outcome ≡ refused 13 unplaced → Joined T u v
+  pub short-area : cleared T budget room ≡ answered tt → outcome ≡ refused 13 unplaced → Joined T u v
   -- joined words have a reversing that ends empty,
-  pub ends-empty : cleared T steps width ≡ answered tt → Joined T u v → EndsEmpty T (negative u ++ positive v)
+  pub ends-empty : cleared T budget room ≡ answered tt → Joined T u v → EndsEmpty T (negative u ++ positive v)
   -- and where allowance and workspace cover it, the answer is `same` with its steps, and how many were on two different letters
-  pub answers-same : cleared T steps width ≡ answered tt → Joined T u v → (k : ℕ) (run : Finishes T (negative u ++ positive v) [] [] k)
-      → CoversSteps steps run → CoversRoom width run → outcome ≡ tell (same-after k (differing run))
+  pub answers-same : cleared T budget room ≡ answered tt → Joined T u v → (k : ℕ) (run : Finishes T (negative u ++ positive v) [] [] k)
+      → CoversSteps budget run → CoversRoom room run → outcome ≡ tell (same-after k (differing run))

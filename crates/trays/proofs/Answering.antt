@@ -74,7 +74,7 @@ module _ {A : Type 0} (f : A → Outcome Verdict) where
 -- A TRAY UNDER WAY
 
 -- the first logs are answered, and so many are left from a place of the tray on, whose answers come at a place of the area
-pub record Answered (cells : List ℕ) (size : ℕ) (tray : List ℕ) (pattern : List ℕ) (budget width : ℕ) (images : List (List ℕ)) (before area : List ℕ)
+pub record Answered (cells : List ℕ) (size : ℕ) (tray : List ℕ) (pattern : List ℕ) (budget room : ℕ) (images : List (List ℕ)) (before area : List ℕ)
     (at place left : ℕ) : Type 0 where
   pub done : List (List ℕ)
   pub todo : List (List ℕ)
@@ -83,10 +83,10 @@ pub record Answered (cells : List ℕ) (size : ℕ) (tray : List ℕ) (pattern :
   pub stands : place ≡ 3 * length done
   pub room : place + 3 * left ≤ length before
   pub same-length : length area ≡ length before
-  pub bytes : Under cells size pattern (λ T v. area ≡ written before 0 (trayBytes (map (logVerdict size T v budget width) done)))
+  pub bytes : Under cells size pattern (λ T v. area ≡ written before 0 (trayBytes (map (logVerdict size T v budget room) done)))
 
-module _ (cells : List ℕ) (size : ℕ) (tray : List ℕ) (pattern : List ℕ) (budget width : ℕ) (before : List ℕ) where
-  pub none-answered : (logs : ℕ) (l : LogsOf tray logs) → 3 * logs ≤ length before → Answered cells size tray pattern budget width (l .images) before before 1 0
+module _ (cells : List ℕ) (size : ℕ) (tray : List ℕ) (pattern : List ℕ) (budget room : ℕ) (before : List ℕ) where
+  pub none-answered : (logs : ℕ) (l : LogsOf tray logs) → 3 * logs ≤ length before → Answered cells size tray pattern budget room (l .images) before before 1 0
       logs
   none-answered logs l h = record {
     done = [];
@@ -99,7 +99,7 @@ module _ (cells : List ℕ) (size : ℕ) (tray : List ℕ) (pattern : List ℕ) 
     bytes = λ T o v e. refl;
   }
 
-  module _ (images : List (List ℕ)) (area : List ℕ) (at place left : ℕ) (p : Answered cells size tray pattern budget width images before area at place left)
+  module _ (images : List (List ℕ)) (area : List ℕ) (at place left : ℕ) (p : Answered cells size tray pattern budget room images before area at place left)
     where
       module _ (some : 0 < left) where
         -- the log that stands here, and those behind it
@@ -125,7 +125,7 @@ module _ (cells : List ℕ) (size : ℕ) (tray : List ℕ) (pattern : List ℕ) 
             (both : _≡_ {A = Outcome (Read (List (List ℕ)))} (answered (record { value = r .value ∷ rs .value; rest = rs .rest }))
             (answered (record { value = p .todo; rest = [] })))
             (after : List ℕ) (long : length after ≡ length area)
-            (put : Under cells size pattern (λ T v. after ≡ written area place (logBytes (logVerdict size T v budget width (imageAt tray at))))) where
+            (put : Under cells size pattern (λ T v. after ≡ written area place (logBytes (logVerdict size T v budget room (imageAt tray at))))) where
           this : r ≡ record { value = imageAt tray at; rest = drop (endAt tray at) tray }
           this = same-answer r (record { value = imageAt tray at; rest = drop (endAt tray at) tray }) (sym here ∙ log-read tray at (log-inside tray at r here))
 
@@ -135,7 +135,7 @@ module _ (cells : List ℕ) (size : ℕ) (tray : List ℕ) (pattern : List ℕ) 
           ends : rs .rest ≡ []
           ends = ap (λ r. r .rest) (same-answer (record { value = r .value ∷ rs .value; rest = rs .rest }) (record { value = p .todo; rest = [] }) both)
 
-          one-more : Answered cells size tray pattern budget width images before after (endAt tray at) (place + 3) (left - 1)
+          one-more : Answered cells size tray pattern budget room images before after (endAt tray at) (place + 3) (left - 1)
           one-more = record {
             done = p .done ++ (imageAt tray at ∷ []);
             todo = rs .value;
@@ -149,7 +149,7 @@ module _ (cells : List ℕ) (size : ℕ) (tray : List ℕ) (pattern : List ℕ) 
             room = omega (arith, p .room);
             same-length = long ∙ p .same-length;
             bytes = λ T o v e.
-                let f = logVerdict size T v budget width in
+                let f = logVerdict size T v budget room in
                 let behind-all : place ≡ 0 + length (trayBytes (map f (p .done))) = omega (arith, p .stands, answers-long f (p .done)) in
                 put T o v e
                 ∙ ap₂ (λ a k. written a k (logBytes (f (imageAt tray at)))) (p .bytes T o v e) behind-all
@@ -161,15 +161,15 @@ module _ (cells : List ℕ) (size : ℕ) (tray : List ℕ) (pattern : List ℕ) 
           }
 
         pub one-answered : (after : List ℕ) → length after ≡ length area
-            → Under cells size pattern (λ T v. after ≡ written area place (logBytes (logVerdict size T v budget width (imageAt tray at))))
-            → Answered cells size tray pattern budget width images before after (endAt tray at) (place + 3) (left - 1)
+            → Under cells size pattern (λ T v. after ≡ written area place (logBytes (logVerdict size T v budget room (imageAt tray at))))
+            → Answered cells size tray pattern budget room images before after (endAt tray at) (place + 3) (left - 1)
         one-answered after long put = one-more (split .0) (split .1) (split .2 .0) (split .2 .1) (split .2 .2) after long put
 
-      pub all-answered : left ≡ 0 → Under cells size pattern (λ T v. area ≡ written before 0 (trayBytes (map (logVerdict size T v budget width) images)))
+      pub all-answered : left ≡ 0 → Under cells size pattern (λ T v. area ≡ written before 0 (trayBytes (map (logVerdict size T v budget room) images)))
       all-answered z T o v e =
           let nothing : [] ≡ p .todo =
           ap (λ r. r .value) (same-answer (record { value = []; rest = drop at tray }) (record { value = p .todo; rest = [] })
           (ap (λ k. several readLog k (drop at tray)) {x = 0} {y = left} (sym z) ∙ p .rest)) in
           p .bytes T o v e
-          ∙ ap (λ l. written before 0 (trayBytes (map (logVerdict size T v budget width) l)))
+          ∙ ap (λ l. written before 0 (trayBytes (map (logVerdict size T v budget room) l)))
           (sym (p .all ∙ ap (λ l. p .done ++ l) (sym nothing) ∙ append-nil (p .done)))

@@ -39,22 +39,23 @@ at-start area bytes = ap (λ k. bytes ++ drop k area) {x = 0 + length bytes} {y 
 
 -- A TRAY UNDER A LOADED TABLE
 
-module _ (n : ℕ) (T : Presentation) (v : Positive) (images : List (List ℕ)) (steps : ℕ) (workspace before : List ℕ) where
+module _ (n : ℕ) (T : Presentation) (v : Positive) (images : List (List ℕ)) (budget : ℕ) (workspace before : List ℕ) where
   abbrev outcome : Outcome (List (Outcome Verdict))
-  outcome = trayVerdicts n T v images steps (length workspace) (length before)
+  outcome = trayVerdicts n T v images budget (length workspace) (length before)
 
   abbrev verdicts : List (Outcome Verdict)
-  verdicts = map (logVerdict n T v steps (length workspace)) images
+  verdicts = map (logVerdict n T v budget (length workspace)) images
 
-  pub no-clear : (r : Refusal) → refusal r ≡ cleared T steps (length workspace) → (after : List ℕ) → after ≡ workspaceAfter {A = Unit {0}} (refusal r) workspace
+  pub no-clear : (r : Refusal) → refusal r ≡ cleared T budget (length workspace) → (after : List ℕ)
+      → after ≡ workspaceAfter {A = Unit {0}} (refusal r) workspace
       → States outcome workspace after before before (Refused r)
   no-clear r e after w =
-      subst (λ o. States o workspace after before before (Refused r)) (sym (still-refused (cleared T steps (length workspace)) r (sym e) _))
+      subst (λ o. States o workspace after before before (Refused r)) (sym (still-refused (cleared T budget (length workspace)) r (sym e) _))
       (record { result = refl; answer = refl; workspace = w })
 
-  module _ (clear : answered tt ≡ cleared T steps (length workspace)) (after : List ℕ) (w : after ≡ replicate (length workspace) 0) where
+  module _ (clear : answered tt ≡ cleared T budget (length workspace)) (after : List ℕ) (w : after ≡ replicate (length workspace) 0) where
     goes : outcome ≡ unless (ltb (length before) (3 * length images)) 13 verdicts
-    goes = goes-on (cleared T steps (length workspace)) tt (sym clear) _
+    goes = goes-on (cleared T budget (length workspace)) tt (sym clear) _
 
     pub area-short : length before < 3 * length images → States outcome workspace after before before (Refused AnswerShort)
     area-short h =
@@ -68,7 +69,7 @@ module _ (n : ℕ) (T : Presentation) (v : Positive) (images : List (List ℕ)) 
         subst (λ o. States o workspace after before area (Answered logs))
         (sym (goes ∙ ap (λ t. unless t 13 verdicts) (le-ltb (length before) (3 * length images) h)))
         (record {
-          result = ap answered (sym (length-map images (logVerdict n T v steps (length workspace)) ∙ many));
+          result = ap answered (sym (length-map images (logVerdict n T v budget (length workspace)) ∙ many));
           answer = a ∙ at-start before (trayBytes verdicts);
           workspace = w;
         })
@@ -79,24 +80,24 @@ map-same : {A B : Type 0} (f g : A → B) → ((x : A) → f x ≡ g x) → (xs 
 map-same f g e [] = refl
 map-same f g e (x ∷ xs) = ap (λ y. y ∷ map f xs) (e x) ∙ ap (λ l. g x ∷ l) (map-same f g e xs)
 
-module _ (table logs pattern : List ℕ) (steps width area : ℕ) where
-  pub no-tray : (r : Refusal) → readTray logs ≡ refusal r → tray table logs pattern steps width area ≡ refusal r
+module _ (table logs pattern : List ℕ) (budget room area : ℕ) where
+  pub no-tray : (r : Refusal) → readTray logs ≡ refusal r → tray table logs pattern budget room area ≡ refusal r
   unfolding tray
   no-tray r e = still-refused (readTray logs) r e _
 
   module _ (images : List (List ℕ)) (tray-read : readTray logs ≡ answered images) where
     -- what is left to do once the table and the pattern are read
     abbrev clears : Presentation → Positive → Outcome (List (Outcome Verdict))
-    clears T v = cleared T steps width >>= λ ok. unless (ltb area (3 * length images)) 13 (map (λ image. compare table image pattern steps width) images)
+    clears T v = cleared T budget room >>= λ ok. unless (ltb area (3 * length images)) 13 (map (λ image. compare table image pattern budget room) images)
 
-    pub unread : (r : Refusal) → readTableWith readForward table pattern ≡ refusal r → tray table logs pattern steps width area ≡ refusal r
+    pub unread : (r : Refusal) → readTableWith readForward table pattern ≡ refusal r → tray table logs pattern budget room area ≡ refusal r
     unfolding tray
     unread r e = goes-on (readTray logs) images tray-read _ ∙ program-still-refused readForward table pattern clears r e
 
     module _ (T : Presentation) (table-read : readTable table ≡ answered T) (v : Positive) (pattern-read : readForward (T .size) pattern ≡ answered v) where
       -- a log is compared as by itself
-      as-compared : cleared T steps width ≡ answered tt → (image : List ℕ) → compare table image pattern steps width ≡ logVerdict
-          (T .size) T v steps width image
+      as-compared : cleared T budget room ≡ answered tt → (image : List ℕ) → compare table image pattern budget room ≡ logVerdict
+          (T .size) T v budget room image
       unfolding compare comparison
       as-compared clear image =
           ap (λ o. (o >>= then-pattern) >>= judges) (goes-on (readTable table) T table-read _) ∙ by-log (readForward (T .size) image)
@@ -105,37 +106,37 @@ module _ (table logs pattern : List ℕ) (steps width area : ℕ) where
           then-pattern l = readForward (l .table .size) pattern >>= λ w. answered (record { table = l .table; first = l .word; second = w })
 
           judges : Images Positive → Outcome Verdict
-          judges i = comparison (i .table) (i .first) (i .second) steps width
+          judges i = comparison (i .table) (i .first) (i .second) budget room
 
           by-log : (o : Outcome Positive)
-              → ((o >>= λ u. answered (record { table = T; word = u })) >>= then-pattern >>= judges) ≡ (o >>= λ u. forwardVerdict T u v steps width)
+              → ((o >>= λ u. answered (record { table = T; word = u })) >>= then-pattern >>= judges) ≡ (o >>= λ u. forwardVerdict T u v budget room)
           by-log (answered u) =
               goes-on (then-pattern (record { table = T; word = u })) _ (goes-on (readForward (T .size) pattern) v pattern-read _) judges
-              ∙ goes-on (cleared T steps width) tt clear _
+              ∙ goes-on (cleared T budget room) tt clear _
           by-log (refused n place) = refl
 
-      pub tray-runs : tray table logs pattern steps width area ≡ trayVerdicts (T .size) T v images steps width area
+      pub tray-runs : tray table logs pattern budget room area ≡ trayVerdicts (T .size) T v images budget room area
       unfolding tray
       tray-runs =
           goes-on (readTray logs) images tray-read _
-          ∙ (program-runs readForward table pattern clears T v table-read pattern-read ∙ by-clear (cleared T steps width) refl)
+          ∙ (program-runs readForward table pattern clears T v table-read pattern-read ∙ by-clear (cleared T budget room) refl)
         where
-          by-clear : (o : Outcome (Unit {0})) → cleared T steps width ≡ o
-              → (o >>= λ ok. unless (ltb area (3 * length images)) 13 (map (λ image. compare table image pattern steps width) images))
-              ≡ (o >>= λ ok. unless (ltb area (3 * length images)) 13 (map (logVerdict (T .size) T v steps width) images))
+          by-clear : (o : Outcome (Unit {0})) → cleared T budget room ≡ o
+              → (o >>= λ ok. unless (ltb area (3 * length images)) 13 (map (λ image. compare table image pattern budget room) images))
+              ≡ (o >>= λ ok. unless (ltb area (3 * length images)) 13 (map (logVerdict (T .size) T v budget room) images))
           by-clear (answered tt) e =
               ap (unless (ltb area (3 * length images)) 13)
-              (map-same (λ image. compare table image pattern steps width) (logVerdict (T .size) T v steps width) (as-compared e) images)
+              (map-same (λ image. compare table image pattern budget room) (logVerdict (T .size) T v budget room) (as-compared e) images)
           by-clear (refused n place) e = refl
 
       -- by the size that was loaded
-      pub sized-runs : (size : ℕ) → T .size ≡ size → tray table logs pattern steps width area ≡ trayVerdicts size T v images steps width area
-      sized-runs size e = tray-runs ∙ ap (λ n. trayVerdicts n T v images steps width area) e
+      pub sized-runs : (size : ℕ) → T .size ≡ size → tray table logs pattern budget room area ≡ trayVerdicts size T v images budget room area
+      sized-runs size e = tray-runs ∙ ap (λ n. trayVerdicts n T v images budget room area) e
 
 -- what is told of a refusal, and how it leaves the areas
-module _ (table logs pattern : List ℕ) (steps : ℕ) (workspace before : List ℕ) where
+module _ (table logs pattern : List ℕ) (budget : ℕ) (workspace before : List ℕ) where
   abbrev whole : Outcome (List (Outcome Verdict))
-  whole = tray table logs pattern steps (length workspace) (length before)
+  whole = tray table logs pattern budget (length workspace) (length before)
 
   pub tray-refused : (r : Refusal) → whole ≡ refusal r → {A : Type 0} (first : Outcome A) (k : ℕ) → first ≡ refusal r → Early k first → k ≤ 8
       → States whole workspace workspace before before (Refused r)
@@ -164,7 +165,7 @@ told o (settled (different-after k)) = told-different (k / 256) (k % 256)
 told o by-allowance = stopped-by-allowance
 told o by-memory = stopped-by-memory
 
-module _ (T : Presentation) (u v : Positive) (steps width : ℕ) (o : Outcome Verdict) (d : VerdictMeaning T u v steps width answered o) where
+module _ (T : Presentation) (u v : Positive) (budget room : ℕ) (o : Outcome Verdict) (d : VerdictMeaning T u v budget room answered o) where
   zero-joined : (q : Outcome Verdict) → o ≡ q → Settled answered q → (high low : ℕ) → logBytes q ≡ 0 ∷ high ∷ low ∷ [] → Joined T u v
   zero-joined q e (settled (same-after k r)) high low b = d .same-joined k r e
   zero-joined q e (settled (different-after k)) high low b = let z = first-byte b in absurd (omega (arith, z))
@@ -177,7 +178,7 @@ module _ (T : Presentation) (u v : Positive) (steps width : ℕ) (o : Outcome Ve
   one-apart q e by-allowance high low b = let z = first-byte b in absurd (omega (arith, z))
   one-apart q e by-memory high low b = let z = first-byte b in absurd (omega (arith, z))
 
-  log-says : cleared T steps width ≡ answered tt → LogSays T u v steps width (logBytes o)
+  log-says : cleared T budget room ≡ answered tt → LogSays T u v budget room (logBytes o)
   log-says clear = record {
     same-joined = zero-joined o refl (d .verdict-or-stop clear);
     different-apart = one-apart o refl (d .verdict-or-stop clear);
@@ -186,10 +187,10 @@ module _ (T : Presentation) (u v : Positive) (steps width : ℕ) (o : Outcome Ve
     answers-same = λ joined k run s r. ap logBytes (d .answers-same clear joined k run s r);
   }
 
-forward-compared : (T : Presentation) (u v : Positive) (steps width : ℕ) → cleared T steps width ≡ answered tt
-    → forwardVerdict T u v steps width ≡ comparison T u v steps width
+forward-compared : (T : Presentation) (u v : Positive) (budget room : ℕ) → cleared T budget room ≡ answered tt
+    → forwardVerdict T u v budget room ≡ comparison T u v budget room
 unfolding comparison
-forward-compared T u v steps width clear = sym (goes-on (cleared T steps width) tt clear _)
+forward-compared T u v budget room clear = sym (goes-on (cleared T budget room) tt clear _)
 
 -- the bytes of one log among those of a tray
 answer-of-log : {A : Type 0} (f : A → Outcome Verdict) (earlier later : List A) (log : A) (area : List ℕ)
@@ -205,17 +206,17 @@ answer-of-log f earlier later log area =
     ∙ (ap (take 3) (append-assoc L R D) ∙ take-at L (R ++ D) 3 (log-bytes-long (f log)))))
 
 -- a tray that is answered has a pattern that was read, and its verdicts
-record AnswerShows (pattern : List ℕ) (steps width : ℕ) (images : List (List ℕ)) (T : Presentation) (vs : List (Outcome Verdict)) : Type 0 where
+record AnswerShows (pattern : List ℕ) (budget room : ℕ) (images : List (List ℕ)) (T : Presentation) (vs : List (Outcome Verdict)) : Type 0 where
   word : Positive
   pattern-read : readForward (T .size) pattern ≡ answered word
-  clear : cleared T steps width ≡ answered tt
-  verdicts-are : vs ≡ map (logVerdict (T .size) T word steps width) images
+  clear : cleared T budget room ≡ answered tt
+  verdicts-are : vs ≡ map (logVerdict (T .size) T word budget room) images
 
-module _ (table logs pattern : List ℕ) (steps width area : ℕ) (vs : List (Outcome Verdict)) (e : tray table logs pattern steps width area ≡ answered vs)
+module _ (table logs pattern : List ℕ) (budget room area : ℕ) (vs : List (Outcome Verdict)) (e : tray table logs pattern budget room area ≡ answered vs)
     (images : List (List ℕ)) (tray-read : readTray logs ≡ answered images) (T : Presentation) (table-read : readTable table ≡ answered T) where
   abbrev clears-all : TableWith Positive → Outcome (List (Outcome Verdict))
   clears-all l =
-      cleared (l .table) steps width >>= λ ok. unless (ltb area (3 * length images)) 13 (map (λ image. compare table image pattern steps width) images)
+      cleared (l .table) budget room >>= λ ok. unless (ltb area (3 * length images)) 13 (map (λ image. compare table image pattern budget room) images)
 
   by-pattern : (o : Outcome Positive) → ((o >>= λ w. answered (record { table = T; word = w })) >>= clears-all) ≡ answered vs
       → (v : Positive) × (o ≡ answered v) × (clears-all (record { table = T; word = v }) ≡ answered vs)
@@ -228,12 +229,12 @@ module _ (table logs pattern : List ℕ) (steps width area : ℕ) (vs : List (Ou
       by-pattern (readForward (T .size) pattern)
       (sym (goes-on (readTray logs) images tray-read _ ∙ ap (λ o. o >>= clears-all) (goes-on (readTable table) T table-read _)) ∙ e)
 
-  answer-shows : AnswerShows pattern steps width images T vs
+  answer-shows : AnswerShows pattern budget room images T vs
   answer-shows =
       let v = pattern-answered .0 in
-      let f = logVerdict (T .size) T v steps width in
-      let h = answer-of (cleared T steps width) (λ ok. unless (ltb area (3 * length images)) 13 (map f images)) vs
-      (sym (tray-runs table logs pattern steps width area images tray-read T table-read v (pattern-answered .1)) ∙ e) in
+      let f = logVerdict (T .size) T v budget room in
+      let h = answer-of (cleared T budget room) (λ ok. unless (ltb area (3 * length images)) 13 (map f images)) vs
+      (sym (tray-runs table logs pattern budget room area images tray-read T table-read v (pattern-answered .1)) ∙ e) in
       record {
         word = v;
         pattern-read = pattern-answered .1;
@@ -241,53 +242,53 @@ module _ (table logs pattern : List ℕ) (steps width area : ℕ) (vs : List (Ou
         verdicts-are = sym (not-refused (ltb area (3 * length images)) 13 (map f images) vs (h .2) .1);
       }
 
-module _ (table logs pattern : List ℕ) (steps width : ℕ) (before : List ℕ) (vs : List (Outcome Verdict))
-    (e : tray table logs pattern steps width (length before) ≡ answered vs)
+module _ (table logs pattern : List ℕ) (budget room : ℕ) (before : List ℕ) (vs : List (Outcome Verdict))
+    (e : tray table logs pattern budget room (length before) ≡ answered vs)
     (after : List ℕ) (a : after ≡ begins (trayBytes vs) before) (earlier later : List (List ℕ)) (log : List ℕ)
     (read : readTray logs ≡ answered (earlier ++ (log ∷ later))) where
   abbrev bytes-here : List ℕ
   bytes-here = take 3 (drop (3 * length earlier) after)
 
   -- the bytes at the log's place are those of its own verdict
-  told-here : (T : Presentation) (v : Positive) → vs ≡ map (logVerdict (T .size) T v steps width) (earlier ++ (log ∷ later))
-      → bytes-here ≡ logBytes (logVerdict (T .size) T v steps width log)
+  told-here : (T : Presentation) (v : Positive) → vs ≡ map (logVerdict (T .size) T v budget room) (earlier ++ (log ∷ later))
+      → bytes-here ≡ logBytes (logVerdict (T .size) T v budget room log)
   told-here T v q =
       ap (λ l. take 3 (drop (3 * length earlier) l)) (a ∙ ap (λ l. begins (trayBytes l) before) q)
-      ∙ answer-of-log (logVerdict (T .size) T v steps width) earlier later log before
+      ∙ answer-of-log (logVerdict (T .size) T v budget room) earlier later log before
 
-  log-means : LogMeans table log pattern steps width bytes-here
+  log-means : LogMeans table log pattern budget room bytes-here
   log-means = record {
     refused-log = λ T table-read n place r.
-        let p = answer-shows table logs pattern steps width (length before) vs e (earlier ++ (log ∷ later)) read T table-read in
-        told-here T (p .word) (p .verdicts-are) ∙ ap (λ o. logBytes (o >>= λ u. forwardVerdict T u (p .word) steps width)) r;
+        let p = answer-shows table logs pattern budget room (length before) vs e (earlier ++ (log ∷ later)) read T table-read in
+        told-here T (p .word) (p .verdicts-are) ∙ ap (λ o. logBytes (o >>= λ u. forwardVerdict T u (p .word) budget room)) r;
     compared-log = λ T u v c.
-        let p = answer-shows table logs pattern steps width (length before) vs e (earlier ++ (log ∷ later)) read T (c .table-read) in
+        let p = answer-shows table logs pattern budget room (length before) vs e (earlier ++ (log ∷ later)) read T (c .table-read) in
         let same : p .word ≡ v = same-answer (p .word) v (sym (p .pattern-read) ∙ c .second-read) in
-        let here : logVerdict (T .size) T (p .word) steps width log ≡ comparison T u v steps width =
-        ap (λ w. logVerdict (T .size) T w steps width log) same ∙ goes-on (readForward (T .size) log) u (c .first-read) _
-        ∙ forward-compared T u v steps width (p .clear) in
-        subst (LogSays T u v steps width) (sym (told-here T (p .word) (p .verdicts-are) ∙ ap logBytes here))
-        (log-says T u v steps width (comparison T u v steps width) (verdict-meaning T u v steps width) (p .clear));
+        let here : logVerdict (T .size) T (p .word) budget room log ≡ comparison T u v budget room =
+        ap (λ w. logVerdict (T .size) T w budget room log) same ∙ goes-on (readForward (T .size) log) u (c .first-read) _
+        ∙ forward-compared T u v budget room (p .clear) in
+        subst (LogSays T u v budget room) (sym (told-here T (p .word) (p .verdicts-are) ∙ ap logBytes here))
+        (log-says T u v budget room (comparison T u v budget room) (verdict-meaning T u v budget room) (p .clear));
   }
 
-pub tray-says : (table logs pattern : List ℕ) (steps width : ℕ) (before : List ℕ) (o : Outcome (List (Outcome Verdict)))
-    → tray table logs pattern steps width (length before) ≡ o → (after : List ℕ)
-    → after ≡ outputAfter trayBytes o before → TraySays table logs pattern steps width (mapped length o) after
-tray-says table logs pattern steps width before (refused n place) e after a = tt
-tray-says table logs pattern steps width before (answered vs) e after a = log-means table logs pattern steps width before vs e after a
+pub tray-says : (table logs pattern : List ℕ) (budget room : ℕ) (before : List ℕ) (o : Outcome (List (Outcome Verdict)))
+    → tray table logs pattern budget room (length before) ≡ o → (after : List ℕ)
+    → after ≡ outputAfter trayBytes o before → TraySays table logs pattern budget room (mapped length o) after
+tray-says table logs pattern budget room before (refused n place) e after a = tt
+tray-says table logs pattern budget room before (answered vs) e after a = log-means table logs pattern budget room before vs e after a
 
 -- what the service promises
-module _ (table logs pattern : List ℕ) (steps : ℕ) (workspace workspace-after before after : List ℕ) (r : TrayCompared) where
+module _ (table logs pattern : List ℕ) (budget : ℕ) (workspace workspace-after before after : List ℕ) (r : TrayCompared) where
   abbrev result : Outcome (List (Outcome Verdict))
-  result = tray table logs pattern steps (length workspace) (length before)
+  result = tray table logs pattern budget (length workspace) (length before)
 
   pub promised : States result workspace workspace-after before after r
-      → TrayPromise table logs pattern steps workspace workspace-after before after (trayCompared r)
+      → TrayPromise table logs pattern budget workspace workspace-after before after (trayCompared r)
   promised s = record {
     stated = s .result;
     answer-is = s .answer;
     workspace-is = s .workspace;
     meaning =
-        subst (λ o. TraySays table logs pattern steps (length workspace) o after) (sym (s .result))
-        (tray-says table logs pattern steps (length workspace) before result refl after (s .answer));
+        subst (λ o. TraySays table logs pattern budget (length workspace) o after) (sym (s .result))
+        (tray-says table logs pattern budget (length workspace) before result refl after (s .answer));
   }

@@ -21,7 +21,7 @@ pub data Told : List ℕ → Type 0 where
   by-memory : Told (12 ∷ 0 ∷ 0 ∷ [])
 
 -- the bytes told of the log u and the pattern v under a table that has cleared
-pub record LogSays (T : Presentation) (u v : Positive) (steps width : ℕ) (bytes : List ℕ) : Type 0 where
+pub record LogSays (T : Presentation) (u v : Positive) (budget room : ℕ) (bytes : List ℕ) : Type 0 where
   -- 0 only if a chain of swaps joins the two words
   pub same-joined : (high low : ℕ) → bytes ≡ 0 ∷ high ∷ low ∷ [] → Joined T u v
   -- 1 only if none does
@@ -32,22 +32,22 @@ pub record LogSays (T : Presentation) (u v : Positive) (steps width : ℕ) (byte
   pub ends-empty : Joined T u v → EndsEmpty T (negative u ++ positive v)
   -- and where allowance and workspace cover it, the bytes are 0 and its steps
   pub answers-same : Joined T u v → (k : ℕ) (run : Finishes T (negative u ++ positive v) [] [] k)
-      → CoversSteps steps run → CoversRoom width run → bytes ≡ 0 ∷ k / 256 ∷ k % 256 ∷ []
+      → CoversSteps budget run → CoversRoom room run → bytes ≡ 0 ∷ k / 256 ∷ k % 256 ∷ []
 
 -- what is told of a log, whatever its image holds
-pub record LogMeans (table log pattern : List ℕ) (steps width : ℕ) (bytes : List ℕ) : Type 0 where
+pub record LogMeans (table log pattern : List ℕ) (budget room : ℕ) (bytes : List ℕ) : Type 0 where
   -- of one that is no forward program the number of its refusal, without steps
   pub refused-log : (T : Presentation) → readTable table ≡ answered T → (n : ℕ) (place : Place) → readForward (T .size) log ≡ refused n place
       → bytes ≡ n ∷ 0 ∷ 0 ∷ []
   -- of any other what a comparison with the pattern says
-  pub compared-log : (T : Presentation) (u v : Positive) → Compares table log pattern T u v → LogSays T u v steps width bytes
+  pub compared-log : (T : Presentation) (u v : Positive) → Compares table log pattern T u v → LogSays T u v budget room bytes
 
 -- WHAT AN ANSWER MEANS (6.19): the bytes at each log's place, whatever the other logs are
 abbrev pub TraySays : List ℕ → List ℕ → List ℕ → ℕ → ℕ → Outcome ℕ → List ℕ → Type 0
-TraySays table tray pattern steps width (refused n place) area = Unit {0}
-TraySays table tray pattern steps width (answered logs) area =
+TraySays table tray pattern budget room (refused n place) area = Unit {0}
+TraySays table tray pattern budget room (answered logs) area =
     (earlier later : List (List ℕ)) (log : List ℕ) → readTray tray ≡ answered (earlier ++ (log ∷ later))
-    → LogMeans table log pattern steps width (take 3 (drop (3 * length earlier) area))
+    → LogMeans table log pattern budget room (take 3 (drop (3 * length earlier) area))
 
 -- THE SERVICE'S PROMISE (6.19): the outcome that is told, both areas after the call, and what the answer says
 pub record TrayPromise (table tray pattern : List ℕ) (allowance : ℕ) (workspace workspace′ answer answer′ : List ℕ) (outcome : Outcome ℕ) : Type 0 where

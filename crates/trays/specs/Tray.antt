@@ -19,13 +19,13 @@ use Rattle.trays.specs.Logs.{imageAt, endAt, LogsOf}
 
 -- a log of n letters against the pattern v, under a table that has cleared
 abbrev pub logVerdict : ℕ → Presentation → Positive → ℕ → ℕ → List ℕ → Outcome Verdict
-logVerdict n T v steps width image = readForward n image >>= λ u. forwardVerdict T u v steps width
+logVerdict n T v budget room image = readForward n image >>= λ u. forwardVerdict T u v budget room
 
 -- the logs of a tray under a table that was loaded
 abbrev pub trayVerdicts : ℕ → Presentation → Positive → List (List ℕ) → ℕ → ℕ → ℕ → Outcome (List (Outcome Verdict))
-trayVerdicts n T v images steps width area =
-    cleared T steps width >>= λ ok.
-    unless (ltb area (3 * length images)) 13 (map (logVerdict n T v steps width) images)
+trayVerdicts n T v images budget room area =
+    cleared T budget room >>= λ ok.
+    unless (ltb area (3 * length images)) 13 (map (logVerdict n T v budget room) images)
 
 -- under every table that the cells stand for, and the pattern that the image holds
 abbrev pub Under : List ℕ → ℕ → List ℕ → (Presentation → Positive → Type 0) → Type 0

@@ -18,9 +18,9 @@ returns c =
     let w = c .before .before .before in
     let t = checked w .check-triples in
     let a = start (checked w) .args in
-    let width = length (a .workspace .now) in (
-      subst (CubesMean (a .of) (a .cells .now) (a .size) (a .budget) width) (sym (c .triples-answer .ensures))
-          (cubes-mean (a .of) (a .cells .now) (a .size) (a .budget) width (t .result) (t .ensures .1)),
+    let room = length (a .workspace .now) in (
+      subst (CubesMean (a .of) (a .cells .now) (a .size) (a .budget) room) (sym (c .triples-answer .ensures))
+          (cubes-mean (a .of) (a .cells .now) (a .size) (a .budget) room (t .result) (t .ensures .1)),
       w .wipe .ensures ∙ ap (λ n. replicate n 0) (t .ensures .0),
     )
 

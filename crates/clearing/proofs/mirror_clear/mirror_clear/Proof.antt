@@ -14,13 +14,13 @@ returns : tie.Need-returns
 returns c =
     let z = c .before .before .clear-image .ensures in
     let a = start (c .before .before) .args in
-    let width = length (a .workspace .now) in
-    let means = mirror-means (a .table .now) (a .allowance) width in
+    let room = length (a .workspace .now) in
+    let means = mirror-means (a .table .now) (a .allowance) room in
     record {
       stated = z .stated;
       workspace-is = z .workspace;
       meaning =
-          subst (MirrorClearSays (a .table .now) (a .allowance) width) (sym (z .stated)) means;
+          subst (MirrorClearSays (a .table .now) (a .allowance) room) (sym (z .stated)) means;
     }
 
 pub mirror-clear-spec : {M : Type 1} → statement M

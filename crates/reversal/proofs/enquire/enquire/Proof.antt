@@ -41,13 +41,13 @@ returns c =
     let k = after-cells2 (c .before .before) .before in
     let a = start k .args in
     let r = c .before .read .given in
-    let width = length (a .workspace .now) in
-    let o = enquire-refused (a .table .now) (a .program .now) (a .allowance) width (r .0 .0) (done k _ (r .1)) in
-    let means = foretells (a .table .now) (a .program .now) (a .allowance) width in
+    let room = length (a .workspace .now) in
+    let o = enquire-refused (a .table .now) (a .program .now) (a .allowance) room (r .0 .0) (done k _ (r .1)) in
+    let means = foretells (a .table .now) (a .program .now) (a .allowance) room in
     record {
       stated = o .stated;
       workspace-is = o .workspace (a .workspace .now);
-      meaning = subst (EnquireSays (a .table .now) (a .program .now) (a .allowance) width) (sym (o .stated)) means;
+      meaning = subst (EnquireSays (a .table .now) (a .program .now) (a .allowance) room) (sym (o .stated)) means;
     }
 
 returns-2 : tie.Need-returns-2
@@ -58,15 +58,15 @@ returns-2 c =
     let t = done (reading k) _ (k .read2 .given .1) in
     let p = t .runs in
     let q = p .accepted .program in
-    let width = length (a .workspace .now) in
-    let o = enquire-runs (a .table .now) (a .program .now) (a .allowance) width (p .table) (t .table-read) (q .word) (t .program-read) in
+    let room = length (a .workspace .now) in
+    let o = enquire-runs (a .table .now) (a .program .now) (a .allowance) room (p .table) (t .table-read) (q .word) (t .program-read) in
     let stated = z .answers (p .table) (p .of) (q .word) (q .read) ∙ sym o in
-    let zero = sizes-late (reversing (p .table) (a .allowance) width (q .word)) .zero (a .workspace .now) in
-    let means = foretells (a .table .now) (a .program .now) (a .allowance) width in
+    let zero = sizes-late (reversing (p .table) (a .allowance) room (q .word)) .zero (a .workspace .now) in
+    let means = foretells (a .table .now) (a .program .now) (a .allowance) room in
     record {
       stated = stated;
       workspace-is = z .wiped ∙ sym (ap (λ x. workspaceAfter x (a .workspace .now)) o ∙ zero);
-      meaning = subst (EnquireSays (a .table .now) (a .program .now) (a .allowance) width) (sym stated) means;
+      meaning = subst (EnquireSays (a .table .now) (a .program .now) (a .allowance) room) (sym stated) means;
     }
 
 pub enquire-spec : {M : Type 1} → statement M

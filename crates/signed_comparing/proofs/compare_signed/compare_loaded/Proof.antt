@@ -97,16 +97,16 @@ returns-2 c =
     let z = after-slice-known2-from-after-reverse-signed j .before .before .prepare in
     let k = after-settle (c .before .before) in
     let area = s .args .workspace .now in
-    let width = length area in
+    let room = length area in
     record {
       workspace =
           c .before .before .wipe .ensures ∙ ap (λ n. replicate n 0) (k .settle .ensures .0 ∙ long (after-reverse-signed k))
           ∙ sym (ap (λ o. workspaceAfter o area) (verdict k (p .table) (p .of) (one .word) (two .word) (one .read) (two .read))
-          ∙ signed-late (p .table) (s .args .budget) width (reversing (p .table) (s .args .budget) width (inverse (one .word) ++ two .word)) .zero area);
+          ∙ signed-late (p .table) (s .args .budget) room (reversing (p .table) (s .args .budget) room (inverse (one .word) ++ two .word)) .zero area);
       states = λ T o w v ew ev.
           verdict k T o w v ew ev
-          ∙ sym (signed-runs T w v (s .args .budget) width
-          (subst (λ x. clearedAs x ≡ prepared T (s .args .budget) width) (j .before .before .enum-told .given .1) (z .ensures .0 T o)));
+          ∙ sym (signed-runs T w v (s .args .budget) room
+          (subst (λ x. clearedAs x ≡ prepared T (s .args .budget) room) (j .before .before .enum-told .given .1) (z .ensures .0 T o)));
     }
 
 pub compare-loaded-spec : {M : Type 1} → statement M

@@ -30,9 +30,9 @@ compare-fraction-requires c κs =
     let k = g .0 .1 .1 .0 in
     let r = g .0 .1 .1 .1 .0 in
     let p = s .pre in
-    let ran = subst (Reverses (p .table) (p .word) (p .steps) (s .args .workspace .now)) (g .1) (p .reverses) in
-    let q = done (p .table) (p .word) (p .steps) (s .args .workspace .now) n d k r ran in
-    (p .table, q .N, q .D, left-of (s .args .cells .now) (p .table) (p .stands) (p .word) (p .steps) (s .args .workspace .now) n d k r ran)
+    let ran = subst (Reverses (p .table) (p .word) (p .budget) (s .args .workspace .now)) (g .1) (p .reverses) in
+    let q = done (p .table) (p .word) (p .budget) (s .args .workspace .now) n d k r ran in
+    (p .table, q .N, q .D, left-of (s .args .cells .now) (p .table) (p .stands) (p .word) (p .budget) (s .args .workspace .now) n d k r ran)
 
 returns : tie.Need-returns
 returns c =

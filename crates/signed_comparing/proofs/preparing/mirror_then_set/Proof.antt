@@ -40,10 +40,10 @@ returns-2 c =
     let a = start k .args in
     let g = grown w .grow-set in
     let z = k .check-cubes in
-    let width = length (a .workspace .now) in
-    let long : length (z .last .1 .1 .1 .1 .0) ≡ width = ap length (z .ensures .1) ∙ length-replicate width 0 in (
-      subst (MirrorThenSet (a .cells .now) (a .mirror .now) (a .size) (a .budget) width) (sym (c .grown-answer .ensures))
-          (set-grown (a .cells .now) (a .mirror .now) (a .size) (a .budget) width (z .ensures .0) (told .enum-told .given .1) (g .result)
+    let room = length (a .workspace .now) in
+    let long : length (z .last .1 .1 .1 .1 .0) ≡ room = ap length (z .ensures .1) ∙ length-replicate room 0 in (
+      subst (MirrorThenSet (a .cells .now) (a .mirror .now) (a .size) (a .budget) room) (sym (c .grown-answer .ensures))
+          (set-grown (a .cells .now) (a .mirror .now) (a .size) (a .budget) room (z .ensures .0) (told .enum-told .given .1) (g .result)
           (subst (λ n. SetMeans (a .cells .now) (a .size) n (a .budget) (g .result)) long (g .ensures .1))),
       w .wipe .ensures ∙ ap (λ n. replicate n 0) (g .ensures .0 ∙ long),
     )

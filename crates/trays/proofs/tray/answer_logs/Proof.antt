@@ -75,12 +75,12 @@ loop-again c =
     let s = start (after-shared-slice-known2 (at-loop (in-loop j))) in
     let l = at-loop (in-loop j) .loop in
     let x = j .before .answer-log in
-    let width = length (s .args .workspace .now) in (
+    let room = length (s .args .workspace .now) in (
       x .ensures .workspace ∙ l .inv .0,
       λ logs.
-          subst (λ k. Answered (s .args .cells .now) (s .args .size) (s .args .tray .now) (s .args .pattern .now) (s .args .budget) width (logs .images)
+          subst (λ k. Answered (s .args .cells .now) (s .args .size) (s .args .tray .now) (s .args .pattern .now) (s .args .budget) room (logs .images)
           (s .args .answer .now) (x .last .1 .1 .1 .1 .1 .1 .1 .1 .1 .0) k (l .place + 3) (l .left - 1)) (sym (x .ensures .ends))
-          (one-answered (s .args .cells .now) (s .args .size) (s .args .tray .now) (s .args .pattern .now) (s .args .budget) width (s .args .answer .now)
+          (one-answered (s .args .cells .now) (s .args .size) (s .args .tray .now) (s .args .pattern .now) (s .args .budget) room (s .args .answer .now)
           (logs .images) (l .answer) (l .at) (l .place) (l .left) (l .inv .1 logs) (in-loop j .loop-test .taken) (x .last .1 .1 .1 .1 .1 .1 .1 .1 .1 .0)
           (x .ensures .same-length)
           (λ T o v e. x .ensures .answer T o v e
