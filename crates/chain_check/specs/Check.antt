@@ -19,9 +19,9 @@ use Rattle.images.specs.Chains.{ChainOf}
 use Rattle.cells.specs.Stands.{Of}
 use Rattle.loading.specs.Loading.{Forward}
 
-pub record ForwardChain (cells : List ℕ) (size : ℕ) (first : List ℕ) (first-count : ℕ) (second : List ℕ) (second-count : ℕ) (entries : List ℕ)
+pub record ForwardChain (cells : List ℕ) (size : ℕ) (first : List ℕ) (firsts : ℕ) (second : List ℕ) (seconds : ℕ) (entries : List ℕ)
     (entry-count : ℕ) : Type 0 where
-  pub forward : Forward cells size first first-count second second-count
+  pub forward : Forward cells size first firsts second seconds
   pub chain : ChainOf entries size entry-count
 
 abbrev pub PassageMeans : List ℕ → ℕ → List ℕ → List ℕ → List ℕ → ℕ → Checked → Type 0

@@ -26,25 +26,25 @@ pub fn pass(
     cells: &[u8],
     size: u8,
     first: &[u8],
-    m: u16,
+    firsts: u16,
     second: &[u8],
-    n: u16,
+    seconds: u16,
     entries: &[u8],
     count: u16,
     workspace: &mut [u8],
 ) -> Checked
-    requires { ⌜ ForwardChain (now cells) size (now first) m (now second) n (now entries) count ⌝ }
+    requires { ⌜ ForwardChain (now cells) size (now first) firsts (now second) seconds (now entries) count ⌝ }
     ensures length { λ r. ⌜ length (now (workspace .exit)) ≡ length (now (workspace .entry)) ⌝ }
     ensures passage { λ r. ⌜ PassageMeans (now (cells .entry)) size (now (first .entry)) (now (second .entry)) (now (entries .entry))
         (length (now (workspace .entry))) r ⌝ }
 {
     let end = workspace.len();
-    let letters = m as usize;
+    let letters = firsts as usize;
     if end < letters {
         return Checked::Refused(Refusal::WorkspaceShort(Place::Programs));
     }
     let right = end - letters;
-    unpack_letters(first, size, m, workspace, right);
+    unpack_letters(first, size, firsts, workspace, right);
     let followed = follow(
         cells,
         size,
@@ -59,7 +59,7 @@ pub fn pass(
         Followed::Ended(last) => {
             let all = last.left + (end - last.right);
             carry(workspace, last, all);
-            let same = spells(workspace, all, second, size, n);
+            let same = spells(workspace, all, second, size, seconds);
             if same {
                 return Checked::Joins;
             }
@@ -73,18 +73,28 @@ pub fn check_programs(
     cells: &[u8],
     size: u8,
     first: &[u8],
-    m: u16,
+    firsts: u16,
     second: &[u8],
-    n: u16,
+    seconds: u16,
     entries: &[u8],
     count: u16,
     workspace: &mut [u8],
 ) -> Checked
-    requires { ⌜ ForwardChain (now cells) size (now first) m (now second) n (now entries) count ⌝ }
+    requires { ⌜ ForwardChain (now cells) size (now first) firsts (now second) seconds (now entries) count ⌝ }
     ensures { λ r. ⌜ Checks (now (cells .entry)) size (now (first .entry)) (now (second .entry)) (now (entries .entry)) (now (workspace .entry))
         (now (workspace .exit)) r ⌝ }
 {
-    let answer = pass(cells, size, first, m, second, n, entries, count, workspace);
+    let answer = pass(
+        cells,
+        size,
+        first,
+        firsts,
+        second,
+        seconds,
+        entries,
+        count,
+        workspace,
+    );
     wipe(workspace);
     answer
 }
@@ -105,8 +115,8 @@ pub fn check(
         ProgramsRead::Refused(refusal) => Checked::Refused(refusal),
         ProgramsRead::Programs {
             size,
-            m,
-            n,
+            firsts,
+            seconds,
             first_weight: _,
             second_weight: _,
         } => {
@@ -117,9 +127,9 @@ pub fn check(
                     &cells,
                     size,
                     first,
-                    m,
+                    firsts,
                     second,
-                    n,
+                    seconds,
                     entries,
                     count,
                     workspace,

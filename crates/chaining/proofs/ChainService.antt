@@ -122,10 +122,11 @@ listed-of T u v r before after few c =
     }
 
 -- what the listing asks, from the comparison and the programs that were loaded again
-module _ (cells : List ℕ) (size : ℕ) (T : Presentation) (o : Of cells size T) (u v : Positive) (first second : List ℕ) (m n : ℕ) (one : ForwardOf first size m)
-    (two : ForwardOf second size n) (eu : one .word ≡ u) (ev : two .word ≡ v) (budget room k r : ℕ) (e : Ended T u v budget room k r) (bytes : List ℕ)
+module _ (cells : List ℕ) (size : ℕ) (T : Presentation) (o : Of cells size T) (u v : Positive) (first second : List ℕ) (firsts seconds : ℕ)
+    (one : ForwardOf first size firsts)
+    (two : ForwardOf second size seconds) (eu : one .word ≡ u) (ev : two .word ≡ v) (budget room k r : ℕ) (e : Ended T u v budget room k r) (bytes : List ℕ)
     (right : ℕ)
-    (same-room : length bytes ≡ room) (l : LoadedPrograms cells T u v bytes m right) (area : ℕ) (enough : chainBytes size r ≤ area) where
+    (same-room : length bytes ≡ room) (l : LoadedPrograms cells T u v bytes firsts right) (area : ℕ) (enough : chainBytes size r ≤ area) where
   few : size ≤ 16
   few = of-few o
 
@@ -141,7 +142,7 @@ module _ (cells : List ℕ) (size : ℕ) (T : Presentation) (o : Of cells size T
   lettered : (w : Positive) → ProgramInRange size (positive w) → Lettered (T .size) (positive w)
   lettered w p = subst (λ i. Lettered i (positive w)) (sym (o .sized)) (p .letters)
 
-  pub listed-from : Listed-from cells size bytes m right r area T u v k
+  pub listed-from : Listed-from cells size bytes firsts right r area T u v k
   listed-from =
       record {
         stands = o .stands;

@@ -26,16 +26,16 @@ pub fn chain_programs(
     cells: &[u8],
     size: u8,
     first: &[u8],
-    m: u16,
+    firsts: u16,
     second: &[u8],
-    n: u16,
+    seconds: u16,
     one: u16,
     two: u16,
     budget: u16,
     workspace: &mut [u8],
     answer: &mut [u8],
 ) -> Compared
-    requires programs { ⌜ Forward (now cells) size (now first) m (now second) n ⌝ }
+    requires programs { ⌜ Forward (now cells) size (now first) firsts (now second) seconds ⌝ }
     requires weights { ⌜ Weigh (now cells) size (now first) one (now second) two ⌝ }
     ensures { λ r. ⌜ Lists (now (cells .entry)) size (now (first .entry)) (now (second .entry)) budget (now (workspace .entry)) (now (workspace .exit))
         (now (answer .entry)) (now (answer .exit)) r ⌝ }
@@ -44,9 +44,9 @@ pub fn chain_programs(
         cells,
         size,
         first,
-        m,
+        firsts,
         second,
-        n,
+        seconds,
         one,
         two,
         budget,
@@ -58,9 +58,9 @@ pub fn chain_programs(
     if answer.len() < chain_bytes(size, relations) {
         return Compared::Refused(Refusal::AnswerShort);
     }
-    let left = m as usize;
-    let right = workspace.len() - n as usize;
-    load_programs(size, first, m, second, n, workspace);
+    let left = firsts as usize;
+    let right = workspace.len() - seconds as usize;
+    load_programs(size, first, firsts, second, seconds, workspace);
     list(
         cells,
         size,
@@ -106,8 +106,8 @@ pub fn chain(
         ProgramsRead::Refused(refusal) => Chained::Refused(refusal),
         ProgramsRead::Programs {
             size,
-            m,
-            n,
+            firsts,
+            seconds,
             first_weight,
             second_weight,
         } => {
@@ -115,9 +115,9 @@ pub fn chain(
                 &cells,
                 size,
                 first,
-                m,
+                firsts,
                 second,
-                n,
+                seconds,
                 first_weight,
                 second_weight,
                 allowance,

@@ -47,15 +47,15 @@ pub fn compare_cleared(
     cells: &[u8],
     size: u8,
     first: &[u8],
-    m: u16,
+    firsts: u16,
     second: &[u8],
-    n: u16,
+    seconds: u16,
     one: u16,
     two: u16,
     budget: u16,
     workspace: &mut [u8],
 ) -> Compared
-    requires programs { ⌜ Forward (now cells) size (now first) m (now second) n ⌝ }
+    requires programs { ⌜ Forward (now cells) size (now first) firsts (now second) seconds ⌝ }
     requires zero { ⌜ now workspace ≡ replicate (length (now workspace)) 0 ⌝ }
     requires weights { ⌜ Weigh (now cells) size (now first) one (now second) two ⌝ }
     ensures { λ r. ⌜ Decides (now (cells .entry)) size (now (first .entry)) (now (second .entry)) budget (now (workspace .entry)) (now (workspace .exit)) r ⌝ }
@@ -63,7 +63,16 @@ pub fn compare_cleared(
     if one != two {
         return Compared::Different { steps: 0 };
     }
-    let ending = reverse_images(cells, size, first, m, second, n, budget, workspace);
+    let ending = reverse_images(
+        cells,
+        size,
+        first,
+        firsts,
+        second,
+        seconds,
+        budget,
+        workspace,
+    );
     wipe(workspace);
     judge(ending)
 }
@@ -73,15 +82,15 @@ pub fn compare_programs(
     cells: &[u8],
     size: u8,
     first: &[u8],
-    m: u16,
+    firsts: u16,
     second: &[u8],
-    n: u16,
+    seconds: u16,
     one: u16,
     two: u16,
     budget: u16,
     workspace: &mut [u8],
 ) -> Compared
-    requires programs { ⌜ Forward (now cells) size (now first) m (now second) n ⌝ }
+    requires programs { ⌜ Forward (now cells) size (now first) firsts (now second) seconds ⌝ }
     requires weights { ⌜ Weigh (now cells) size (now first) one (now second) two ⌝ }
     ensures { λ r. ⌜ Judges (now (cells .entry)) size (now (first .entry)) (now (second .entry)) budget (now (workspace .entry)) (now (workspace .exit)) r ⌝ }
 {
@@ -92,9 +101,9 @@ pub fn compare_programs(
             cells,
             size,
             first,
-            m,
+            firsts,
             second,
-            n,
+            seconds,
             one,
             two,
             budget,
@@ -119,17 +128,17 @@ pub fn compare(
         ProgramsRead::Refused(refusal) => Compared::Refused(refusal),
         ProgramsRead::Programs {
             size,
-            m,
-            n,
+            firsts,
+            seconds,
             first_weight,
             second_weight,
         } => compare_programs(
             &cells,
             size,
             first,
-            m,
+            firsts,
             second,
-            n,
+            seconds,
             first_weight,
             second_weight,
             allowance,

@@ -28,13 +28,13 @@ use Rattle.loading.proofs.Programs.{byte-letters, written-end, too-long
 
 module _ (cells : List ℕ) (size : ℕ) (T : Presentation) (o : Of cells size T) (u v : Positive) (pu : ProgramInRange size (positive u))
     (pv : ProgramInRange size (positive v))
-    (start turned : List ℕ) (m n : ℕ) (um : length u ≡ m) (vn : length v ≡ n) (fit : m + n ≤ length start)
-    (i : Inverted (written start 0 (plainProgram (positive u))) m turned) where
+    (start turned : List ℕ) (firsts seconds : ℕ) (um : length u ≡ firsts) (vn : length v ≡ seconds) (fit : firsts + seconds ≤ length start)
+    (i : Inverted (written start 0 (plainProgram (positive u))) firsts turned) where
   abbrev unpacked : List ℕ
   unpacked = written start 0 (plainProgram (positive u))
 
   abbrev pub both : List ℕ
-  both = written turned (length start - n) (plainProgram (positive v))
+  both = written turned (length start - seconds) (plainProgram (positive v))
 
   few : size ≤ 16
   few = of-few o
@@ -49,23 +49,24 @@ module _ (cells : List ℕ) (size : ℕ) (T : Presentation) (o : Of cells size T
   turned-length : length turned ≡ length start
   turned-length = i .same-length ∙ unpacked-length
 
-  first-letters : letters (take m unpacked) ≡ positive u
+  first-letters : letters (take firsts unpacked) ≡ positive u
   first-letters =
-      ap letters (take-at (plainProgram (positive u)) (drop (0 + length (plainProgram (positive u))) start) m (plain-length u ∙ um))
+      ap letters (take-at (plainProgram (positive u)) (drop (0 + length (plainProgram (positive u))) start) firsts (plain-length u ∙ um))
       ∙ byte-letters size few (positive u) (pu .letters)
 
-  front : take m both ≡ take m turned
+  front : take firsts both ≡ take firsts turned
   front =
-      let k : m ≤ length (take (length start - n) turned) = simp length-take (omega (arith, turned-length, fit)) in
-      take-append-le m (take (length start - n) turned) (plainProgram (positive v) ++ drop (length start - n + length (plainProgram (positive v))) turned) k
-      ∙ take-take m (length start - n) turned (omega (arith, fit))
+      let k : firsts ≤ length (take (length start - seconds) turned) = simp length-take (omega (arith, turned-length, fit)) in
+      take-append-le firsts (take (length start - seconds) turned)
+      (plainProgram (positive v) ++ drop (length start - seconds + length (plainProgram (positive v))) turned) k
+      ∙ take-take firsts (length start - seconds) turned (omega (arith, fit))
 
-  left-word : letters (take m both) ≡ negative u
+  left-word : letters (take firsts both) ≡ negative u
   left-word = ap letters front ∙ (i .inverted ∙ ap inverse first-letters)
 
-  right-word : letters (drop (length start - n) both) ≡ positive v
+  right-word : letters (drop (length start - seconds) both) ≡ positive v
   right-word =
-      ap letters (written-end turned (plainProgram (positive v)) (length start - n) (omega (arith, plain-length v, vn, turned-length, fit)))
+      ap letters (written-end turned (plainProgram (positive v)) (length start - seconds) (omega (arith, plain-length v, vn, turned-length, fit)))
       ∙ byte-letters size few (positive v) (pv .letters)
 
   pub both-length : length both ≡ length start
@@ -75,13 +76,13 @@ module _ (cells : List ℕ) (size : ℕ) (T : Presentation) (o : Of cells size T
   named : (w : Positive) → ProgramInRange size (positive w) → Lettered (T .size) (positive w)
   named w p = subst (λ k. Lettered k (positive w)) (sym (o .sized)) (p .letters)
 
-  pub programs-loaded : LoadedPrograms cells T u v both m (length start - n)
+  pub programs-loaded : LoadedPrograms cells T u v both firsts (length start - seconds)
   programs-loaded =
       record {
-        word = loaded both m (length start - n) u v (omega (arith, fit)) (omega (arith, both-length)) left-word right-word;
-        searched = load-searched both m (length start - n) u v (omega (arith, fit)) (omega (arith, both-length)) left-word right-word;
+        word = loaded both firsts (length start - seconds) u v (omega (arith, fit)) (omega (arith, both-length)) left-word right-word;
+        searched = load-searched both firsts (length start - seconds) u v (omega (arith, fit)) (omega (arith, both-length)) left-word right-word;
         serves =
-            load-serves both m (length start - n) u v (omega (arith, fit)) (omega (arith, both-length)) left-word right-word (o .stands) (named u pu)
+            load-serves both firsts (length start - seconds) u v (omega (arith, fit)) (omega (arith, both-length)) left-word right-word (o .stands) (named u pu)
             (named v pv);
       }
 
@@ -93,17 +94,17 @@ pair-too-long T u v budget area h =
     (simp (length-append, length-negative, length-positive) h)
 
 -- from what the three writes of `load_programs` promise
-pub loads-pair : (cells : List ℕ) (size : ℕ) (T : Presentation) → Of cells size T → (u v : Positive) (first second : List ℕ) (m n : ℕ) → size ≤ 16
-    → (one : ForwardOf first size m) (two : ForwardOf second size n) → one .word ≡ u → two .word ≡ v
-    → (start unpacked turned last : List ℕ) → m + n ≤ length start
-    → ((w : Word) → readProgram size first ≡ answered w → unpacked ≡ written start 0 (plainProgram w)) → Inverted unpacked m turned
-    → ((w : Word) → readProgram size second ≡ answered w → last ≡ written turned (length start - n) (plainProgram w))
-    → LoadedPrograms cells T u v last m (length start - n)
-loads-pair cells size T o u v first second m n few one two eu ev start unpacked turned last fit w₁ i w₂ =
+pub loads-pair : (cells : List ℕ) (size : ℕ) (T : Presentation) → Of cells size T → (u v : Positive) (first second : List ℕ) (firsts seconds : ℕ) → size ≤ 16
+    → (one : ForwardOf first size firsts) (two : ForwardOf second size seconds) → one .word ≡ u → two .word ≡ v
+    → (start unpacked turned last : List ℕ) → firsts + seconds ≤ length start
+    → ((w : Word) → readProgram size first ≡ answered w → unpacked ≡ written start 0 (plainProgram w)) → Inverted unpacked firsts turned
+    → ((w : Word) → readProgram size second ≡ answered w → last ≡ written turned (length start - seconds) (plainProgram w))
+    → LoadedPrograms cells T u v last firsts (length start - seconds)
+loads-pair cells size T o u v first second firsts seconds few one two eu ev start unpacked turned last fit w₁ i w₂ =
     let ru : readProgram size first ≡ answered (positive u) = one .read-signed ∙ ap (λ x. answered (positive x)) eu in
     let rv : readProgram size second ≡ answered (positive v) = two .read-signed ∙ ap (λ x. answered (positive x)) ev in
     let pu = program-in-range size few first (positive u) ru in
     let pv = program-in-range size few second (positive v) rv in
-    let i′ = subst (λ l. Inverted l m turned) (w₁ (positive u) ru) i in
-    subst (λ l. LoadedPrograms cells T u v l m (length start - n)) (sym (w₂ (positive v) rv))
-    (programs-loaded cells size T o u v pu pv start turned m n (ap length (sym eu) ∙ one .count-is) (ap length (sym ev) ∙ two .count-is) fit i′)
+    let i′ = subst (λ l. Inverted l firsts turned) (w₁ (positive u) ru) i in
+    subst (λ l. LoadedPrograms cells T u v l firsts (length start - seconds)) (sym (w₂ (positive v) rv))
+    (programs-loaded cells size T o u v pu pv start turned firsts seconds (ap length (sym eu) ∙ one .count-is) (ap length (sym ev) ∙ two .count-is) fit i′)

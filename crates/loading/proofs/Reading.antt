@@ -124,18 +124,20 @@ module _ {W : Type 0} (read : ℕ → List ℕ → Outcome W) (table first secon
 
 -- .. of forward moves
 module _ (table first second : List ℕ) where
-  programs-loaded : {cells : List ℕ} {size m n one two : ℕ} → ForwardLoaded table first cells size m one → ForwardMeasured second cells size n two
-      → ProgramsLoaded table first second cells size m n one two
-  programs-loaded {cells} {size} {m} {n} {one} {two} l f =
+  programs-loaded : {cells : List ℕ} {size firsts seconds one two : ℕ} → ForwardLoaded table first cells size firsts one
+      → ForwardMeasured second cells size seconds two
+      → ProgramsLoaded table first second cells size firsts seconds one two
+  programs-loaded {cells} {size} {firsts} {seconds} {one} {two} l f =
       let o = l .runs .of in
       record {
         forward = record { table = l .runs .table; of = o; pair = record { some = of-some o; few = of-few o; one = l .runs .forward; two = f .forward } };
-        weights = record { one = l .runs .weighs; two = measured-weighs cells size second n two f };
+        weights = record { one = l .runs .weighs; two = measured-weighs cells size second seconds two f };
         reads = record { table-read = l .table-read; first-read = l .program-read; second-read = ap (λ i. readForward i second) (o .sized) ∙ f .forward .read };
       }
 
-  signed-loaded : {cells : List ℕ} {size m n one two : ℕ} {all : Bool} → ProgramLoaded table first cells size m one → Measured second cells size n all two
-      → SignedLoaded table first second cells size m n one two
+  signed-loaded : {cells : List ℕ} {size firsts seconds one two : ℕ} {all : Bool} → ProgramLoaded table first cells size firsts one
+      → Measured second cells size seconds all two
+      → SignedLoaded table first second cells size firsts seconds one two
   signed-loaded l f =
       let r = l .runs in
       record {
@@ -150,27 +152,27 @@ module _ (table first second : List ℕ) where
         table-read = l .table-read;
       }
 
-  pub both-as : (s : Signs) (cells : List ℕ) (size m n one two : ℕ) (all : Bool) → LoadedAs s table first cells size m one
-      → MeasuredAs s second cells size n all two
-      → BothAs s table first second cells size m n one two
-  both-as Any cells size m n one two all l f = signed-loaded l f
-  both-as ForwardAlone cells size m n one two all l f = programs-loaded l f
+  pub both-as : (s : Signs) (cells : List ℕ) (size firsts seconds one two : ℕ) (all : Bool) → LoadedAs s table first cells size firsts one
+      → MeasuredAs s second cells size seconds all two
+      → BothAs s table first second cells size firsts seconds one two
+  both-as Any cells size firsts seconds one two all l f = signed-loaded l f
+  both-as ForwardAlone cells size firsts seconds one two all l f = programs-loaded l f
 
   -- the second program is refused
-  pub second-refused : (s : Signs) (cells : List ℕ) (size m one : ℕ) → LoadedAs s table first cells size m one → (r : Refusal)
+  pub second-refused : (s : Signs) (cells : List ℕ) (size firsts one : ℕ) → LoadedAs s table first cells size firsts one → (r : Refusal)
       → readAs s size second ≡ refusal r
       → readImages (readAs s) table first second ≡ refusal r
-  second-refused Any cells size m one l r e =
+  second-refused Any cells size firsts one l r e =
       no-second readProgram table first second (l .runs .table) (l .runs .accepted .program .word) (l .table-read) (l .program-read) r
       (ap (λ i. readProgram i second) (l .runs .of .sized) ∙ e)
-  second-refused ForwardAlone cells size m one l r e =
+  second-refused ForwardAlone cells size firsts one l r e =
       no-second readForward table first second (l .runs .table) (l .runs .forward .word) (l .table-read) (l .program-read) r
       (ap (λ i. readForward i second) (l .runs .of .sized) ∙ e)
 
   -- the cells stand for the table
-  pub loaded-of : (s : Signs) (cells : List ℕ) (size m one : ℕ) → LoadedAs s table first cells size m one → Sized cells size
-  loaded-of Any cells size m one l = (l .runs .table, l .runs .of)
-  loaded-of ForwardAlone cells size m one l = (l .runs .table, l .runs .of)
+  pub loaded-of : (s : Signs) (cells : List ℕ) (size firsts one : ℕ) → LoadedAs s table first cells size firsts one → Sized cells size
+  loaded-of Any cells size firsts one l = (l .runs .table, l .runs .of)
+  loaded-of ForwardAlone cells size firsts one l = (l .runs .table, l .runs .of)
 
   module _ {A : Type 0} (rest : Images Positive → Outcome A) where
     abbrev forward-service : Outcome A

@@ -57,44 +57,44 @@ TableProgramDone table program s cells (NotLoaded r) = readTableWith (readAs s) 
 -- A TABLE AND TWO PROGRAMS
 
 -- two forward programs of so many letters
-pub record TwoForward (size : ℕ) (first : List ℕ) (first-count : ℕ) (second : List ℕ) (second-count : ℕ) : Type 0 where
+pub record TwoForward (size : ℕ) (first : List ℕ) (firsts : ℕ) (second : List ℕ) (seconds : ℕ) : Type 0 where
   pub some : 1 ≤ size
   pub few : size ≤ 16
-  pub one : ForwardOf first size first-count
-  pub two : ForwardOf second size second-count
+  pub one : ForwardOf first size firsts
+  pub two : ForwardOf second size seconds
 
 -- under cells that stand for a table
-pub record Forward (cells : List ℕ) (size : ℕ) (first : List ℕ) (first-count : ℕ) (second : List ℕ) (second-count : ℕ) : Type 0 where
+pub record Forward (cells : List ℕ) (size : ℕ) (first : List ℕ) (firsts : ℕ) (second : List ℕ) (seconds : ℕ) : Type 0 where
   pub table : Presentation
   pub of : Of cells size table
-  pub pair : TwoForward size first first-count second second-count
+  pub pair : TwoForward size first firsts second seconds
 
 -- the table that the cells stand for, and the programs, are those that the images hold
-pub record ProgramsLoaded (table first second cells : List ℕ) (size first-count second-count first-weight second-weight : ℕ) : Type 0 where
-  pub forward : Forward cells size first first-count second second-count
+pub record ProgramsLoaded (table first second cells : List ℕ) (size firsts seconds first-weight second-weight : ℕ) : Type 0 where
+  pub forward : Forward cells size first firsts second seconds
   pub weights : Weigh cells size first first-weight second second-weight
   pub reads : Compares table first second (forward .table) (forward .pair .one .word) (forward .pair .two .word)
 
 -- .. of either sign
-pub record TwoAccepted (size : ℕ) (first : List ℕ) (first-count : ℕ) (second : List ℕ) (second-count : ℕ) : Type 0 where
-  pub one : Accepted first size first-count
-  pub two : Accepted second size second-count
+pub record TwoAccepted (size : ℕ) (first : List ℕ) (firsts : ℕ) (second : List ℕ) (seconds : ℕ) : Type 0 where
+  pub one : Accepted first size firsts
+  pub two : Accepted second size seconds
 
-pub record SignedRuns (cells : List ℕ) (size : ℕ) (first : List ℕ) (first-count : ℕ) (second : List ℕ) (second-count : ℕ) : Type 0 where
+pub record SignedRuns (cells : List ℕ) (size : ℕ) (first : List ℕ) (firsts : ℕ) (second : List ℕ) (seconds : ℕ) : Type 0 where
   pub table : Presentation
   pub of : Of cells size table
-  pub programs : TwoAccepted size first first-count second second-count
+  pub programs : TwoAccepted size first firsts second seconds
 
-pub record SignedLoaded (table first second cells : List ℕ) (size first-count second-count first-weight second-weight : ℕ) : Type 0 where
-  pub runs : SignedRuns cells size first first-count second second-count
+pub record SignedLoaded (table first second cells : List ℕ) (size firsts seconds first-weight second-weight : ℕ) : Type 0 where
+  pub runs : SignedRuns cells size first firsts second seconds
   pub first-weighs : first-weight ≡ cellsWeigh cells (runs .programs .one .program .word)
   pub second-weighs : second-weight ≡ cellsWeigh cells (runs .programs .two .program .word)
   pub table-read : readTable table ≡ answered (runs .table)
 
 abbrev pub BothAs : Signs → List ℕ → List ℕ → List ℕ → List ℕ → ℕ → ℕ → ℕ → ℕ → ℕ → Type 0
-BothAs Any table first second cells size m n one two = SignedLoaded table first second cells size m n one two
-BothAs ForwardAlone table first second cells size m n one two = ProgramsLoaded table first second cells size m n one two
+BothAs Any table first second cells size firsts seconds one two = SignedLoaded table first second cells size firsts seconds one two
+BothAs ForwardAlone table first second cells size firsts seconds one two = ProgramsLoaded table first second cells size firsts seconds one two
 
 abbrev pub ProgramsDone : List ℕ → List ℕ → List ℕ → Signs → List ℕ → ProgramsRead → Type 0
-ProgramsDone table first second s cells (ProgramsAnswer size m n one two) = BothAs s table first second cells size m n one two
+ProgramsDone table first second s cells (ProgramsAnswer size firsts seconds one two) = BothAs s table first second cells size firsts seconds one two
 ProgramsDone table first second s cells (RefusedAnswer r) = readImages (readAs s) table first second ≡ refusal r

@@ -24,11 +24,11 @@ pub record LoadedPrograms (cells : List ℕ) (T : Presentation) (u v : Positive)
   pub searched : Searched bytes left right
   pub serves : Serves cells (wordAt bytes left right) T
 
-pub record Loads (size : ℕ) (first : List ℕ) (first-count : ℕ) (second : List ℕ) (second-count : ℕ) (before after : List ℕ) : Type 0 where
+pub record Loads (size : ℕ) (first : List ℕ) (firsts : ℕ) (second : List ℕ) (seconds : ℕ) (before after : List ℕ) : Type 0 where
   pub same-length : length after ≡ length before
   pub loads : (cells : List ℕ) (T : Presentation) → Of cells size T → (u v : Positive) → readForward size first ≡ answered u
       → readForward size second ≡ answered v
-      → LoadedPrograms cells T u v after first-count (length before - second-count)
+      → LoadedPrograms cells T u v after firsts (length before - seconds)
 
 -- their reversing
 abbrev pub ProgramsReverse : List ℕ → ℕ → List ℕ → List ℕ → ℕ → List ℕ → Ending → Type 0

@@ -7,12 +7,12 @@ use images::tables::TableRead;
 use images::tables::read_table;
 use model::answers::Refusal;
 
-// A table of so many letters, and two programs of m and n letters, with what these weigh.
+// A table of so many letters, and two programs of `firsts` and `seconds` letters, with what these weigh.
 pub enum ProgramsRead {
     Programs {
         size: u8,
-        m: u16,
-        n: u16,
+        firsts: u16,
+        seconds: u16,
         first_weight: u16,
         second_weight: u16,
     },
@@ -72,20 +72,20 @@ pub fn read_programs(
         TableProgram::Refused(refusal) => ProgramsRead::Refused(refusal),
         TableProgram::Loaded {
             size,
-            count: m,
+            count: firsts,
             weight: first_weight,
         } => {
             let two = read_as(second, cells, size, signs);
             match two {
                 ProgramRead::Refused(refusal) => ProgramsRead::Refused(refusal),
                 ProgramRead::Program {
-                    count: n,
+                    count: seconds,
                     forward: _,
                     weight: second_weight,
                 } => ProgramsRead::Programs {
                     size,
-                    m,
-                    n,
+                    firsts,
+                    seconds,
                     first_weight,
                     second_weight,
                 },

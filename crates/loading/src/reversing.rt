@@ -35,16 +35,23 @@ pub fn reverse_image(
 }
 
 // The inverse of the first program, of m letters, at the workspace's start, and the second, of n letters, at its end.
-pub fn load_programs(size: u8, first: &[u8], m: u16, second: &[u8], n: u16, workspace: &mut [u8])
-    requires pair { ⌜ TwoForward size (now first) m (now second) n ⌝ }
-    requires room { ⌜ m + n ≤ length (now workspace) ⌝ }
-    ensures { λ r. ⌜ Loads size (now (first .entry)) m (now (second .entry)) n (now (workspace .entry)) (now (workspace .exit)) ⌝ }
+pub fn load_programs(
+    size: u8,
+    first: &[u8],
+    firsts: u16,
+    second: &[u8],
+    seconds: u16,
+    workspace: &mut [u8],
+)
+    requires pair { ⌜ TwoForward size (now first) firsts (now second) seconds ⌝ }
+    requires room { ⌜ firsts + seconds ≤ length (now workspace) ⌝ }
+    ensures { λ r. ⌜ Loads size (now (first .entry)) firsts (now (second .entry)) seconds (now (workspace .entry)) (now (workspace .exit)) ⌝ }
 {
-    let left = m as usize;
-    let right = workspace.len() - n as usize;
-    unpack_letters(first, size, m, workspace, 0);
+    let left = firsts as usize;
+    let right = workspace.len() - seconds as usize;
+    unpack_letters(first, size, firsts, workspace, 0);
     invert(workspace, left);
-    unpack_letters(second, size, n, workspace, right);
+    unpack_letters(second, size, seconds, workspace, right);
 }
 
 // Reverses the first program's inverse, then the second program.
@@ -52,23 +59,23 @@ pub fn reverse_images(
     cells: &[u8],
     size: u8,
     first: &[u8],
-    m: u16,
+    firsts: u16,
     second: &[u8],
-    n: u16,
+    seconds: u16,
     budget: u16,
     workspace: &mut [u8],
 ) -> Ending
-    requires { ⌜ Forward (now cells) size (now first) m (now second) n ⌝ }
+    requires { ⌜ Forward (now cells) size (now first) firsts (now second) seconds ⌝ }
     ensures length { λ r. ⌜ length (now (workspace .exit)) ≡ length (now (workspace .entry)) ⌝ }
     ensures runs { λ r. ⌜ ProgramsReverse (now (cells .entry)) size (now (first .entry)) (now (second .entry)) budget (now (workspace .exit)) r ⌝ }
 {
     let end = workspace.len();
-    let left = m as usize;
-    let count = n as usize;
+    let left = firsts as usize;
+    let count = seconds as usize;
     if end < left + count {
         return Ending::Stopped(Stop::Room);
     }
     let right = end - count;
-    load_programs(size, first, m, second, n, workspace);
+    load_programs(size, first, firsts, second, seconds, workspace);
     reversing(cells, workspace, Gap { left, right }, budget)
 }

@@ -54,16 +54,16 @@ pub fn remainder_programs(
     cells: &[u8],
     size: u8,
     done: &[u8],
-    m: u16,
+    firsts: u16,
     pattern: &[u8],
-    n: u16,
+    seconds: u16,
     one: u16,
     two: u16,
     budget: u16,
     workspace: &mut [u8],
     answer: &mut [u8],
 ) -> Remaining
-    requires programs { ⌜ Forward (now cells) size (now done) m (now pattern) n ⌝ }
+    requires programs { ⌜ Forward (now cells) size (now done) firsts (now pattern) seconds ⌝ }
     requires weights { ⌜ Weigh (now cells) size (now done) one (now pattern) two ⌝ }
     ensures { λ r. ⌜ Concludes (now (cells .entry)) size (now (done .entry)) (now (pattern .entry)) budget (now (workspace .entry)) (now (workspace .exit))
         (now (answer .entry)) (now (answer .exit)) r ⌝ }
@@ -75,7 +75,16 @@ pub fn remainder_programs(
             if two < one {
                 return Remaining::Nothing { steps: 0 };
             }
-            let ending = reverse_images(cells, size, done, m, pattern, n, budget, workspace);
+            let ending = reverse_images(
+                cells,
+                size,
+                done,
+                firsts,
+                pattern,
+                seconds,
+                budget,
+                workspace,
+            );
             let result = answer_ending(ending, workspace, answer);
             wipe(workspace);
             result
@@ -100,17 +109,17 @@ pub fn remainder(
         ProgramsRead::Refused(refusal) => Remaining::Refused(refusal),
         ProgramsRead::Programs {
             size,
-            m,
-            n,
+            firsts,
+            seconds,
             first_weight,
             second_weight,
         } => remainder_programs(
             &cells,
             size,
             done,
-            m,
+            firsts,
             pattern,
-            n,
+            seconds,
             first_weight,
             second_weight,
             allowance,

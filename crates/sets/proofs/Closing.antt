@@ -25,7 +25,7 @@ use Rattle.spans.specs.Ends.{HasEnd, EndFound}
 use Rattle.sets.specs.Growing.{stoppedAs, grownAs, Growing, Grew, StepMeans}
 use Rattle.sets.specs.Places.{sidedPair, sided, LaterWord}
 use Rattle.sets.proofs.Spelling.{used-is, place-below, start-more, word-has-end, word-inside, word-placed, next-start}
-use Rattle.sets.proofs.FirstWords.{first-count, first-named, first-bytes}
+use Rattle.sets.proofs.FirstWords.{firsts, first-named, first-bytes}
 use Rattle.sets.proofs.Taking.{pair-stops}
 
 -- an outcome, without its answer
@@ -70,7 +70,7 @@ module _ (T : Presentation) (budget room : ℕ) where
   pub first-stops : room < 1 + 2 * T .size → stoppedAs Room ≡ told (grownSet T budget room)
   unfolding grownSet
   first-stops h =
-      sym (long-stops mostWords 0 (firstWords (T .size)) (omega arith) (omega (arith, first-count (T .size))) (omega (arith, first-bytes (T .size))))
+      sym (long-stops mostWords 0 (firstWords (T .size)) (omega arith) (omega (arith, firsts (T .size))) (omega (arith, first-bytes (T .size))))
 
 -- so many places were gone through; the next word begins at a byte
 pub record Closing (T : Presentation) (budget room : ℕ) (area : List ℕ) (h : Held) (at : ℕ) : Type 0 where
@@ -87,7 +87,7 @@ pub closing-begun : (T : Presentation) (budget room size : ℕ) (area : List ℕ
     → take (1 + 2 * size) area ≡ listingBytes (firstWords size) → Closing T budget room area (record { used = 1 + 2 * size; words = 1 + size }) 0
 unfolding grownSet
 closing-begun T budget room size area e small inside bytes =
-    let n = first-count (T .size) in
+    let n = firsts (T .size) in
     record {
       place = 0;
       rounds = mostWords;

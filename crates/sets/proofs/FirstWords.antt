@@ -48,8 +48,8 @@ singles-count : (from k : ℕ) → length (map single (range from k)) ≡ k
 singles-count from zero = refl
 singles-count from (suc k) = ap suc (singles-count (suc from) k)
 
-pub first-count : (n : ℕ) → length (firstWords n) ≡ 1 + n
-first-count n = omega (arith, singles-count 1 n)
+pub firsts : (n : ℕ) → length (firstWords n) ≡ 1 + n
+firsts n = omega (arith, singles-count 1 n)
 
 singles-named : (n from k : ℕ) → 1 ≤ from → from + k ≤ n + 1 → All (λ w. Lettered n (positive w)) (map single (range from k))
 singles-named n from zero l h = tt

@@ -65,13 +65,13 @@ pub fn compare_loaded(
     cells: &[u8],
     size: u8,
     first: &[u8],
-    m: u16,
+    firsts: u16,
     second: &[u8],
-    n: u16,
+    seconds: u16,
     budget: u16,
     workspace: &mut [u8],
 ) -> ComparedSigned
-    requires { ⌜ SignedRuns (now cells) size (now first) m (now second) n ⌝ }
+    requires { ⌜ SignedRuns (now cells) size (now first) firsts (now second) seconds ⌝ }
     ensures { λ r. ⌜ SignedCompared (now (cells .entry)) size (now (first .entry)) (now (second .entry)) budget (now (workspace .entry))
         (now (workspace .exit)) r ⌝ }
 {
@@ -79,7 +79,16 @@ pub fn compare_loaded(
     match clear {
         Cleared::Refused(refusal) => ComparedSigned::Refused(refusal),
         Cleared::Passed => {
-            let ending = reverse_signed(cells, size, first, m, second, n, budget, workspace);
+            let ending = reverse_signed(
+                cells,
+                size,
+                first,
+                firsts,
+                second,
+                seconds,
+                budget,
+                workspace,
+            );
             let answer = settle(cells, ending, budget, workspace);
             wipe(workspace);
             answer
@@ -103,10 +112,19 @@ pub fn compare_signed(
         ProgramsRead::Refused(refusal) => ComparedSigned::Refused(refusal),
         ProgramsRead::Programs {
             size,
-            m,
-            n,
+            firsts,
+            seconds,
             first_weight: _,
             second_weight: _,
-        } => compare_loaded(&cells, size, first, m, second, n, allowance, workspace),
+        } => compare_loaded(
+            &cells,
+            size,
+            first,
+            firsts,
+            second,
+            seconds,
+            allowance,
+            workspace,
+        ),
     }
 }

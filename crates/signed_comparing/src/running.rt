@@ -15,20 +15,20 @@ use model::answers::Stop;
 pub fn load_signed(
     size: u8,
     first: &[u8],
-    m: u16,
+    firsts: u16,
     second: &[u8],
-    n: u16,
+    seconds: u16,
     right: usize,
     workspace: &mut [u8],
 )
-    requires programs { ⌜ TwoAccepted size (now first) m (now second) n ⌝ }
-    requires room { ⌜ right + (m + n) ≡ length (now workspace) ⌝ }
+    requires programs { ⌜ TwoAccepted size (now first) firsts (now second) seconds ⌝ }
+    requires room { ⌜ right + (firsts + seconds) ≡ length (now workspace) ⌝ }
     ensures { λ r. ⌜ LoadsSigned size (now (first .entry)) (now (second .entry)) right (now (workspace .entry)) (now (workspace .exit)) ⌝ }
 {
-    let left = m as usize;
-    unpack_letters(first, size, m, workspace, right);
+    let left = firsts as usize;
+    unpack_letters(first, size, firsts, workspace, right);
     invert(&mut workspace[right..], left);
-    unpack_letters(second, size, n, workspace, right + left);
+    unpack_letters(second, size, seconds, workspace, right + left);
 }
 
 // Reverses the first program's inverse, then the second program.
@@ -36,22 +36,22 @@ pub fn reverse_signed(
     cells: &[u8],
     size: u8,
     first: &[u8],
-    m: u16,
+    firsts: u16,
     second: &[u8],
-    n: u16,
+    seconds: u16,
     budget: u16,
     workspace: &mut [u8],
 ) -> Ending
-    requires { ⌜ SignedRuns (now cells) size (now first) m (now second) n ⌝ }
+    requires { ⌜ SignedRuns (now cells) size (now first) firsts (now second) seconds ⌝ }
     ensures length { λ r. ⌜ length (now (workspace .exit)) ≡ length (now (workspace .entry)) ⌝ }
     ensures runs { λ r. ⌜ SignedReverses (now (cells .entry)) size (now (first .entry)) (now (second .entry)) budget (now (workspace .exit)) r ⌝ }
 {
     let end = workspace.len();
-    let letters = m as usize + n as usize;
+    let letters = firsts as usize + seconds as usize;
     if end < letters {
         return Ending::Stopped(Stop::Room);
     }
     let right = end - letters;
-    load_signed(size, first, m, second, n, right, workspace);
+    load_signed(size, first, firsts, second, seconds, right, workspace);
     reversing(cells, workspace, Gap { left: 0, right }, budget)
 }

@@ -31,12 +31,12 @@ pub fn compare_log(
     size: u8,
     log: &[u8],
     pattern: &[u8],
-    n: u16,
+    letters: u16,
     weight: u16,
     budget: u16,
     workspace: &mut [u8],
 ) -> Compared
-    requires pattern { ⌜ ForwardRuns (now cells) size (now pattern) n weight ⌝ }
+    requires pattern { ⌜ ForwardRuns (now cells) size (now pattern) letters weight ⌝ }
     requires zero { ⌜ now workspace ≡ replicate (length (now workspace)) 0 ⌝ }
     ensures { λ r. ⌜ LogCompared (now (cells .entry)) size (now (log .entry)) (now (pattern .entry)) budget (now (workspace .entry))
         (now (workspace .exit)) r ⌝ }
@@ -54,7 +54,7 @@ pub fn compare_log(
             log,
             count,
             pattern,
-            n,
+            letters,
             own,
             weight,
             budget,
@@ -70,14 +70,14 @@ pub fn answer_log(
     tray: &[u8],
     at: usize,
     pattern: &[u8],
-    n: u16,
+    letters: u16,
     weight: u16,
     budget: u16,
     workspace: &mut [u8],
     answer: &mut [u8],
     place: usize,
 ) -> usize
-    requires pattern { ⌜ ForwardRuns (now cells) size (now pattern) n weight ⌝ }
+    requires pattern { ⌜ ForwardRuns (now cells) size (now pattern) letters weight ⌝ }
     requires zero { ⌜ now workspace ≡ replicate (length (now workspace)) 0 ⌝ }
     requires log { ⌜ at + 2 + lengthAt (now tray) at ≤ length (now tray) ⌝ }
     requires room { ⌜ place + 3 ≤ length (now answer) ⌝ }
@@ -91,7 +91,7 @@ pub fn answer_log(
         size,
         &tray[start..end],
         pattern,
-        n,
+        letters,
         weight,
         budget,
         workspace,
@@ -107,13 +107,13 @@ pub fn answer_logs(
     tray: &[u8],
     logs: u8,
     pattern: &[u8],
-    n: u16,
+    letters: u16,
     weight: u16,
     budget: u16,
     workspace: &mut [u8],
     answer: &mut [u8],
 )
-    requires pattern { ⌜ ForwardRuns (now cells) size (now pattern) n weight ⌝ }
+    requires pattern { ⌜ ForwardRuns (now cells) size (now pattern) letters weight ⌝ }
     requires zero { ⌜ now workspace ≡ replicate (length (now workspace)) 0 ⌝ }
     requires logs { ⌜ LogsOf (now tray) logs ⌝ }
     requires room { ⌜ 3 * logs ≤ length (now answer) ⌝ }
@@ -130,7 +130,7 @@ pub fn answer_logs(
             tray,
             at,
             pattern,
-            n,
+            letters,
             weight,
             budget,
             workspace,
@@ -149,13 +149,13 @@ pub fn compare_tray(
     tray: &[u8],
     logs: u8,
     pattern: &[u8],
-    n: u16,
+    letters: u16,
     weight: u16,
     budget: u16,
     workspace: &mut [u8],
     answer: &mut [u8],
 ) -> TrayCompared
-    requires pattern { ⌜ ForwardRuns (now cells) size (now pattern) n weight ⌝ }
+    requires pattern { ⌜ ForwardRuns (now cells) size (now pattern) letters weight ⌝ }
     requires logs { ⌜ LogsOf (now tray) logs ⌝ }
     ensures { λ r. ⌜ TrayJudged (now (cells .entry)) size (now (tray .entry)) logs (now (pattern .entry)) budget (now (workspace .entry))
         (now (workspace .exit)) (now (answer .entry)) (now (answer .exit)) r ⌝ }
@@ -173,7 +173,7 @@ pub fn compare_tray(
                 tray,
                 logs,
                 pattern,
-                n,
+                letters,
                 weight,
                 budget,
                 workspace,

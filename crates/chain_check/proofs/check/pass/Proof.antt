@@ -49,7 +49,7 @@ returns c =
     let one = s .pre .forward .pair .one in (
       refl,
       λ T o u v f g es e.
-          let n : length u ≡ s .args .m = ap length (sym (forward-count one u f)) ∙ one .count-is in
+          let n : length u ≡ s .args .firsts = ap length (sym (forward-count one u f)) ∙ one .count-is in
           sym (passage-long T (length (s .args .workspace .now)) u es v (omega (arith, c .if1 .taken, n))),
     )
 
@@ -72,11 +72,11 @@ follow-requires c κs =
     let s = start (after-shared-slice-known4 k) in
     let one = s .pre .forward .pair .one in
     let x = c .before .before .before .unpack-letters in
-    let fit : (length (s .args .workspace .now) - s .args .m) + length (one .word) ≡ length (s .args .workspace .now) =
+    let fit : (length (s .args .workspace .now) - s .args .firsts) + length (one .word) ≡ length (s .args .workspace .now) =
     omega (arith, one .count-is, k .before .before .if1 .left) in
     record {
-      placed = subst (λ l. Placed l 0 (length (s .args .workspace .now) - s .args .m)) (sym (x .ensures .1 (positive (one .word)) (one .read-signed)))
-          (loaded-placed (s .args .workspace .now) (one .word) (length (s .args .workspace .now) - s .args .m) fit);
+      placed = subst (λ l. Placed l 0 (length (s .args .workspace .now) - s .args .firsts)) (sym (x .ensures .1 (positive (one .word)) (one .read-signed)))
+          (loaded-placed (s .args .workspace .now) (one .word) (length (s .args .workspace .now) - s .args .firsts) fit);
       sized =
           (s .pre .forward .table, s .pre .forward .of);
       entries = s .pre .chain;
@@ -92,7 +92,7 @@ sub-all c =
     let g = c .before .before .followed2 .given .0 .0 in
     let p = (subst (FollowedAs (w .last .1 .1 .1 .1 .0)
     (λ v. followed (s .pre .forward .table) (length (x .last .1 .1 .1 .0)) 0
-    (heldAt (x .last .1 .1 .1 .0) 0 (length (s .args .workspace .now) - s .args .m)) (s .pre .chain .entries) v)) (c .before .before .followed2 .given .1)
+    (heldAt (x .last .1 .1 .1 .0) 0 (length (s .args .workspace .now) - s .args .firsts)) (s .pre .chain .entries) v)) (c .before .before .followed2 .given .1)
     (w .ensures .1 (s .pre .forward .table) (s .pre .forward .of) (s .pre .chain .entries) (s .pre .chain .read))) .0 in
     omega (arith, p .inside, w .ensures .0, x .ensures .0)
 
@@ -106,7 +106,7 @@ add-all c =
     let g = c .before .before .before .followed2 .given .0 .0 in
     let p = (subst (FollowedAs (w .last .1 .1 .1 .1 .0)
     (λ v. followed (s .pre .forward .table) (length (x .last .1 .1 .1 .0)) 0
-    (heldAt (x .last .1 .1 .1 .0) 0 (length (s .args .workspace .now) - s .args .m)) (s .pre .chain .entries) v))
+    (heldAt (x .last .1 .1 .1 .0) 0 (length (s .args .workspace .now) - s .args .firsts)) (s .pre .chain .entries) v))
     (c .before .before .before .followed2 .given .1)
     (w .ensures .1 (s .pre .forward .table) (s .pre .forward .of) (s .pre .chain .entries) (s .pre .chain .read))) .0 in
     omega (arith, p .ordered, p .inside, w .ensures .0, x .ensures .0, s .good .1 .1 .1 .1)
@@ -121,7 +121,7 @@ carry-requires c κs =
     let g = after-known-told2 (c .before .before) .before .followed2 .given .0 .0 in
     let p = (subst (FollowedAs (w .last .1 .1 .1 .1 .0)
     (λ v. followed (s .pre .forward .table) (length (x .last .1 .1 .1 .0)) 0
-    (heldAt (x .last .1 .1 .1 .0) 0 (length (s .args .workspace .now) - s .args .m)) (s .pre .chain .entries) v))
+    (heldAt (x .last .1 .1 .1 .0) 0 (length (s .args .workspace .now) - s .args .firsts)) (s .pre .chain .entries) v))
     (after-known-told2 (c .before .before) .before .followed2 .given .1)
     (w .ensures .1 (s .pre .forward .table) (s .pre .forward .of) (s .pre .chain .entries) (s .pre .chain .read))) .0 in
     (p, omega (arith, p .ordered, p .inside, w .ensures .0, x .ensures .0))
@@ -136,7 +136,7 @@ spells-requires c κs =
     let g = k .before .followed2 .given .0 .0 in
     let p = (subst (FollowedAs (w .last .1 .1 .1 .1 .0)
     (λ v. followed (s .pre .forward .table) (length (x .last .1 .1 .1 .0)) 0
-    (heldAt (x .last .1 .1 .1 .0) 0 (length (s .args .workspace .now) - s .args .m)) (s .pre .chain .entries) v)) (k .before .followed2 .given .1)
+    (heldAt (x .last .1 .1 .1 .0) 0 (length (s .args .workspace .now) - s .args .firsts)) (s .pre .chain .entries) v)) (k .before .followed2 .given .1)
     (w .ensures .1 (s .pre .forward .table) (s .pre .forward .of) (s .pre .chain .entries) (s .pre .chain .read))) .0 in
     record {
       some = s .pre .forward .pair .some;
@@ -157,24 +157,24 @@ returns-2 c =
     let g = j .before .followed2 .given .0 .0 in
     let p = (subst (FollowedAs (w .last .1 .1 .1 .1 .0)
     (λ v. followed (s .pre .forward .table) (length (x .last .1 .1 .1 .0)) 0
-    (heldAt (x .last .1 .1 .1 .0) 0 (length (s .args .workspace .now) - s .args .m)) (s .pre .chain .entries) v)) (j .before .followed2 .given .1)
+    (heldAt (x .last .1 .1 .1 .0) 0 (length (s .args .workspace .now) - s .args .firsts)) (s .pre .chain .entries) v)) (j .before .followed2 .given .1)
     (w .ensures .1 (s .pre .forward .table) (s .pre .forward .of) (s .pre .chain .entries) (s .pre .chain .read))) .0 in
     let k = after-slice-known4 (c .before .before) .before .before .carry in (
       k .ensures .same-length ∙ (w .ensures .0 ∙ x .ensures .0),
       λ T o u v f h es e.
-          let n : length u ≡ s .args .m = ap length (sym (forward-count one u f)) ∙ one .count-is in
-          let fit : (length (s .args .workspace .now) - s .args .m) + length u ≡ length (s .args .workspace .now) =
+          let n : length u ≡ s .args .firsts = ap length (sym (forward-count one u f)) ∙ one .count-is in
+          let fit : (length (s .args .workspace .now) - s .args .firsts) + length u ≡ length (s .args .workspace .now) =
           omega (arith, n, after-unpack-letters (after-workspace (after-workspace2 (after-slice-known3 j))) .before .before .if1 .left) in
-          let z : (x .last .1 .1 .1 .0) ≡ loaded (s .args .workspace .now) u (length (s .args .workspace .now) - s .args .m) fit =
+          let z : (x .last .1 .1 .1 .0) ≡ loaded (s .args .workspace .now) u (length (s .args .workspace .now) - s .args .firsts) fit =
           x .ensures .1 (positive u) (one .read-signed ∙ ap (λ i. answered (positive i)) (forward-count one u f)) in
-          let y = passed T (length (s .args .workspace .now)) u es v (x .last .1 .1 .1 .0) (length (s .args .workspace .now) - s .args .m) (x .ensures .0)
-          (ap (λ l. heldAt l 0 (length (s .args .workspace .now) - s .args .m)) z
-          ∙ loaded-word (s .args .workspace .now) u (length (s .args .workspace .now) - s .args .m) fit)
+          let y = passed T (length (s .args .workspace .now)) u es v (x .last .1 .1 .1 .0) (length (s .args .workspace .now) - s .args .firsts) (x .ensures .0)
+          (ap (λ l. heldAt l 0 (length (s .args .workspace .now) - s .args .firsts)) z
+          ∙ loaded-word (s .args .workspace .now) u (length (s .args .workspace .now) - s .args .firsts) fit)
           (omega (arith, n, after-unpack-letters (after-workspace (after-workspace2 (after-slice-known3 j))) .before .before .if1 .left)) in
           let a = ends-at (w .last .1 .1 .1 .1 .0) (g .left) (g .right) (k .last .0) (g .left + (length (s .args .workspace .now) - g .right)) (k .result) p
           (k .ensures) (omega (arith, w .ensures .0, x .ensures .0)) in
           sym (y ∙ ((subst (FollowedAs (w .last .1 .1 .1 .1 .0)
-          (λ i. followed T (length (x .last .1 .1 .1 .0)) 0 (heldAt (x .last .1 .1 .1 .0) 0 (length (s .args .workspace .now) - s .args .m)) es i))
+          (λ i. followed T (length (x .last .1 .1 .1 .0)) 0 (heldAt (x .last .1 .1 .1 .0) 0 (length (s .args .workspace .now) - s .args .firsts)) es i))
           (j .before .followed2 .given .1) (w .ensures .1 T o es e)) .1 v ∙ ap (λ i. answered (cond i joins ends-elsewhere))
           (ap (λ i. equal i v) a ∙ (sym (c .before .spells .ensures v h) ∙ c .if2 .taken)))),
     )
@@ -188,16 +188,17 @@ returns-3 c =
     let w = after-workspace2 (c .before .before .before) .before .follow in (
       w .ensures .0 ∙ x .ensures .0,
       λ T o u v f h es e.
-          let n : length u ≡ s .args .m = ap length (sym (forward-count one u f)) ∙ one .count-is in
-          let fit : (length (s .args .workspace .now) - s .args .m) + length u ≡ length (s .args .workspace .now) =
+          let n : length u ≡ s .args .firsts = ap length (sym (forward-count one u f)) ∙ one .count-is in
+          let fit : (length (s .args .workspace .now) - s .args .firsts) + length u ≡ length (s .args .workspace .now) =
           omega (arith, n, k .before .before .if1 .left) in
-          let z : (x .last .1 .1 .1 .0) ≡ loaded (s .args .workspace .now) u (length (s .args .workspace .now) - s .args .m) fit =
+          let z : (x .last .1 .1 .1 .0) ≡ loaded (s .args .workspace .now) u (length (s .args .workspace .now) - s .args .firsts) fit =
           x .ensures .1 (positive u) (one .read-signed ∙ ap (λ i. answered (positive i)) (forward-count one u f)) in
-          let y = passed T (length (s .args .workspace .now)) u es v (x .last .1 .1 .1 .0) (length (s .args .workspace .now) - s .args .m) (x .ensures .0)
-          (ap (λ l. heldAt l 0 (length (s .args .workspace .now) - s .args .m)) z
-          ∙ loaded-word (s .args .workspace .now) u (length (s .args .workspace .now) - s .args .m) fit) (omega (arith, n, k .before .before .if1 .left)) in
+          let y = passed T (length (s .args .workspace .now)) u es v (x .last .1 .1 .1 .0) (length (s .args .workspace .now) - s .args .firsts) (x .ensures .0)
+          (ap (λ l. heldAt l 0 (length (s .args .workspace .now) - s .args .firsts)) z
+          ∙ loaded-word (s .args .workspace .now) u (length (s .args .workspace .now) - s .args .firsts) fit) (omega
+          (arith, n, k .before .before .if1 .left)) in
           sym (y ∙ (subst (FollowedAs (w .last .1 .1 .1 .1 .0)
-          (λ i. followed T (length (x .last .1 .1 .1 .0)) 0 (heldAt (x .last .1 .1 .1 .0) 0 (length (s .args .workspace .now) - s .args .m)) es i))
+          (λ i. followed T (length (x .last .1 .1 .1 .0)) 0 (heldAt (x .last .1 .1 .1 .0) 0 (length (s .args .workspace .now) - s .args .firsts)) es i))
           (c .before .followed .given .1) (w .ensures .1 T o es e)) v),
     )
 
@@ -210,16 +211,17 @@ returns-4 c =
     let w = after-workspace2 (c .before .before) .before .follow in (
       w .ensures .0 ∙ x .ensures .0,
       λ T o u v f h es e.
-          let n : length u ≡ s .args .m = ap length (sym (forward-count one u f)) ∙ one .count-is in
-          let fit : (length (s .args .workspace .now) - s .args .m) + length u ≡ length (s .args .workspace .now) =
+          let n : length u ≡ s .args .firsts = ap length (sym (forward-count one u f)) ∙ one .count-is in
+          let fit : (length (s .args .workspace .now) - s .args .firsts) + length u ≡ length (s .args .workspace .now) =
           omega (arith, n, k .before .before .if1 .left) in
-          let z : (x .last .1 .1 .1 .0) ≡ loaded (s .args .workspace .now) u (length (s .args .workspace .now) - s .args .m) fit =
+          let z : (x .last .1 .1 .1 .0) ≡ loaded (s .args .workspace .now) u (length (s .args .workspace .now) - s .args .firsts) fit =
           x .ensures .1 (positive u) (one .read-signed ∙ ap (λ i. answered (positive i)) (forward-count one u f)) in
-          let y = passed T (length (s .args .workspace .now)) u es v (x .last .1 .1 .1 .0) (length (s .args .workspace .now) - s .args .m) (x .ensures .0)
-          (ap (λ l. heldAt l 0 (length (s .args .workspace .now) - s .args .m)) z
-          ∙ loaded-word (s .args .workspace .now) u (length (s .args .workspace .now) - s .args .m) fit) (omega (arith, n, k .before .before .if1 .left)) in
+          let y = passed T (length (s .args .workspace .now)) u es v (x .last .1 .1 .1 .0) (length (s .args .workspace .now) - s .args .firsts) (x .ensures .0)
+          (ap (λ l. heldAt l 0 (length (s .args .workspace .now) - s .args .firsts)) z
+          ∙ loaded-word (s .args .workspace .now) u (length (s .args .workspace .now) - s .args .firsts) fit) (omega
+          (arith, n, k .before .before .if1 .left)) in
           sym (y ∙ (subst (FollowedAs (w .last .1 .1 .1 .1 .0)
-          (λ i. followed T (length (x .last .1 .1 .1 .0)) 0 (heldAt (x .last .1 .1 .1 .0) 0 (length (s .args .workspace .now) - s .args .m)) es i))
+          (λ i. followed T (length (x .last .1 .1 .1 .0)) 0 (heldAt (x .last .1 .1 .1 .0) 0 (length (s .args .workspace .now) - s .args .firsts)) es i))
           (c .enum-told .given .1) (w .ensures .1 T o es e)) v),
     )
 
@@ -233,24 +235,24 @@ returns-5 c =
     let g = j .before .followed2 .given .0 .0 in
     let p = (subst (FollowedAs (w .last .1 .1 .1 .1 .0)
     (λ v. followed (s .pre .forward .table) (length (x .last .1 .1 .1 .0)) 0
-    (heldAt (x .last .1 .1 .1 .0) 0 (length (s .args .workspace .now) - s .args .m)) (s .pre .chain .entries) v)) (j .before .followed2 .given .1)
+    (heldAt (x .last .1 .1 .1 .0) 0 (length (s .args .workspace .now) - s .args .firsts)) (s .pre .chain .entries) v)) (j .before .followed2 .given .1)
     (w .ensures .1 (s .pre .forward .table) (s .pre .forward .of) (s .pre .chain .entries) (s .pre .chain .read))) .0 in
     let k = after-slice-known4 (c .before .before) .before .before .carry in (
       k .ensures .same-length ∙ (w .ensures .0 ∙ x .ensures .0),
       λ T o u v f h es e.
-          let n : length u ≡ s .args .m = ap length (sym (forward-count one u f)) ∙ one .count-is in
-          let fit : (length (s .args .workspace .now) - s .args .m) + length u ≡ length (s .args .workspace .now) =
+          let n : length u ≡ s .args .firsts = ap length (sym (forward-count one u f)) ∙ one .count-is in
+          let fit : (length (s .args .workspace .now) - s .args .firsts) + length u ≡ length (s .args .workspace .now) =
           omega (arith, n, after-unpack-letters (after-workspace (after-workspace2 (after-slice-known3 j))) .before .before .if1 .left) in
-          let z : (x .last .1 .1 .1 .0) ≡ loaded (s .args .workspace .now) u (length (s .args .workspace .now) - s .args .m) fit =
+          let z : (x .last .1 .1 .1 .0) ≡ loaded (s .args .workspace .now) u (length (s .args .workspace .now) - s .args .firsts) fit =
           x .ensures .1 (positive u) (one .read-signed ∙ ap (λ i. answered (positive i)) (forward-count one u f)) in
-          let y = passed T (length (s .args .workspace .now)) u es v (x .last .1 .1 .1 .0) (length (s .args .workspace .now) - s .args .m) (x .ensures .0)
-          (ap (λ l. heldAt l 0 (length (s .args .workspace .now) - s .args .m)) z
-          ∙ loaded-word (s .args .workspace .now) u (length (s .args .workspace .now) - s .args .m) fit)
+          let y = passed T (length (s .args .workspace .now)) u es v (x .last .1 .1 .1 .0) (length (s .args .workspace .now) - s .args .firsts) (x .ensures .0)
+          (ap (λ l. heldAt l 0 (length (s .args .workspace .now) - s .args .firsts)) z
+          ∙ loaded-word (s .args .workspace .now) u (length (s .args .workspace .now) - s .args .firsts) fit)
           (omega (arith, n, after-unpack-letters (after-workspace (after-workspace2 (after-slice-known3 j))) .before .before .if1 .left)) in
           let a = ends-at (w .last .1 .1 .1 .1 .0) (g .left) (g .right) (k .last .0) (g .left + (length (s .args .workspace .now) - g .right)) (k .result) p
           (k .ensures) (omega (arith, w .ensures .0, x .ensures .0)) in
           sym (y ∙ ((subst (FollowedAs (w .last .1 .1 .1 .1 .0)
-          (λ i. followed T (length (x .last .1 .1 .1 .0)) 0 (heldAt (x .last .1 .1 .1 .0) 0 (length (s .args .workspace .now) - s .args .m)) es i))
+          (λ i. followed T (length (x .last .1 .1 .1 .0)) 0 (heldAt (x .last .1 .1 .1 .0) 0 (length (s .args .workspace .now) - s .args .firsts)) es i))
           (j .before .followed2 .given .1) (w .ensures .1 T o es e)) .1 v ∙ ap (λ i. answered (cond i joins ends-elsewhere))
           (ap (λ i. equal i v) a ∙ (sym (c .before .spells .ensures v h) ∙ c .if2 .left)))),
     )

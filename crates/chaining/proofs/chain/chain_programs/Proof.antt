@@ -130,13 +130,13 @@ list-requires c κs =
       (p .two .word),
       k,
       listed-from (s .args .cells .now) (s .args .size) (s .pre .0 .table) (s .pre .0 .of) (p .one .word)
-          (p .two .word) (s .args .first .now) (s .args .second .now) (s .args .m) (s .args .n) (p .one) (p .two) refl refl (s .args .budget)
+          (p .two .word) (s .args .first .now) (s .args .second .now) (s .args .firsts) (s .args .seconds) (p .one) (p .two) refl refl (s .args .budget)
           (length (s .args .workspace .now)) k r
           ((subst (Judged (s .pre .0 .table) (p .one .word) (p .two .word) (s .args .budget) (length (s .args .workspace .now)))
           (q .before .before .verdict .given .1)
           (z .ensures .judged (s .pre .0 .table) (s .pre .0 .of) (p .one .word) (p .two .word) (p .one .read) (p .two .read))) .ended)
           (l .last .1 .1 .1 .1 .1 .0)
-          (length (z .last .1 .1 .1 .1 .1 .1 .1 .1 .1 .0) - s .args .n)
+          (length (z .last .1 .1 .1 .1 .1 .1 .1 .1 .1 .0) - s .args .seconds)
           (l .ensures .same-length
           ∙ (ap length (z .ensures .workspace ∙ ap (λ j. workspaceAfter (compared j) (s .args .workspace .now)) (q .before .before .verdict .given .1))
           ∙ length-replicate (length (s .args .workspace .now)) 0))
@@ -170,10 +170,10 @@ returns-3 c =
           (h .last .1 .1 .1 .1 .1 .0)
           (listed-of T u v r (s .args .answer .now) (h .last .1 .1 .1 .1 .1 .0) (o .stands .few)
           (h .ensures .1 .1 T u v k
-          (listed-from (s .args .cells .now) (s .args .size) T o u v (s .args .first .now) (s .args .second .now) (s .args .m) (s .args .n) (p .one)
+          (listed-from (s .args .cells .now) (s .args .size) T o u v (s .args .first .now) (s .args .second .now) (s .args .firsts) (s .args .seconds) (p .one)
           (p .two) fu fv (s .args .budget) (length (s .args .workspace .now)) k r
           ((subst (Judged T u v (s .args .budget) (length (s .args .workspace .now))) (q .before .before .verdict .given .1)
-          (z .ensures .judged T o u v eu ev)) .ended) (l .last .1 .1 .1 .1 .1 .0) (length (z .last .1 .1 .1 .1 .1 .1 .1 .1 .1 .0) - s .args .n)
+          (z .ensures .judged T o u v eu ev)) .ended) (l .last .1 .1 .1 .1 .1 .0) (length (z .last .1 .1 .1 .1 .1 .1 .1 .1 .1 .0) - s .args .seconds)
           (l .ensures .same-length
           ∙ (ap length (z .ensures .workspace ∙ ap (λ j. workspaceAfter (compared j) (s .args .workspace .now)) (q .before .before .verdict .given .1))
           ∙ length-replicate (length (s .args .workspace .now)) 0)) (l .ensures .loads (s .args .cells .now) T o u v eu ev) (length (s .args .answer .now))

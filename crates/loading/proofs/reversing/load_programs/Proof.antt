@@ -73,7 +73,8 @@ returns c =
       loads = λ cells T o u v eu ev.
           let fu : s .pre .0 .one .word ≡ u = same-answer (s .pre .0 .one .word) u (sym (s .pre .0 .one .read) ∙ eu) in
           let fv : s .pre .0 .two .word ≡ v = same-answer (s .pre .0 .two .word) v (sym (s .pre .0 .two .read) ∙ ev) in
-          loads-pair cells (s .args .size) T o u v (s .args .first .now) (s .args .second .now) (s .args .m) (s .args .n) (s .pre .0 .few) (s .pre .0 .one)
+          loads-pair cells (s .args .size) T o u v (s .args .first .now) (s .args .second .now) (s .args .firsts) (s .args .seconds) (s .pre .0 .few)
+          (s .pre .0 .one)
           (s .pre .0 .two) fu fv
           (s .args .workspace .now) (a .last .1 .1 .1 .0) (i .last .0) (b .last .1 .1 .1 .0) (s .pre .1) (a .ensures .1) (i .ensures) (b .ensures .1);
     }

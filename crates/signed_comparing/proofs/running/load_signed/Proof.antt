@@ -72,7 +72,7 @@ returns c =
     let reaches : right ≤ length mid = omega (arith, a .ensures .0, s .pre .1) in
     let whole : take (length mid - right) (drop right mid) ≡ drop right mid =
     take-all (length mid - right) (drop right mid) (omega (arith, length-drop right mid)) in
-    let turned = subst (λ l. Inverted l (s .args .m) part) whole (i .ensures) in
+    let turned = subst (λ l. Inverted l (s .args .firsts) part) whole (i .ensures) in
     record {
       same-length = b .ensures .0 ∙ part-length right mid part reaches (i .ensures .same-length) ∙ a .ensures .0;
       word = λ w v ew ev.
@@ -81,9 +81,9 @@ returns c =
           let made = a .ensures .1 w ew in
           subst (λ l. letters (drop right l) ≡ inverse w ++ v) (sym (b .ensures .1 v ev))
           (both-letters size (one .few) w v (program-in-range size (one .few) (s .args .first .now) w ew)
-          (program-in-range size (two .few) (s .args .second .now) v ev) start _ right (s .args .m) (s .args .n)
+          (program-in-range size (two .few) (s .args .second .now) v ev) start _ right (s .args .firsts) (s .args .seconds)
           (ap length (sym fw) ∙ one .program .count-is) (ap length (sym fv) ∙ two .program .count-is) (s .pre .1) part
-          (subst (λ l. Inverted (drop right l) (s .args .m) part) made turned) (part-back right mid part reaches ∙ ap (λ l. take right l ++ part) made));
+          (subst (λ l. Inverted (drop right l) (s .args .firsts) part) made turned) (part-back right mid part reaches ∙ ap (λ l. take right l ++ part) made));
     }
 
 pub load-signed-spec : {M : Type 1} → statement M

@@ -53,7 +53,7 @@ reversing-requires c κs =
     let one = s .pre .programs .one in
     let two = s .pre .programs .two in
     let l = c .before .before .before .load-signed in
-    let right = length (s .args .workspace .now) - (s .args .m + s .args .n) in
+    let right = length (s .args .workspace .now) - (s .args .firsts + s .args .seconds) in
     let w = one .program .word in
     let v = two .program .word in
     let pw = program-in-range size (one .few) (s .args .first .now) w (one .program .read) in
@@ -73,7 +73,7 @@ returns-2 c =
     let two = s .pre .programs .two in
     let l = k .load-signed in
     let r = c .before .before .reversing in
-    let right = length (s .args .workspace .now) - (s .args .m + s .args .n) in
+    let right = length (s .args .workspace .now) - (s .args .firsts + s .args .seconds) in
     let inside : right ≤ length (l .last .1 .1 .1 .1 .1 .1 .0) = omega (arith, l .ensures .same-length) in (
       r .ensures .0 ∙ l .ensures .same-length,
       λ T o w v ew ev.
