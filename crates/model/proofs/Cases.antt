@@ -14,7 +14,7 @@ use Rattle.model.specs.Bits.{field, finish}
 use Rattle.model.specs.Images.{readTable, readProgram, readChain, tableImage, programImage, chainImage}
 use Rattle.model.specs.Plain.{plainTable, readPlainTable, readPlainProgram}
 use Rattle.model.specs.Services.{Fraction, reverse, clear, readForward, compare, comparison, chain, check, followed, packTable, unpackTable, packProgram}
-use Rattle.model.specs.Services.{unpackProgram, same-after, different-after, listed-after, unlisted-after, remainder, quotient, moves-after, none-after}
+use Rattle.model.specs.Services.{unpackProgram, same-after, different-after, listed-after, unlisted-after, remainder, finishing, moves-after, none-after}
 use Rattle.model.specs.Services.{joins, breaks, ends-elsewhere}
 use Rattle.model.specs.Areas.{fractionBytes, remainderBytes, outputAfter, workspaceAfter}
 use Rattle.model.proofs.Case.{Case, _gives_, All}
@@ -216,7 +216,7 @@ comparisons =
 -- What is left to run: moves, none for each reason, and the order of the tests.
 abbrev pub remainders : List {1} Case
 remainders =
-    -- the complement of the done part towards the pattern, letter for letter
+    -- the residual of the done part towards the pattern, letter for letter
     (remainder braidBytes (pattern 3 (1 ∷ [])) (pattern 3 (1 ∷ 2 ∷ 1 ∷ [])) 65535 32768 32768 gives answered (moves-after (2 ∷ 1 ∷ []) 1)) ∷
     (remainder braidBytes (pattern 3 (2 ∷ [])) (pattern 3 (1 ∷ 2 ∷ 1 ∷ [])) 65535 32768 32768 gives answered (moves-after (1 ∷ 2 ∷ []) 3)) ∷
     (remainder braidBytes (pattern 3 (3 ∷ [])) (pattern 3 (1 ∷ 3 ∷ [])) 65535 32768 32768 gives answered (moves-after (1 ∷ []) 2)) ∷
@@ -312,20 +312,20 @@ pub record Further : Type 0 where
 
 endings-hold : All endings
 unfolding tableImage programImage chainImage plainTable field finish readTable readProgram readChain readForward readPlainTable readPlainProgram reverse compare
-    comparison chain remainder quotient check followed applied clear cleared packTable unpackTable packProgram unpackProgram under side against cubeAt reversing
-    run next complete
+    comparison chain remainder finishing check followed applied clear cleared packTable unpackTable packProgram unpackProgram under side against cubeAt
+    reversing run next complete
 endings-hold = (refl, (refl, (refl, (refl, (refl, (refl, (refl, (refl, (refl, (refl, (refl, (refl, (refl, (refl, (refl, tt)))))))))))))))
 
 triples-hold : All triples
 unfolding tableImage programImage chainImage plainTable field finish readTable readProgram readChain readForward readPlainTable readPlainProgram reverse compare
-    comparison chain remainder quotient check followed applied clear cleared packTable unpackTable packProgram unpackProgram under side against cubeAt reversing
-    run next complete
+    comparison chain remainder finishing check followed applied clear cleared packTable unpackTable packProgram unpackProgram under side against cubeAt
+    reversing run next complete
 triples-hold = (refl, (refl, (refl, (refl, (refl, (refl, (refl, (refl, (refl, (refl, (refl, (refl, (refl, (refl, (refl, (refl, (refl, tt)))))))))))))))))
 
 tables-hold : All tables
 unfolding tableImage programImage chainImage plainTable field finish readTable readProgram readChain readForward readPlainTable readPlainProgram reverse compare
-    comparison chain remainder quotient check followed applied clear cleared packTable unpackTable packProgram unpackProgram under side against cubeAt reversing
-    run next complete
+    comparison chain remainder finishing check followed applied clear cleared packTable unpackTable packProgram unpackProgram under side against cubeAt
+    reversing run next complete
 tables-hold = (
   refl,
   (
@@ -396,8 +396,8 @@ tables-hold = (
 
 programs-hold : All programs
 unfolding tableImage programImage chainImage plainTable field finish readTable readProgram readChain readForward readPlainTable readPlainProgram reverse compare
-    comparison chain remainder quotient check followed applied clear cleared packTable unpackTable packProgram unpackProgram under side against cubeAt reversing
-    run next complete
+    comparison chain remainder finishing check followed applied clear cleared packTable unpackTable packProgram unpackProgram under side against cubeAt
+    reversing run next complete
 programs-hold = (
   refl,
   (
@@ -420,14 +420,14 @@ programs-hold = (
 
 comparisons-hold : All comparisons
 unfolding tableImage programImage chainImage plainTable field finish readTable readProgram readChain readForward readPlainTable readPlainProgram reverse compare
-    comparison chain remainder quotient check followed applied clear cleared packTable unpackTable packProgram unpackProgram under side against cubeAt reversing
-    run next complete
+    comparison chain remainder finishing check followed applied clear cleared packTable unpackTable packProgram unpackProgram under side against cubeAt
+    reversing run next complete
 comparisons-hold = (refl, (refl, (refl, (refl, (refl, (refl, (refl, (refl, (refl, (refl, (refl, (refl, (refl, (refl, (refl, (refl, tt))))))))))))))))
 
 remainders-hold : All remainders
 unfolding tableImage programImage chainImage plainTable field finish readTable readProgram readChain readForward readPlainTable readPlainProgram reverse compare
-    comparison chain remainder quotient check followed applied clear cleared packTable unpackTable packProgram unpackProgram under side against cubeAt reversing
-    run next complete
+    comparison chain remainder finishing check followed applied clear cleared packTable unpackTable packProgram unpackProgram under side against cubeAt
+    reversing run next complete
 remainders-hold = (
   refl,
   (
@@ -459,8 +459,8 @@ remainders-hold = (
 
 chains-hold : All chains
 unfolding tableImage programImage chainImage plainTable field finish readTable readProgram readChain readForward readPlainTable readPlainProgram reverse compare
-    comparison chain remainder quotient check followed applied clear cleared packTable unpackTable packProgram unpackProgram under side against cubeAt reversing
-    run next complete
+    comparison chain remainder finishing check followed applied clear cleared packTable unpackTable packProgram unpackProgram under side against cubeAt
+    reversing run next complete
 chains-hold = (
   refl,
   (
@@ -471,8 +471,8 @@ chains-hold = (
 
 areas-hold : All areas
 unfolding tableImage programImage chainImage plainTable field finish readTable readProgram readChain readForward readPlainTable readPlainProgram reverse compare
-    comparison chain remainder quotient check followed applied clear cleared packTable unpackTable packProgram unpackProgram under side against cubeAt reversing
-    run next complete
+    comparison chain remainder finishing check followed applied clear cleared packTable unpackTable packProgram unpackProgram under side against cubeAt
+    reversing run next complete
 areas-hold = (refl, (refl, (refl, (refl, (refl, (refl, (refl, (refl, tt))))))))
 
 pub further-holds : Further

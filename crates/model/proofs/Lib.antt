@@ -15,7 +15,7 @@ pub mod Endings
 pub mod Equiv
 pub mod Entries
 pub mod Joining
-pub mod Residues
+pub mod Residuals
 pub mod Listing
 pub mod Case
 pub mod Samples

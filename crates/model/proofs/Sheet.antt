@@ -5,7 +5,7 @@ use Rattle.model.specs.Word.{forward, back}
 use Rattle.model.specs.Presentation.{complete}
 use Rattle.model.specs.Equivalence.{applied}
 use Rattle.model.specs.Reversing.{next, run, reversing}
-use Rattle.model.specs.Checks.{residue, under, side, against, cubeAt, cleared}
+use Rattle.model.specs.Checks.{residual, under, side, against, cubeAt, cleared}
 use Rattle.model.specs.Outcome.{unplaced, pair-of, triple-of, answered, refused}
 use Rattle.model.specs.Bits.{field, finish}
 use Rattle.model.specs.Images.{readTable, readProgram, readChain, tableImage, programImage, chainImage}
@@ -41,8 +41,8 @@ sheet =
     (compare (image open2) (pattern 2 (1 ∷ [])) (pattern 2 (2 ∷ [])) 65535 32768 gives answered (different-after 0)) ∷
     -- case 13, table K; L and R of its triple 1 2 3 (specification 4.7)
     (clear (image broken3) 65535 32768 gives refused 9 (triple-of 1 2 3)) ∷
-    (side broken3 65535 32768 1 2 3 gives residue (1 ∷ [])) ∷
-    (side broken3 65535 32768 2 1 3 gives residue []) ∷
+    (side broken3 65535 32768 1 2 3 gives residual (1 ∷ [])) ∷
+    (side broken3 65535 32768 2 1 3 gives residual []) ∷
     -- case 19: the same call with weights 1, and with weights 1 and 2
     (compare (image unequal2) (pattern 2 []) (pattern 2 []) 65535 32768 gives refused 8 (pair-of 1 2)) ∷
     (compare (image heavy2) (pattern 2 []) (pattern 2 []) 65535 32768 gives answered (same-after 0 0)) ∷ []

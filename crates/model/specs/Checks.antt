@@ -6,7 +6,7 @@ use lib.Dec.{eqb}
 use lib.ListN.{length}
 use Rattle.model.specs.Word.{Positive, positive, negative}
 use Rattle.model.specs.Presentation.{Presentation, Complement, undefined, complement, complete, weigh}
-use Rattle.model.specs.Reversing.{Stop, no-budget, no-room, Ending, finished, open-pair, stopped, reversing, Residual, EndsEmpty}
+use Rattle.model.specs.Reversing.{Stop, no-budget, no-room, Ending, finished, open-pair, stopped, reversing, Residuals, EndsEmpty}
 use Rattle.model.specs.Enumeration.{Two, Three, pairs, triples}
 use Rattle.model.specs.Outcome.{pair-of, triple-of, Outcome, answered, refused, _>>=_}
 
@@ -27,9 +27,9 @@ pub record Side (T : Presentation) (a b c : ℕ) (l : Positive) : Type 0 where
   pub y : Positive
   pub y′ : Positive
   pub l′ : Positive
-  pub to-b : Residual T (a ∷ []) (b ∷ []) x x′
-  pub to-c : Residual T (a ∷ []) (c ∷ []) y y′
-  pub outer : Residual T x y l l′
+  pub to-b : Residuals T (a ∷ []) (b ∷ []) x x′
+  pub to-c : Residuals T (a ∷ []) (c ∷ []) y y′
+  pub outer : Residuals T x y l l′
 
 -- 4.3: neither L = (a\b)\(a\c) nor R = (b\a)\(b\c) is defined; or each is, and the undoing of L, followed by R, ends empty
 pub data CubeRule (T : Presentation) (a b c : ℕ) : Type 0 where
@@ -37,19 +37,19 @@ pub data CubeRule (T : Presentation) (a b c : ℕ) : Type 0 where
   both-defined : (l r : Positive) → Side T a b c l → Side T b a c r → EndsEmpty T (negative l ++ positive r) → CubeRule T a b c
 
 -- 3.5: u\v as it is worked out: a word, or that it meets an undefined pair, or that its reversing is stopped
-pub data Residue : Type 0 where
-  residue : Positive → Residue
-  missing : Residue
-  halted : Stop → Residue
+pub data Residual : Type 0 where
+  residual : Positive → Residual
+  missing : Residual
+  halted : Stop → Residual
 
-abbrev pub ofEnding : Ending → Residue
-ofEnding (finished n d k r) = residue n
+abbrev pub ofEnding : Ending → Residual
+ofEnding (finished n d k r) = residual n
 ofEnding (open-pair a b k) = missing
 ofEnding (stopped s) = halted s
 
 -- 4.4: work that goes on from a word
-abbrev pub andThen : Residue → (Positive → Residue) → Residue
-andThen (residue x) f = f x
+abbrev pub andThen : Residual → (Positive → Residual) → Residual
+andThen (residual x) f = f x
 andThen missing f = missing
 andThen (halted s) f = halted s
 
@@ -68,14 +68,14 @@ empties (open-pair a b k) = fails
 empties (stopped s) = halts s
 
 -- 4.6, L is undefined: R has to be
-abbrev pub bothMissing : Residue → CubeVerdict
-bothMissing (residue r) = fails
+abbrev pub bothMissing : Residual → CubeVerdict
+bothMissing (residual r) = fails
 bothMissing missing = holds
 bothMissing (halted s) = halts s
 
 -- 4.6, L is defined: R has to be, and `compared` says whether the two agree
-abbrev pub bothThere : (Positive → CubeVerdict) → Residue → CubeVerdict
-bothThere compared (residue r) = compared r
+abbrev pub bothThere : (Positive → CubeVerdict) → Residual → CubeVerdict
+bothThere compared (residual r) = compared r
 bothThere compared missing = fails
 bothThere compared (halted s) = halts s
 
@@ -97,19 +97,19 @@ reported t (halts s) rest = refused (stopNumber s) (triple-of (t .a) (t .b) (t .
 
 module _ (T : Presentation) (budget : ℕ) where
   -- 4.5: u\v by one reversing, which has the whole budget
-  unfoldable pub under : ℕ → Positive → Positive → Residue
+  unfoldable pub under : ℕ → Positive → Positive → Residual
   under room u v = ofEnding (reversing T budget room (negative u ++ positive v))
 
   -- 4.4: (a\b)\(a\c) by reversings 1, 2 and 3; with a and b exchanged by 4, 5 and 6
-  unfoldable pub side : ℕ → ℕ → ℕ → ℕ → Residue
+  unfoldable pub side : ℕ → ℕ → ℕ → ℕ → Residual
   side room a b c =
       andThen (under room (a ∷ []) (b ∷ [])) (λ x.
       andThen (under room (a ∷ []) (c ∷ [])) (λ y.
       under room x y))
 
   -- 4.4, 4.5: what is left to do once L is known. In working out R the room is less by a byte for each letter of L; reversing 7 has all of it
-  unfoldable pub against : ℕ → ℕ → ℕ → ℕ → Residue → CubeVerdict
-  against room a b c (residue l) =
+  unfoldable pub against : ℕ → ℕ → ℕ → ℕ → Residual → CubeVerdict
+  against room a b c (residual l) =
       bothThere (λ r. empties (reversing T budget room (negative l ++ positive r))) (side (room - length l) b a c)
   against room a b c missing = bothMissing (side room b a c)
   against room a b c (halted s) = halts s

@@ -126,5 +126,5 @@ CoversRoom room (stay {w}) = length w ≤ room
 CoversRoom room (go {w} e c r) = (length w ≤ room) × CoversRoom room r
 
 -- 3.5: n is u\v, and d is v\u: the undoing of u, followed by v, finishes with them
-abbrev pub Residual : Presentation → Positive → Positive → Positive → Positive → Type 0
-Residual T u v n d = (k : ℕ) × Finishes T (negative u ++ positive v) n d k
+abbrev pub Residuals : Presentation → Positive → Positive → Positive → Positive → Type 0
+Residuals T u v n d = (k : ℕ) × Finishes T (negative u ++ positive v) n d k

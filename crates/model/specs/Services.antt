@@ -235,8 +235,8 @@ remainderOf area (open-pair a b k) = answered (none-after k)
 remainderOf area (stopped s) = refused (stopNumber s) unplaced
 
 -- 6.10: u done and v the pattern, under a table that was read and must clear; where v is the lighter, none after 0 steps; else they are reversed
-unfoldable pub quotient : Presentation → Positive → Positive → ℕ → ℕ → ℕ → Outcome (Remainder Positive)
-quotient T u v budget room area =
+unfoldable pub finishing : Presentation → Positive → Positive → ℕ → ℕ → ℕ → Outcome (Remainder Positive)
+finishing T u v budget room area =
     cleared T budget room >>= λ ok.
     cond (ltb (weigh T v) (weigh T u)) (answered (none-after 0)) (remainderOf area (reversing T budget room (negative u ++ positive v)))
 
@@ -244,7 +244,7 @@ quotient T u v budget room area =
 unfoldable pub remainder : List ℕ → List ℕ → List ℕ → ℕ → ℕ → ℕ → Outcome (Remainder Positive)
 remainder table done pattern budget room area =
     readImages readForward table done pattern >>= λ i.
-    quotient (i .table) (i .first) (i .second) budget room area
+    finishing (i .table) (i .first) (i .second) budget room area
 
 -- CHECK A CHAIN (6.7)
 

@@ -36,25 +36,25 @@ module _ (T : Presentation) (word : Word) (budget : ℕ) (workspace before : Lis
 
   module _ (n d k r : ℕ) (p : Reverses T word budget workspace (Finished n d k r)) where
     -- a denominator that is not empty
-    pub no-quotient : (d ≡ 0 → ⊥) → States outcome before before (Nothing k)
-    no-quotient h = let q = done T word budget workspace n d k r p in go (q .D) (q .d-length) (q .is)
+    pub no-moves : (d ≡ 0 → ⊥) → States outcome before before (Nothing k)
+    no-moves h = let q = done T word budget workspace n d k r p in go (q .D) (q .d-length) (q .is)
       where
         go : {N : Positive} (D : Positive) → length D ≡ d → end T word budget workspace ≡ finished N D k r → States outcome before before (Nothing k)
         go [] e f = absurd (h (sym e))
         go {N} (x ∷ D) e f = by-ending (finished N (x ∷ D) k r) f (record { result = refl; area = refl })
 
     -- an empty one: the numerator stands at the workspace's start
-    record Quotient : Type 0 where
+    record Finishing : Type 0 where
       pub N : Positive
       pub is : end T word budget workspace ≡ finished N [] k r
       pub n-length : length N ≡ n
       pub stands : take n workspace ≡ N
 
-    has-quotient : d ≡ 0 → Quotient
-    has-quotient z = let q = done T word budget workspace n d k r p in go (q .N) (q .D) (q .d-length) (q .is) (q .n-length) (q .stands)
+    has-moves : d ≡ 0 → Finishing
+    has-moves z = let q = done T word budget workspace n d k r p in go (q .N) (q .D) (q .d-length) (q .is) (q .n-length) (q .stands)
       where
         go : (N D : Positive) → length D ≡ d → end T word budget workspace ≡ finished N D k r → length N ≡ n
-            → letters (take (n + d) workspace) ≡ positive N ++ negative D → Quotient
+            → letters (take (n + d) workspace) ≡ positive N ++ negative D → Finishing
         go N [] e f en h =
             let all : n ≡ n + d = omega arith in
             record {
@@ -68,14 +68,14 @@ module _ (T : Presentation) (word : Word) (budget : ℕ) (workspace before : Lis
     module _ (z : d ≡ 0) where
       pub area-short : length before < n → States outcome before before (Refused AnswerShort)
       area-short h =
-          let q = has-quotient z in
+          let q = has-moves z in
           by-ending (finished (q .N) [] k r) (q .is)
           (subst (λ t. States (unless t 13 (moves-after (q .N) k)) before before (Refused AnswerShort))
           (sym (lt-ltb (length before) (length (q .N)) (omega (arith, q .n-length)))) (record { result = refl; area = refl }))
 
       pub moves-written : n ≤ length before → (after : List ℕ) → after ≡ take n workspace ++ drop n before → States outcome before after (Moves n k)
       moves-written h after e =
-          let q = has-quotient z in
+          let q = has-moves z in
           by-ending (finished (q .N) [] k r) (q .is)
           (subst (λ t. States (unless t 13 (moves-after (q .N) k)) before after (Moves n k))
           (sym (le-ltb (length before) (length (q .N)) (omega (arith, q .n-length))))

@@ -7,12 +7,12 @@ use Rattle.model.specs.Word.{Word, Positive}
 use Rattle.model.specs.Presentation.{Presentation}
 use Rattle.model.specs.Reversing.{reversing}
 use Rattle.model.specs.Outcome.{Outcome, answered, mapped}
-use Rattle.model.specs.Services.{Remainder, moves-after, none-after, remainderOf, quotient, readForward, remainder}
+use Rattle.model.specs.Services.{Remainder, moves-after, none-after, remainderOf, finishing, readForward, remainder}
 use Rattle.model.specs.Areas.{Compares, remainderBytes, outputAfter, workspaceAfter}
 use Rattle.model.specs.Stated.{counted, remaining}
 use Rattle.model.specs.declared.answers.Ending.{Ending}
 use Rattle.model.specs.declared.answers.Remaining.{Remaining}
-use Rattle.theory.specs.Remainders.{QuotientMeaning}
+use Rattle.theory.specs.Remainders.{RemainderMeaning}
 use Rattle.engine.specs.Run.{Reverses}
 use Rattle.cells.specs.Stands.{Of}
 
@@ -31,7 +31,7 @@ pub record Concludes (cells : List ℕ) (size : ℕ) (done pattern : List ℕ) (
     (r : Remaining) : Type 0 where
   pub workspace-after : workspace′ ≡ workspaceAfter (remaining r) workspace
   pub states : (T : Presentation) → Of cells size T → (u v : Positive) → readForward size done ≡ answered u → readForward size pattern ≡ answered v
-      → States (quotient T u v budget (length workspace) (length before)) before after r
+      → States (finishing T u v budget (length workspace) (length before)) before after r
 
 -- the moves as they stand in the answer area, by the number that was told
 abbrev pub movesLeft : List ℕ → Remainder ℕ → Remainder Positive
@@ -41,7 +41,7 @@ movesLeft area (none-after k) = none-after k
 -- WHAT AN ANSWER MEANS (specification 6.10): what was told and written into an area of `area` bytes, of the table and the programs in the images
 abbrev pub RemainderSays : List ℕ → List ℕ → List ℕ → ℕ → ℕ → ℕ → Outcome (Remainder ℕ) → List ℕ → Type 0
 RemainderSays table done pattern budget room area told left =
-    (T : Presentation) (u v : Positive) → Compares table done pattern T u v → QuotientMeaning T u v budget room area (mapped (movesLeft left) told)
+    (T : Presentation) (u v : Positive) → Compares table done pattern T u v → RemainderMeaning T u v budget room area (mapped (movesLeft left) told)
 
 -- THE SERVICE'S PROMISE (6.10): the outcome that is told, both areas after the call, and what the outcome means
 pub record RemainderPromise (table done pattern : List ℕ) (allowance : ℕ) (workspace workspace′ answer answer′ : List ℕ)

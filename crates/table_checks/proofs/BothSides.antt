@@ -7,16 +7,16 @@ use lib.ListN.{length, take, drop, length-take, length-drop}
 use Rattle.model.specs.Word.{Positive, positive, negative}
 use Rattle.model.specs.Presentation.{Presentation, complement, complete}
 use Rattle.model.specs.Reversing.{reversing}
-use Rattle.model.specs.Checks.{residue, empties, side, cubeAt}
+use Rattle.model.specs.Checks.{residual, empties, side, cubeAt}
 use Rattle.model.specs.declared.answers.Stop.{Stop}
 use Rattle.engine.specs.Gap.{letters}
 use Rattle.cells.specs.Stands.{Serves}
 use Rattle.engine.proofs.Letters.{length-letters}
 use Rattle.engine.proofs.Lettering.{length-positive}
-use Rattle.table_checks.specs.Residues.{Works, Stored}
+use Rattle.table_checks.specs.Residuals.{Works, Stored}
 use Rattle.table_checks.specs.Cube.{cubeAnswer, Sides, RightSide}
-use Rattle.table_checks.specs.declared.residues.Residue.{Residue as ResidueAnswer}
-use Rattle.table_checks.specs.declared.residues.Residue.the-variants.{Missing, Halted, Word as Found}
+use Rattle.table_checks.specs.declared.residuals.Residual.{Residual as ResidualAnswer}
+use Rattle.table_checks.specs.declared.residuals.Residual.the-variants.{Missing, Halted, Word as Found}
 use Rattle.table_checks.specs.declared.cube.CubeVerdict.the-variants.{Fails, Halts}
 use Rattle.table_checks.proofs.Sides.{FoundWord, was-found}
 use Rattle.table_checks.proofs.Triples.{right-missing, right-halts, both-words}
@@ -39,14 +39,14 @@ module _ (cells start mid : List ℕ) (a b c budget kept : ℕ) (T : Presentatio
   pub kept-fits : kept ≤ length mid
   kept-fits = omega (arith, left-found .count, stored-fits (T .size) (left-found .word) mid (left-found .stored))
 
-  left-side : side T budget (length start) a b c ≡ residue (left-found .word)
+  left-side : side T budget (length start) a b c ≡ residual (left-found .word)
   left-side = ap (λ i. side T budget i a b c) (sym n) ∙ left-found .is
 
   module _ (x y : Positive) (e : complete T a b ≡ complement x y) (t : Serves cells (positive (b ∷ a ∷ c ∷ [])) T) (after : List ℕ) where
     room-left : length after ≡ length mid → length (drop kept after) ≡ length start - length (left-found .word)
     room-left k = length-drop kept after ∙ omega (arith, n, left-found .count)
 
-    works-after : (v : ResidueAnswer) → RightSide cells mid kept b a c budget after v
+    works-after : (v : ResidualAnswer) → RightSide cells mid kept b a c budget after v
         → Works (T .size) (side T budget (length start - length (left-found .word)) b a c) (drop kept after) v
     works-after v r =
         subst (λ i. Works (T .size) (side T budget i b a c) (drop kept after) v) (room-left (r .same-length)) (r .works T t)

@@ -1,4 +1,4 @@
-pub mod Residuals
+pub mod Working
 pub mod CellWords
 pub mod Sides
 pub mod Triples

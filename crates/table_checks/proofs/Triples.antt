@@ -11,7 +11,7 @@ use Rattle.model.specs.Word.{Positive, positive, negative, inverse}
 use Rattle.model.specs.Presentation.{Presentation, undefined, complement, complete}
 use Rattle.model.specs.Reversing.{Ending, finished, open-pair, stopped, no-budget, no-room, reversing}
 use Rattle.model.specs.Enumeration.{Three}
-use Rattle.model.specs.Checks.{Residue, residue, missing, halted, CubeVerdict, empties, bothMissing, bothThere, whereDefined, side, against, cubeAt}
+use Rattle.model.specs.Checks.{Residual, residual, missing, halted, CubeVerdict, empties, bothMissing, bothThere, whereDefined, side, against, cubeAt}
 use Rattle.model.specs.Stated.{endingAnswer}
 use Rattle.model.specs.declared.answers.Ending.{Ending as EndingAnswer}
 use Rattle.model.specs.declared.answers.Ending.the-variants.{Finished}
@@ -21,10 +21,10 @@ use Rattle.cells.specs.Stands.{Serves}
 use Rattle.engine.specs.Run.{Reverses}
 use Rattle.engine.proofs.Loads.{loaded, load-searched, load-serves}
 use Rattle.engine.specs.Words.{Inverted, Moved}
-use Rattle.table_checks.specs.Residues.{Works}
+use Rattle.table_checks.specs.Residuals.{Works}
 use Rattle.table_checks.specs.Cube.{verdictOf, missingSide, cubeAnswer, Sides}
-use Rattle.table_checks.specs.declared.residues.Residue.{Residue as ResidueAnswer}
-use Rattle.table_checks.specs.declared.residues.Residue.the-variants.{Missing, Halted}
+use Rattle.table_checks.specs.declared.residuals.Residual.{Residual as ResidualAnswer}
+use Rattle.table_checks.specs.declared.residuals.Residual.the-variants.{Missing, Halted}
 use Rattle.table_checks.specs.declared.cube.CubeVerdict.the-variants.{Holds, Fails, Halts}
 use Rattle.table_checks.proofs.Sides.{was-missing, was-halted}
 
@@ -97,13 +97,13 @@ module _ (T : Presentation) (budget room a b c : ℕ) where
         ap Halts (h .2) ∙ sym (ap cubeAnswer (goes-on ∙ ap (against T budget room a b c) (h .1)))
 
     -- L is undefined
-    missing-answer : (m : Residue) (area : List ℕ) (v : ResidueAnswer) → Works (T .size) m area v → missingSide v ≡ cubeAnswer (bothMissing m)
-    missing-answer (residue n) area v w = ap missingSide (w .answer)
+    missing-answer : (m : Residual) (area : List ℕ) (v : ResidualAnswer) → Works (T .size) m area v → missingSide v ≡ cubeAnswer (bothMissing m)
+    missing-answer (residual n) area v w = ap missingSide (w .answer)
     missing-answer missing area v w = ap missingSide (w .answer)
     missing-answer (halted no-budget) area v w = ap missingSide (w .answer)
     missing-answer (halted no-room) area v w = ap missingSide (w .answer)
 
-    pub left-missing : (area area′ : List ℕ) (v : ResidueAnswer) → Works (T .size) (side T budget room a b c) area Missing
+    pub left-missing : (area area′ : List ℕ) (v : ResidualAnswer) → Works (T .size) (side T budget room a b c) area Missing
         → Works (T .size) (side T budget room b a c) area′ v → missingSide v ≡ cubeAnswer (cubeAt T budget room triple)
     unfolding against
     left-missing area area′ v w w′ =
@@ -111,7 +111,7 @@ module _ (T : Presentation) (budget room a b c : ℕ) where
         ∙ sym (ap cubeAnswer (goes-on ∙ ap (against T budget room a b c) (was-missing (side T budget room a b c) w)))
 
     -- L is the word l
-    module _ (l : Positive) (el : side T budget room a b c ≡ residue l) where
+    module _ (l : Positive) (el : side T budget room a b c ≡ residual l) where
       there : cubeAt T budget room triple
           ≡ bothThere (λ r. empties (reversing T budget room (negative l ++ positive r))) (side T budget (room - length l) b a c)
       unfolding against
@@ -130,7 +130,7 @@ module _ (T : Presentation) (budget room a b c : ℕ) where
           ap Halts (h .2)
           ∙ sym (ap cubeAnswer (there ∙ ap (bothThere (λ r. empties (reversing T budget room (negative l ++ positive r)))) (h .1)))
 
-      pub both-words : (r : Positive) → side T budget (room - length l) b a c ≡ residue r
+      pub both-words : (r : Positive) → side T budget (room - length l) b a c ≡ residual r
           → cubeAnswer (empties (reversing T budget room (negative l ++ positive r))) ≡ cubeAnswer (cubeAt T budget room triple)
       both-words r er =
           sym (ap cubeAnswer (there ∙ ap (bothThere (λ r. empties (reversing T budget room (negative l ++ positive r)))) er))

@@ -1,3 +1,3 @@
-pub mod Residues
+pub mod Residuals
 pub mod Cube
 pub mod Table

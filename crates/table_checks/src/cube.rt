@@ -5,8 +5,8 @@ ghost use lib.ListN.{length};
 ghost use Rattle.model.specs.Word.{positive};
 ghost use Rattle.cells.specs.Stands.{Ready};
 ghost use Rattle.table_checks.specs.Cube.{verdictOf, missingSide, Ends, AgreeMeans, RightSide, CubeMeans};
-use crate::residues::Residue;
-use crate::residues::side;
+use crate::residuals::Residual;
+use crate::residuals::side;
 use cells::layout::UNDEFINED;
 use cells::layout::cell_at;
 use engine::gap::Gap;
@@ -47,13 +47,13 @@ pub fn verdict_of(ending: Ending) -> CubeVerdict
 }
 
 // L is undefined: R has to be.
-pub fn missing_side(right: Residue) -> CubeVerdict
+pub fn missing_side(right: Residual) -> CubeVerdict
     ensures { λ r. ⌜ r ≡ missingSide right ⌝ }
 {
     match right {
-        Residue::Word(_) => CubeVerdict::Fails,
-        Residue::Missing => CubeVerdict::Holds,
-        Residue::Halted(stop) => CubeVerdict::Halts(stop),
+        Residual::Word(_) => CubeVerdict::Fails,
+        Residual::Missing => CubeVerdict::Holds,
+        Residual::Halted(stop) => CubeVerdict::Halts(stop),
     }
 }
 
@@ -87,7 +87,7 @@ pub fn right_side(
     b: u8,
     c: u8,
     budget: u16,
-) -> Residue
+) -> Residual
     requires ready { ⌜ Ready (now cells) (positive (a ∷ b ∷ c ∷ [])) ⌝ }
     requires kept { ⌜ kept ≤ length (now bytes) ⌝ }
     ensures { λ r. ⌜ RightSide (now (cells .entry)) (now (bytes .entry)) kept a b c budget (now (bytes .exit)) r ⌝ }
@@ -107,17 +107,17 @@ pub fn cube_at(cells: &[u8], bytes: &mut [u8], a: u8, b: u8, c: u8, budget: u16)
     }
     let left = side(cells, bytes, a, b, c, budget);
     match left {
-        Residue::Halted(stop) => CubeVerdict::Halts(stop),
-        Residue::Missing => {
+        Residual::Halted(stop) => CubeVerdict::Halts(stop),
+        Residual::Missing => {
             let right = side(cells, bytes, b, a, c, budget);
             missing_side(right)
         }
-        Residue::Word(kept) => {
+        Residual::Word(kept) => {
             let right = right_side(cells, bytes, kept, b, a, c, budget);
             match right {
-                Residue::Word(count) => agree(cells, bytes, kept, count, budget),
-                Residue::Missing => CubeVerdict::Fails,
-                Residue::Halted(stop) => CubeVerdict::Halts(stop),
+                Residual::Word(count) => agree(cells, bytes, kept, count, budget),
+                Residual::Missing => CubeVerdict::Fails,
+                Residual::Halted(stop) => CubeVerdict::Halts(stop),
             }
         }
     }

@@ -11,44 +11,44 @@ use native.Mathlib.Omega.{arith}
 use lib.ListN.{length}
 use Rattle.model.specs.Word.{Positive, positive, negative}
 use Rattle.model.specs.Presentation.{Presentation, Complement, undefined, complement, complete}
-use Rattle.model.specs.Reversing.{no-budget, no-room, Ending, finished, open-pair, stopped, reversing, Finishes, Residual, EndsEmpty}
+use Rattle.model.specs.Reversing.{no-budget, no-room, Ending, finished, open-pair, stopped, reversing, Finishes, Residuals, EndsEmpty}
 use Rattle.model.specs.Enumeration.{Two, Three, pairs, triples}
 use Rattle.model.specs.Range.{All}
 use Rattle.model.specs.Outcome.{Place, pair-of, Outcome, answered, refused, _>>=_}
-use Rattle.model.specs.Checks.{balanced, weightCheck, Side, CubeRule, both-undefined, both-defined, Residue, residue, missing, halted, andThen, CubeVerdict}
+use Rattle.model.specs.Checks.{balanced, weightCheck, Side, CubeRule, both-undefined, both-defined, Residual, residual, missing, halted, andThen, CubeVerdict}
 use Rattle.model.specs.Checks.{holds, fails, halts, empties, bothMissing, bothThere, whereDefined, reported, under, side, against, cubeAt, cubeCheck, cleared}
 use Rattle.theory.specs.Cube.{Obeys, Says, FirstBroken, CubeMeaning}
 use Rattle.model.proofs.Impossible.{impossible}
 use Rattle.model.proofs.Leftmost.{open-unfinished}
 use Rattle.model.proofs.Endings.{Ends, reversing-ends}
-use Rattle.model.proofs.Residues.{same-residual, under-residue, under-missing}
+use Rattle.model.proofs.Residuals.{same-residual, under-residual, under-missing}
 use Rattle.theory.proofs.Letters.{all-have}
 use Rattle.theory.proofs.Residuals.{same-side, open-rule}
 use Rattle.theory.proofs.Enumerated.{pairs-have, triples-have}
 
 -- WHAT ONE SIDE SHOWS
 
-there : (r : Residue) (f : Positive → Residue) {n : Positive} → andThen r f ≡ residue n → (x : Positive) × (r ≡ residue x) × (f x ≡ residue n)
-there (residue x) f e = (x, refl, e)
+there : (r : Residual) (f : Positive → Residual) {n : Positive} → andThen r f ≡ residual n → (x : Positive) × (r ≡ residual x) × (f x ≡ residual n)
+there (residual x) f e = (x, refl, e)
 there missing f e = impossible (cc)
 there (halted s) f e = impossible (cc)
 
-lacking : (r : Residue) (f : Positive → Residue) → andThen r f ≡ missing → (r ≡ missing → ⊥) → ((x : Positive) → r ≡ residue x → f x ≡ missing → ⊥) → ⊥
-lacking (residue x) f e here later = later x refl e
+lacking : (r : Residual) (f : Positive → Residual) → andThen r f ≡ missing → (r ≡ missing → ⊥) → ((x : Positive) → r ≡ residual x → f x ≡ missing → ⊥) → ⊥
+lacking (residual x) f e here later = later x refl e
 lacking missing f e here later = here refl
 lacking (halted s) f e here later = impossible (cc)
 
 module _ (T : Presentation) (budget room a b c : ℕ) where
-  side-there : {l : Positive} → side T budget room a b c ≡ residue l → Side T a b c l
+  side-there : {l : Positive} → side T budget room a b c ≡ residual l → Side T a b c l
   unfolding side
   side-there {l} h =
       let p =
       there (under T budget room (a ∷ []) (b ∷ []))
       (λ x. andThen (under T budget room (a ∷ []) (c ∷ [])) (λ y. under T budget room x y)) h in
       let q = there (under T budget room (a ∷ []) (c ∷ [])) (λ y. under T budget room (p .0) y) (p .2) in
-      let to-b = under-residue T budget room (a ∷ []) (b ∷ []) (p .1) in
-      let to-c = under-residue T budget room (a ∷ []) (c ∷ []) (q .1) in
-      let outer = under-residue T budget room (p .0) (q .0) (q .2) in
+      let to-b = under-residual T budget room (a ∷ []) (b ∷ []) (p .1) in
+      let to-c = under-residual T budget room (a ∷ []) (c ∷ []) (q .1) in
+      let outer = under-residual T budget room (p .0) (q .0) (q .2) in
       record {
         x = p .0;
         x′ = to-b .0;
@@ -69,11 +69,11 @@ module _ (T : Presentation) (budget room a b c : ℕ) where
       (λ x e rest. lacking (under T budget room (a ∷ []) (c ∷ [])) (λ y. under T budget room x y) rest
       (λ e′. under-missing T budget room (a ∷ []) (c ∷ []) e′ (s .y) (s .y′) (s .to-c))
       (λ y e′ last.
-      let p = under-residue T budget room (a ∷ []) (b ∷ []) e in
-      let q = under-residue T budget room (a ∷ []) (c ∷ []) e′ in
+      let p = under-residual T budget room (a ∷ []) (b ∷ []) e in
+      let q = under-residual T budget room (a ∷ []) (c ∷ []) e′ in
       let x≡ : s .x ≡ x = same-residual T (a ∷ []) (b ∷ []) (s .x) (s .x′) x (p .0) (s .to-b) (p .1) .0 in
       let y≡ : s .y ≡ y = same-residual T (a ∷ []) (c ∷ []) (s .y) (s .y′) y (q .0) (s .to-c) (q .1) .0 in
-      under-missing T budget room x y last l (s .l′) (subst₂ (λ x y. Residual T x y l (s .l′)) x≡ y≡ (s .outer))))
+      under-missing T budget room x y last l (s .l′) (subst₂ (λ x y. Residuals T x y l (s .l′)) x≡ y≡ (s .outer))))
 
 -- WHAT ONE TRIPLE SHOWS
 
@@ -98,9 +98,9 @@ module _ (T : Presentation) (budget : ℕ) where
       go (open-pair x y k) t = λ rule. open-unfinished T (t .reached .run) (t .here) (t .undefined-there) [] [] (agree rule .1)
       go (stopped s) t = tt
 
-  defined-says : (room a b c : ℕ) (l : Positive) → Side T a b c l → (r : Residue) → side T budget (room - length l) b a c ≡ r
+  defined-says : (room a b c : ℕ) (l : Positive) → Side T a b c l → (r : Residual) → side T budget (room - length l) b a c ≡ r
       → Says T (record { a = a; b = b; c = c }) (bothThere (λ r. empties (reversing T budget room (negative l ++ positive r))) r)
-  defined-says room a b c l left (residue r) e = compared-says room a b c l r left (side-there T budget (room - length l) b a c e)
+  defined-says room a b c l left (residual r) e = compared-says room a b c l r left (side-there T budget (room - length l) b a c e)
   defined-says room a b c l left missing e = refuted
     where
       refuted : CubeRule T a b c → ⊥
@@ -108,9 +108,9 @@ module _ (T : Presentation) (budget : ℕ) where
       refuted (both-defined l′ r′ left′ right′ ends) = side-lacking T budget (room - length l) b a c e r′ right′
   defined-says room a b c l left (halted t) e = tt
 
-  undefined-says : (room a b c : ℕ) → ((l : Positive) → Side T a b c l → ⊥) → (r : Residue) → side T budget room b a c ≡ r
+  undefined-says : (room a b c : ℕ) → ((l : Positive) → Side T a b c l → ⊥) → (r : Residual) → side T budget room b a c ≡ r
       → Says T (record { a = a; b = b; c = c }) (bothMissing r)
-  undefined-says room a b c none-there (residue r) e = refuted
+  undefined-says room a b c none-there (residual r) e = refuted
     where
       refuted : CubeRule T a b c → ⊥
       refuted (both-undefined none-l none-r) = none-r r (side-there T budget room b a c e)
@@ -118,9 +118,9 @@ module _ (T : Presentation) (budget : ℕ) where
   undefined-says room a b c none-there missing e = both-undefined none-there (side-lacking T budget room b a c e)
   undefined-says room a b c none-there (halted t) e = tt
 
-  against-says : (room a b c : ℕ) (l : Residue) → side T budget room a b c ≡ l → Says T (record { a = a; b = b; c = c }) (against T budget room a b c l)
+  against-says : (room a b c : ℕ) (l : Residual) → side T budget room a b c ≡ l → Says T (record { a = a; b = b; c = c }) (against T budget room a b c l)
   unfolding against
-  against-says room a b c (residue l) e =
+  against-says room a b c (residual l) e =
       defined-says room a b c l (side-there T budget room a b c e) (side T budget (room - length l) b a c) refl
   against-says room a b c missing e =
       undefined-says room a b c (side-lacking T budget room a b c e) (side T budget room b a c) refl

@@ -26,7 +26,7 @@ use Rattle.theory.proofs.Completeness.{Cube, Closes, complete-for}
 -- WHAT THE RULE SAYS
 
 module _ (T : Presentation) where
-  -- both sides want the complements of a and c and of b and c
+  -- both sides want the residuals of a and c and of b and c
   outside-rule : (a b c : ℕ) → a ≢ c → b ≢ c → (InRange (T .size) c → ⊥) → CubeRule T a b c
   outside-rule a b c p q unnamed =
       both-undefined

@@ -15,7 +15,7 @@ use borrow.Author.Tests.{leb-false, ltb-false, ltb-true}
 use Rattle.model.specs.Word.{Word, Positive, positive, negative}
 use Rattle.model.specs.Presentation.{Presentation}
 use Rattle.model.specs.Equivalence.{equal}
-use Rattle.model.specs.Reversing.{Ending, finished, open-pair, stopped, no-room, reversing, Residual}
+use Rattle.model.specs.Reversing.{Ending, finished, open-pair, stopped, no-room, reversing, Residuals}
 use Rattle.model.specs.Enumeration.{range, Two}
 use Rattle.model.specs.Outcome.{answered, _>>=_, unless}
 use Rattle.model.specs.Range.{All, InRange, LetterInRange, TableInRange}
@@ -165,11 +165,11 @@ module _ (T : Presentation) (inside : TableInRange T) (budget room : ℕ) where
     -- one pair of words: u\v is in the list that is answered
     added : (u v : Positive) → All (InRange (T .size)) u → All (InRange (T .size)) v → (ws : List Positive)
         → addedTo vs (beside T budget room vs (negative u ++ positive v)) ≡ answered ws
-        → Grows vs ws × ((r : Positive) × List·Memᴰ r ws × (d : Positive) × Residual T u v r d)
+        → Grows vs ws × ((r : Positive) × List·Memᴰ r ws × (d : Positive) × Residuals T u v r d)
     added u v p q ws h = go (beside T budget room vs (negative u ++ positive v)) refl h
       where
         go : (end : Ending) → beside T budget room vs (negative u ++ positive v) ≡ end → addedTo vs end ≡ answered ws
-            → Grows vs ws × ((r : Positive) × List·Memᴰ r ws × (d : Positive) × Residual T u v r d)
+            → Grows vs ws × ((r : Positive) × List·Memᴰ r ws × (d : Positive) × Residuals T u v r d)
         go (finished n d k r) b e =
             let done = beside-finished vs (negative u ++ positive v) n d k r b in
             let next = put n (numerator-letters (room - setBytes vs) u v n d k r p q done) e in
@@ -181,7 +181,7 @@ module _ (T : Presentation) (inside : TableInRange T) (budget room : ℕ) where
 
   -- u\v of the words at two places is in the list
   abbrev Taken : List Positive → ℕ → ℕ → Type 0
-  Taken vs i j = (r : Positive) × List·Memᴰ r vs × (d : Positive) × Residual T (getD vs i []) (getD vs j []) r d
+  Taken vs i j = (r : Positive) × List·Memᴰ r vs × (d : Positive) × Residuals T (getD vs i []) (getD vs j []) r d
 
   -- two places of the list
   abbrev Places : List Positive → Two → Type 0
@@ -189,8 +189,8 @@ module _ (T : Presentation) (inside : TableInRange T) (budget room : ℕ) where
 
   -- what was found of two places stays so
   residual-longer : {vs ws : List Positive} → Longer vs ws → (i j : ℕ) → Places vs (record { a = i; b = j }) → (r d : Positive)
-      → Residual T (getD vs i []) (getD vs j []) r d → Residual T (getD ws i []) (getD ws j []) r d
-  residual-longer p i j h r d t = subst₂ (λ u v. Residual T u v r d) (longer-at p i (h .0)) (longer-at p j (h .1)) t
+      → Residuals T (getD vs i []) (getD vs j []) r d → Residuals T (getD ws i []) (getD ws j []) r d
+  residual-longer p i j h r d t = subst₂ (λ u v. Residuals T u v r d) (longer-at p i (h .0)) (longer-at p j (h .1)) t
 
   taken-longer : {vs ws : List Positive} → Longer vs ws → (i j : ℕ) → i < length vs → j < length vs → Taken vs i j → Taken ws i j
   taken-longer p i j h k t = (t .0, longer-has p (t .0) (t .1), t .2, residual-longer p i j (h, k) (t .0) (t .2) (t .3))
@@ -305,5 +305,5 @@ module _ (T : Presentation) (inside : TableInRange T) (budget room : ℕ) where
             let p = member-place u S m in
             let q = member-place v S n in
             let t = grown .1 (p .place) (q .place) (p .inside) (q .inside) in
-            (t .0, t .1, t .2, subst₂ (λ x y. Residual T x y (t .0) (t .2)) (p .there) (q .there) (t .3));
+            (t .0, t .1, t .2, subst₂ (λ x y. Residuals T x y (t .0) (t .2)) (p .there) (q .there) (t .3));
       }

@@ -1,4 +1,4 @@
--- Where a set of words that has every letter of the table is closed under complements, any two words of the table's letters have a diagram: it is paved with
+-- Where a set of words that has every letter of the table is closed under residuals, any two words of the table's letters have a diagram: it is paved with
 -- diagrams of the set, row by row ([D1] Lemma 1.3). So any two such words have a common right multiple, and some order of steps finishes every word of
 -- either sign. From diagrams put side by side and one below the other (Grid.antt).
 -- Main names: `paved`, `diagram`, `common-multiple`, `finishable`.

@@ -1,6 +1,6 @@
 -- What the outcome of remainder means once the table clears: u divides v on the left exactly if the reversing of u's inverse, then v, finishes
--- with an empty denominator, and then the numerator is the quotient, up to equivalence ([D1] section 1, for the tables that the checks pass).
--- From `clear-complete` and the laws of Cancelling.antt, after [D1] Lemmas 1.3 and 1.4. Main names: `quotient-meaning`, `left-cancelling`.
+-- with an empty denominator, and then the numerator is the residual, up to equivalence ([D1] section 1, for the tables that the checks pass).
+-- From `clear-complete` and the laws of Cancelling.antt, after [D1] Lemmas 1.3 and 1.4. Main names: `remainder-meaning`, `left-cancelling`.
 use mathlib.Core.Path.{_≡_, refl, sym, ap, subst, _∙_}
 use mathlib.Core.List.{[], _∷_, _++_}
 use mathlib.Core.Bool.{Bool, true, false, cond}
@@ -12,19 +12,19 @@ use lib.ListN.{length}
 use borrow.Author.Tests.{lt-ltb, le-ltb, ltb-true}
 use Rattle.model.specs.Word.{Positive, positive, negative}
 use Rattle.model.specs.Presentation.{Presentation, complete, weightOf, weigh}
-use Rattle.model.specs.Reversing.{Stop, no-budget, no-room, Ending, finished, open-pair, stopped, reversing, Finishes, Residual, CoversSteps, CoversRoom}
+use Rattle.model.specs.Reversing.{Stop, no-budget, no-room, Ending, finished, open-pair, stopped, reversing, Finishes, Residuals, CoversSteps, CoversRoom}
 use Rattle.model.specs.Reversing.{differing}
 use Rattle.model.specs.Equivalence.{Joined}
 use Rattle.model.specs.Outcome.{unplaced, Outcome, answered, refused, _>>=_, unless}
 use Rattle.model.specs.Checks.{stopNumber, cleared}
-use Rattle.model.specs.Services.{Remainder, moves-after, none-after, remainderOf, quotient}
+use Rattle.model.specs.Services.{Remainder, moves-after, none-after, remainderOf, finishing}
 use Rattle.model.proofs.Impossible.{impossible}
 use Rattle.model.proofs.Complete.{complete-turn}
 use Rattle.model.proofs.Leftmost.{open-unfinished}
 use Rattle.model.proofs.Endings.{Ends, reversing-ends, ends-reversing}
 use Rattle.model.proofs.Equiv.{total-append}
 use Rattle.model.proofs.Joining.{equiv-joined, joined-equiv, joined-weight}
-use Rattle.theory.specs.Remainders.{Completes, Concluded, concluded, by-allowance, by-workspace, by-area, QuotientMeaning}
+use Rattle.theory.specs.Remainders.{Completes, Concluded, concluded, by-allowance, by-workspace, by-area, RemainderMeaning}
 use Rattle.theory.proofs.Grid.{same-grid}
 use Rattle.theory.proofs.Diagram.{finishes, draw}
 use Rattle.theory.proofs.Clearing.{clear-homogeneous, clear-complete}
@@ -43,8 +43,8 @@ module _ (T : Presentation) (u v : Positive) (budget room area : ℕ) where
   after = cond (ltb (weigh T v) (weigh T u)) (answered (none-after 0)) (remainderOf area (reversing T budget room (negative u ++ positive v)))
 
   -- only a table that clears leads to an answer
-  answered-clear : {r : Remainder Positive} → quotient T u v budget room area ≡ answered r → cleared T budget room ≡ answered tt
-  unfolding quotient
+  answered-clear : {r : Remainder Positive} → finishing T u v budget room area ≡ answered r → cleared T budget room ≡ answered tt
+  unfolding finishing
   answered-clear {r} h = go (cleared T budget room) h
     where
       go : (o : Outcome (Unit {0})) → (o >>= λ ok. after) ≡ answered r → o ≡ answered tt
@@ -52,16 +52,16 @@ module _ (T : Presentation) (u v : Positive) (budget room area : ℕ) where
       go (refused n ps) e = impossible (cc)
 
   module _ (clear : cleared T budget room ≡ answered tt) where
-    -- THE CASES OF A QUOTIENT
+    -- THE CASES OF A REMAINDER
 
-    pub lighter : weigh T v < weigh T u → quotient T u v budget room area ≡ answered (none-after 0)
-    unfolding quotient
+    pub lighter : weigh T v < weigh T u → finishing T u v budget room area ≡ answered (none-after 0)
+    unfolding finishing
     lighter h =
         ap (λ o. o >>= λ ok. after) clear
         ∙ ap (λ t. cond t (answered (none-after 0)) (remainderOf area (reversing T budget room (negative u ++ positive v)))) (lt-ltb (weigh T v) (weigh T u) h)
 
-    pub as-heavy : weigh T u ≤ weigh T v → quotient T u v budget room area ≡ remainderOf area (reversing T budget room (negative u ++ positive v))
-    unfolding quotient
+    pub as-heavy : weigh T u ≤ weigh T v → finishing T u v budget room area ≡ remainderOf area (reversing T budget room (negative u ++ positive v))
+    unfolding finishing
     as-heavy h =
         ap (λ o. o >>= λ ok. after) clear
         ∙ ap (λ t. cond t (answered (none-after 0)) (remainderOf area (reversing T budget room (negative u ++ positive v)))) (le-ltb (weigh T v) (weigh T u) h)
@@ -75,7 +75,7 @@ module _ (T : Presentation) (u v : Positive) (budget room area : ℕ) where
     completes-heavy m c =
         omega (arith, joined-weight T (weightOf T) (clear-homogeneous T budget room clear) (u ++ m) v c, total-append (weightOf T) u m)
 
-    defined : (m : Positive) → Completes T u v m → (n : Positive) × Residual T u v n []
+    defined : (m : Positive) → Completes T u v m → (n : Positive) × Residuals T u v n []
     defined m c = let q = quotient-of m c in (q .n, (q .k, finishes (q .grid)))
 
     finishes-completes : (n : Positive) {k : ℕ} → Finishes T (negative u ++ positive v) n [] k → Completes T u v n
@@ -109,17 +109,17 @@ module _ (T : Presentation) (u v : Positive) (budget room area : ℕ) where
         none k (λ m c. let q = quotient-of m c in open-unfinished T (t .reached .run) (t .here) (t .undefined-there) (q .n) [] (finishes (q .grid)))
     ending-means (stopped s) t = stop-means s
 
-    quotient-means : Meaning T u v area (quotient T u v budget room area)
-    quotient-means = go (decLt (weigh T v) (weigh T u))
+    remainder-means : Meaning T u v area (finishing T u v budget room area)
+    remainder-means = go (decLt (weigh T v) (weigh T u))
       where
-        go : Dec (weigh T v < weigh T u) → Meaning T u v area (quotient T u v budget room area)
+        go : Dec (weigh T v < weigh T u) → Meaning T u v area (finishing T u v budget room area)
         go (yes h) = subst (Meaning T u v area) (sym (lighter h)) (none 0 (λ m c. omega (arith, completes-heavy m c)))
         go (no h) =
             subst (Meaning T u v area) (sym (as-heavy (omega arith)))
             (ending-means (reversing T budget room (negative u ++ positive v)) (reversing-ends T budget room (negative u ++ positive v)))
 
     covered : (m : Positive) → Completes T u v m → (n : Positive) (k : ℕ) (run : Finishes T (negative u ++ positive v) n [] k) → CoversSteps budget run
-        → CoversRoom room run → quotient T u v budget room area ≡ unless (ltb area (length n)) 13 (moves-after n k)
+        → CoversRoom room run → finishing T u v budget room area ≡ unless (ltb area (length n)) 13 (moves-after n k)
     covered m c n k run within fits =
         as-heavy (completes-heavy m c)
         ∙ ap (remainderOf area)
@@ -163,14 +163,14 @@ module _ (T : Presentation) (u v : Positive) (budget room area : ℕ) where
   as-concluded out-of-room = by-workspace
   as-concluded (out-of-area m c h) = by-area
 
-  pub quotient-meaning : QuotientMeaning T u v budget room area (quotient T u v budget room area)
-  quotient-meaning =
+  pub remainder-meaning : RemainderMeaning T u v budget room area (finishing T u v budget room area)
+  remainder-meaning =
       record {
-        moves-complete = λ m k e. means-moves m k (quotient-means (answered-clear e)) e .0;
-        moves-complement = λ m k e. means-moves m k (quotient-means (answered-clear e)) e .1;
-        none-completes = λ k e. means-none k (quotient-means (answered-clear e)) e;
-        moves-none-or-stop = λ clear. as-concluded (quotient-means clear);
-        short-area = λ clear e. means-short (quotient-means clear) e;
+        moves-complete = λ m k e. means-moves m k (remainder-means (answered-clear e)) e .0;
+        moves-residual = λ m k e. means-moves m k (remainder-means (answered-clear e)) e .1;
+        none-completes = λ k e. means-none k (remainder-means (answered-clear e)) e;
+        moves-none-or-stop = λ clear. as-concluded (remainder-means clear);
+        short-area = λ clear e. means-short (remainder-means clear) e;
         complement-defined = defined;
         answers-moves = covered;
         completions-joined = joined-completions;

@@ -1,5 +1,5 @@
 -- Residuals u\v and the sides (a\b)\(a\c) of the cube rule: they are determined by their letters, and told by diagrams.
--- A side is there exactly where both inner complements are and their diagram is ([D1], coherence; [D2], the cube property).
+-- A side is there exactly where both inner residuals are and their diagram is ([D1], coherence; [D2], the cube property).
 -- From diagrams and what they determine (Grid.antt, Diagram.antt). Main names: `side-grid`, `grid-side`, `same-side`, `rule-turned`, `open-rule`.
 use mathlib.Core.Path.{_≡_, refl, ap, _∙_}
 use mathlib.Core.List.{[]}
@@ -9,7 +9,7 @@ use Rattle.model.specs.Presentation.{Presentation, undefined, complement, swapp
 use Rattle.model.specs.Checks.{Side, CubeRule, both-undefined, both-defined}
 use Rattle.model.proofs.Impossible.{impossible}
 use Rattle.model.proofs.Complete.{complete-turn}
-use Rattle.model.proofs.Residues.{letters-residual, residual-letters}
+use Rattle.model.proofs.Residuals.{letters-residual, residual-letters}
 use Rattle.theory.proofs.Grid.{Grid, recast, same-grid, turned}
 use Rattle.theory.proofs.Diagram.{finishes, draw}
 

@@ -1,6 +1,6 @@
 -- Specification 6.10, whole, as one statement: what the outcome of remainder says of u, the part done, and v, the pattern.
--- The promise of remainder cites it. After [D1] Lemmas 1.3 and 1.4; proved as `quotient-meaning` in proofs/Remainders.antt.
--- Main names: `Completes`, `QuotientMeaning`.
+-- The promise of remainder cites it. After [D1] Lemmas 1.3 and 1.4; proved as `remainder-meaning` in proofs/Remainders.antt.
+-- Main names: `Completes`, `RemainderMeaning`.
 use mathlib.Core.List.{[], _++_}
 use mathlib.Core.Path.{_≡_}
 use Prim.Native.Nat.{ℕ, _<_}
@@ -8,7 +8,7 @@ use lib.Dec.{ltb}
 use lib.ListN.{length}
 use Rattle.model.specs.Word.{Positive, positive, negative}
 use Rattle.model.specs.Presentation.{Presentation}
-use Rattle.model.specs.Reversing.{Finishes, Residual, CoversSteps, CoversRoom}
+use Rattle.model.specs.Reversing.{Finishes, Residuals, CoversSteps, CoversRoom}
 use Rattle.model.specs.Equivalence.{Joined}
 use Rattle.model.specs.Outcome.{unplaced, Outcome, answered, refused, unless}
 use Rattle.model.specs.Checks.{cleared}
@@ -26,11 +26,11 @@ pub data Concluded : Outcome (Remainder Positive) → Type 0 where
   by-area : Concluded (refused 13 unplaced)
 
 -- with so many steps allowed, a workspace of `room` bytes and an answer area of `area` bytes
-pub record QuotientMeaning (T : Presentation) (u v : Positive) (budget room area : ℕ) (outcome : Outcome (Remainder Positive)) : Type 0 where
+pub record RemainderMeaning (T : Presentation) (u v : Positive) (budget room area : ℕ) (outcome : Outcome (Remainder Positive)) : Type 0 where
   -- moves are answered only where they finish the pattern,
   pub moves-complete : (m : Positive) (k : ℕ) → outcome ≡ answered (moves-after m k) → Completes T u v m
-  -- and they are the complement u\v, with v\u empty, worked out in so many steps
-  pub moves-complement : (m : Positive) (k : ℕ) → outcome ≡ answered (moves-after m k) → Finishes T (negative u ++ positive v) m [] k
+  -- and they are the residual u\v, with v\u empty, worked out in so many steps
+  pub moves-residual : (m : Positive) (k : ℕ) → outcome ≡ answered (moves-after m k) → Finishes T (negative u ++ positive v) m [] k
   -- none is answered only where no moves at all finish it
   pub none-completes : (k : ℕ) → outcome ≡ answered (none-after k) → (m : Positive) → Completes T u v m → ⊥
   -- under a table that clears it is moves, none or a stop,
@@ -38,7 +38,7 @@ pub record QuotientMeaning (T : Presentation) (u v : Positive) (budget room area
   -- and 13 comes only where moves that finish the pattern are known, and are more than the area holds
   pub short-area : cleared T budget room ≡ answered tt → outcome ≡ refused 13 unplaced → (m : Positive) × Completes T u v m × (area < length m)
   -- where some moves finish the pattern, the reversing finishes with an empty denominator,
-  pub complement-defined : cleared T budget room ≡ answered tt → (m : Positive) → Completes T u v m → (n : Positive) × Residual T u v n []
+  pub complement-defined : cleared T budget room ≡ answered tt → (m : Positive) → Completes T u v m → (n : Positive) × Residuals T u v n []
   -- and where allowance and workspace cover it, the answer is its numerator with its steps, or 13
   pub answers-moves : cleared T budget room ≡ answered tt → (m : Positive) → Completes T u v m → (n : Positive) (k : ℕ)
       (run : Finishes T (negative u ++ positive v) n [] k) → CoversSteps budget run → CoversRoom room run

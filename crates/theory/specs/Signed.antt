@@ -7,7 +7,7 @@ use mathlib.Core.Path.{_≡_}
 use Prim.Native.Nat.{ℕ}
 use Rattle.model.specs.Word.{Word, Positive, inverse, positive, negative}
 use Rattle.model.specs.Presentation.{Presentation}
-use Rattle.model.specs.Reversing.{Ending, finished, open-pair, reversing, Residual, Finishes, EndsEmpty, CoversSteps, CoversRoom}
+use Rattle.model.specs.Reversing.{Ending, finished, open-pair, reversing, Residuals, Finishes, EndsEmpty, CoversSteps, CoversRoom}
 use Rattle.model.specs.Equivalence.{Joined}
 use Rattle.model.specs.Enumeration.{triples}
 use Rattle.model.specs.Outcome.{unplaced, Outcome, answered, refused}
@@ -22,7 +22,7 @@ pub record ClosedSet (T : Presentation) (S : List Positive) : Type 0 where
   pub has-empty : List·Memᴰ [] S
   pub has-letters : (a : ℕ) → InRange (T .size) a → List·Memᴰ (a ∷ []) S
   pub in-letters : (u : Positive) → List·Memᴰ u S → All (InRange (T .size)) u
-  pub has-complements : (u v : Positive) → List·Memᴰ u S → List·Memᴰ v S → (r : Positive) × List·Memᴰ r S × (d : Positive) × Residual T u v r d
+  pub has-complements : (u v : Positive) → List·Memᴰ u S → List·Memᴰ v S → (r : Positive) × List·Memᴰ r S × (d : Positive) × Residuals T u v r d
 
 -- the table clears, and its mirror does, each at some allowance and room; and the set is closed
 pub record Settles (T : Presentation) (S : List Positive) : Type 0 where

@@ -8,7 +8,7 @@ use Rattle.model.specs.Services.{remainderOf}
 use Rattle.model.specs.declared.answers.Remaining.the-variants.{Refused}
 use Rattle.engine.specs.Run.{Reverses, Finishable}
 use Rattle.remainders.specs.Remainder.{States}
-use Rattle.remainders.proofs.Answers.{no-quotient, area-short, moves-written, met-open, was-stopped}
+use Rattle.remainders.proofs.Answers.{no-moves, area-short, moves-written, met-open, was-stopped}
 use borrow.Author.Needs.{needs}
 use Rattle.remainders.proofs.remainder.answer_ending.Statement.{statement}
 use Rattle.remainders.proofs.remainder.answer_ending.Tie as tie
@@ -36,7 +36,7 @@ returns c =
     let d = e .given .0 .1 .0 in
     let k = e .given .0 .1 .1 .0 in
     let r = e .given .0 .1 .1 .1 .0 in
-    λ T w i p. no-quotient T w i (s .args .workspace .now) (s .args .answer .now) n d k r (subst (Reverses T w i (s .args .workspace .now)) (e .given .1) p)
+    λ T w i p. no-moves T w i (s .args .workspace .now) (s .args .answer .now) n d k r (subst (Reverses T w i (s .args .workspace .now)) (e .given .1) p)
     (c .if1 .taken)
 
 returns-2 : tie.Need-returns-2

@@ -3,9 +3,9 @@ use mathlib.Core.Path.{refl, sym, ap, subst, _∙_}
 use lib.ListN.{length, getD}
 use Rattle.model.specs.Checks.{side}
 use Rattle.cells.proofs.Rules.{open-cell}
-use Rattle.table_checks.specs.Residues.{Works}
+use Rattle.table_checks.specs.Residuals.{Works}
 use Rattle.table_checks.specs.Cube.{RightSide}
-use Rattle.table_checks.specs.declared.residues.Residue.the-variants.{Missing, Halted}
+use Rattle.table_checks.specs.declared.residuals.Residual.the-variants.{Missing, Halted}
 use Rattle.table_checks.proofs.CellWords.{rule-of}
 use Rattle.table_checks.proofs.Triples.{open-holds, left-halts, left-missing}
 use Rattle.table_checks.proofs.BothSides.{turned-serves, kept-fits, no-right-side, right-side-halts, left, right, both-sides, both-agree}

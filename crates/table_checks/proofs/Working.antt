@@ -18,9 +18,9 @@ use Rattle.engine.specs.Gap.{letters}
 use Rattle.engine.specs.Run.{LeavesWord, LeavesLetters, Reverses}
 use Rattle.engine.proofs.Letters.{letters-take}
 use Rattle.engine.proofs.Lettering.{lettered-front, length-positive, length-negative}
-use Rattle.table_checks.specs.Residues.{fromEnding, residueAnswer, Works}
-use Rattle.table_checks.specs.declared.residues.Residue.{Residue as ResidueAnswer}
-use Rattle.table_checks.specs.declared.residues.Residue.the-variants.{Missing, Halted, Word as Found}
+use Rattle.table_checks.specs.Residuals.{fromEnding, residualAnswer, Works}
+use Rattle.table_checks.specs.declared.residuals.Residual.{Residual as ResidualAnswer}
+use Rattle.table_checks.specs.declared.residuals.Residual.the-variants.{Missing, Halted, Word as Found}
 
 -- the numerator stands at the start
 ending-works : (size : ℕ) (e : Ending) (bytes : List ℕ) → LeavesWord e bytes → LeavesLetters size e
@@ -65,21 +65,21 @@ module _ (T : Presentation) (u v : Positive) (budget : ℕ) (bytes : List ℕ) w
 
 -- TWO LETTERS: their reversing has one step, to C(a,b) and the inverse of C(b,a), so that no workspace is needed to tell how it ends. Specification 4.5.
 
-abbrev ended-answer : Ending → ResidueAnswer
-ended-answer d = residueAnswer (ofEnding d)
+abbrev ended-answer : Ending → ResidualAnswer
+ended-answer d = residualAnswer (ofEnding d)
 
 module _ (T : Presentation) (room a b : ℕ) where
-  pub letters-long : (budget : ℕ) → room < 2 → Halted Room ≡ residueAnswer (under T budget room (a ∷ []) (b ∷ []))
+  pub letters-long : (budget : ℕ) → room < 2 → Halted Room ≡ residualAnswer (under T budget room (a ∷ []) (b ∷ []))
   unfolding under
   letters-long budget h = sym (ap ended-answer (reversing-long T budget room (back a ∷ forward b ∷ []) (omega arith)))
 
   module _ (some : 2 ≤ room) where
-    pub letters-open : (budget : ℕ) → complete T a b ≡ undefined → Missing ≡ residueAnswer (under T budget room (a ∷ []) (b ∷ []))
+    pub letters-open : (budget : ℕ) → complete T a b ≡ undefined → Missing ≡ residualAnswer (under T budget room (a ∷ []) (b ∷ []))
     unfolding under
     letters-open budget e = sym (ap ended-answer (reversing-open T budget room (back a ∷ forward b ∷ []) (omega arith) refl e))
 
     module _ (x y : Positive) (e : complete T a b ≡ complement x y) where
-      pub letters-spent : (budget : ℕ) → budget ≡ 0 → Halted Budget ≡ residueAnswer (under T budget room (a ∷ []) (b ∷ []))
+      pub letters-spent : (budget : ℕ) → budget ≡ 0 → Halted Budget ≡ residualAnswer (under T budget room (a ∷ []) (b ∷ []))
       unfolding under
       letters-spent zero z = sym (ap ended-answer (reversing-spent T room (back a ∷ forward b ∷ []) (omega arith) refl e))
       letters-spent (suc left) z = absurd (omega arith)
@@ -96,18 +96,18 @@ module _ (T : Presentation) (room a b : ℕ) where
       after-length =
           ap length after-is ∙ (length-append (positive x) (negative y) ∙ ap₂ (λ i j. i + j) (length-positive x) (length-negative y))
 
-      stepped : (left : ℕ) → residueAnswer (under T (suc left) room (a ∷ []) (b ∷ [])) ≡ ended-answer (prepended a b (reversing T left room after))
+      stepped : (left : ℕ) → residualAnswer (under T (suc left) room (a ∷ []) (b ∷ [])) ≡ ended-answer (prepended a b (reversing T left room after))
       unfolding under after
       stepped left = ap ended-answer (reversing-step T left room (back a ∷ forward b ∷ []) (omega arith) refl e)
 
       -- it does not fit; or it does, and has no site
-      pub letters-wide : (budget : ℕ) → (budget ≡ 0 → ⊥) → room < length x + length y → Halted Room ≡ residueAnswer (under T budget room (a ∷ []) (b ∷ []))
+      pub letters-wide : (budget : ℕ) → (budget ≡ 0 → ⊥) → room < length x + length y → Halted Room ≡ residualAnswer (under T budget room (a ∷ []) (b ∷ []))
       letters-wide zero z h = absurd (z refl)
       letters-wide (suc left) z h =
           sym (stepped left ∙ ap (λ d. ended-answer (prepended a b d)) (reversing-long T left room after (omega (arith, after-length))))
 
       pub letters-found : (budget : ℕ) → (budget ≡ 0 → ⊥) → length x + length y ≤ room
-          → Found (length x) ≡ residueAnswer (under T budget room (a ∷ []) (b ∷ []))
+          → Found (length x) ≡ residualAnswer (under T budget room (a ∷ []) (b ∷ []))
       letters-found zero z h = absurd (z refl)
       letters-found (suc left) z h =
           let none : site after ≡ nowhere = ap site after-is ∙ fraction-nowhere x y in
