@@ -139,7 +139,7 @@ module _ (t : Task) (total : ℕ) where
                 rule = e;
                 running =
                     record {
-                      no-budget = i;
+                      budget = i;
                       steps = suc (h .steps);
                       fits = o .0;
                       finishes = o .1;
