@@ -1,9 +1,11 @@
-// Accepted programs laid into the workspace, one or two of forward moves, and their reversing.
+// Accepted programs laid into the workspace, one read forward or backward, or two of forward moves, and their reversing.
 ghost use mathlib.Core.Path.{_≡_};
 ghost use Prim.Native.Nat.{_+_, _≤_};
 ghost use lib.ListN.{length};
+ghost use Rattle.images.specs.Programs.{Accepted};
 ghost use Rattle.loading.specs.Loading.{TwoForward, Forward, ProgramRuns};
-ghost use Rattle.loading.specs.Reversing.{Loads, ProgramReverses, ProgramsReverse};
+ghost use Rattle.loading.specs.Reversing.{FacedAtEnd, Loads, ProgramReverses, ProgramsReverse};
+use areas::bytes::turn_around;
 use engine::gap::Gap;
 use engine::run::reversing;
 use engine::words::invert;
@@ -11,18 +13,37 @@ use images::programs::unpack_letters;
 use model::answers::Ending;
 use model::answers::Stop;
 
-// Reverses an accepted program, loaded at the workspace's end.
+// The letters of an accepted program at the workspace's end; read backward, the last one stands first, and each keeps its sign.
+pub fn load_program(
+    size: u8,
+    program: &[u8],
+    count: u16,
+    backward: bool,
+    workspace: &mut [u8],
+    right: usize,
+)
+    requires { ⌜ Accepted (now program) size count × (right + count ≡ length (now workspace)) ⌝ }
+    ensures { λ r. ⌜ FacedAtEnd backward size (now (program .entry)) (now (workspace .entry)) right (now (workspace .exit)) ⌝ }
+{
+    unpack_letters(program, size, count, workspace, right);
+    if backward {
+        turn_around(&mut workspace[right..], count as usize);
+    }
+}
+
+// Reverses an accepted program, forward or backward as it is loaded at the workspace's end.
 pub fn reverse_image(
     cells: &[u8],
     size: u8,
     program: &[u8],
     count: u16,
+    backward: bool,
     budget: u16,
     workspace: &mut [u8],
 ) -> Ending
     requires { ⌜ ProgramRuns (now cells) size (now program) count ⌝ }
     ensures length { λ r. ⌜ length (now (workspace .exit)) ≡ length (now (workspace .entry)) ⌝ }
-    ensures runs { λ r. ⌜ ProgramReverses (now (cells .entry)) size (now (program .entry)) budget (now (workspace .exit)) r ⌝ }
+    ensures runs { λ r. ⌜ ProgramReverses backward (now (cells .entry)) size (now (program .entry)) budget (now (workspace .exit)) r ⌝ }
 {
     let end = workspace.len();
     let letters = count as usize;
@@ -30,11 +51,11 @@ pub fn reverse_image(
         return Ending::Stopped(Stop::Room);
     }
     let right = end - letters;
-    unpack_letters(program, size, count, workspace, right);
+    load_program(size, program, count, backward, workspace, right);
     reversing(cells, workspace, Gap { left: 0, right }, budget)
 }
 
-// The inverse of the first program, of m letters, at the workspace's start, and the second, of n letters, at its end.
+// The inverse of the first program, of `firsts` letters, at the workspace's start, and the second, of `seconds` letters, at its end.
 pub fn load_programs(
     size: u8,
     first: &[u8],

@@ -23,7 +23,7 @@ use Rattle.loading.proofs.Early.{program-early}
 use Rattle.loading.proofs.Late.{Late}
 use Rattle.loading.proofs.Outcomes.{AsFound, refused-stated, refused-output}
 use Rattle.loading.proofs.Reading.{program-refused, program-runs}
-use Rattle.reversal.specs.Asked.{handed, facing, madeOf, Answers}
+use Rattle.reversal.specs.Asked.{handed, madeOf, Answers}
 use Rattle.reversal.specs.Answering.{ProgramAnswered, States, loadedOf, LoadedAnswered, outcomeOf}
 use Rattle.reversal.specs.declared.asked.Asked.{Asked}
 use Rattle.reversal.specs.declared.asked.Asked.the-variants.{Reverse, LeftReverse, Commit}
@@ -42,11 +42,6 @@ pub is-rightward : (asked : Asked) → OneOf (0 ∷ 2 ∷ []) (tagOf the-type as
 is-rightward Reverse h = tt
 is-rightward LeftReverse h = ⊎-elim (λ e. omega arith) (λ e. omega arith) h
 is-rightward (Commit n) h = tt
-
-pub faces-right : (asked : Asked) → Rightward asked → (w : Word) → facing asked w ≡ w
-faces-right Reverse t w = refl
-faces-right LeftReverse t w = absurd t
-faces-right (Commit h) t w = refl
 
 made-late : (asked : Asked) (area : ℕ) (e : Ending) → Late (madeOf asked area e)
 made-late Reverse area e = fraction-late area e

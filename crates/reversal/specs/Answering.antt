@@ -13,7 +13,8 @@ use Rattle.model.specs.Areas.{fractionBytes, outputAfter, workspaceAfter}
 use Rattle.model.specs.Stated.{reversed}
 use Rattle.model.specs.declared.answers.Reversed.{Reversed}
 use Rattle.cells.specs.Stands.{Of}
-use Rattle.reversal.specs.Asked.{handed, facing, madeOf, Answers}
+use Rattle.loading.specs.Reversing.{faced}
+use Rattle.reversal.specs.Asked.{handed, readsBackward, madeOf, Answers}
 use Rattle.reversal.specs.declared.asked.Asked.{Asked}
 use Rattle.reversal.specs.declared.asked.Asked.the-variants.{Reverse, LeftReverse, Commit}
 
@@ -22,7 +23,7 @@ pub record ProgramAnswered (asked : Asked) (cells : List ℕ) (size : ℕ) (prog
     (r : Reversed) : Type 0 where
   pub wiped : workspace′ ≡ replicate (length workspace) 0
   pub answers : (T : Presentation) → Of cells size T → (w : Word) → readProgram size program ≡ answered w
-      → Answers (madeOf asked (length before) (reversing T budget (length workspace) (facing asked w))) before after r
+      → Answers (madeOf asked (length before) (reversing T budget (length workspace) (faced (readsBackward asked) w))) before after r
 
 -- the result and both areas that an outcome states
 pub record States (outcome : Outcome Fraction) (workspace workspace′ before after : List ℕ) (r : Reversed) : Type 0 where

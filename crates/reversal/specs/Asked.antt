@@ -1,20 +1,19 @@
 -- What is made of the ending of a program, by what is asked.
-use mathlib.Core.List.{List, reverse}
+use mathlib.Core.List.{List}
+use mathlib.Core.Bool.{Bool, true, false}
 use mathlib.Core.Path.{_≡_}
 use Prim.Native.Nat.{ℕ}
 use lib.ListN.{length}
 use Rattle.model.specs.Word.{Word}
 use Rattle.model.specs.Presentation.{Presentation}
 use Rattle.model.specs.Reversing.{Ending, reversing}
-use Rattle.model.specs.Outcome.{Outcome, answered, mapped}
-use Rattle.model.specs.Images.{readProgram}
+use Rattle.model.specs.Outcome.{Outcome, mapped}
 use Rattle.model.specs.Services.{Sizes, sizes, Fraction, fractionOf, committedOf}
 use Rattle.model.specs.Areas.{fractionBytes, outputAfter}
 use Rattle.model.specs.Stated.{reversed}
 use Rattle.model.specs.declared.answers.Ending.{Ending as EndingAnswer}
 use Rattle.model.specs.declared.answers.Reversed.{Reversed}
 use Rattle.theory.specs.Mirrors.{readBackward}
-use Rattle.cells.specs.Stands.{Of}
 use Rattle.engine.specs.Run.{Reverses}
 use Rattle.reversal.specs.declared.asked.Handed.{Handed}
 use Rattle.reversal.specs.declared.asked.Asked.{Asked}
@@ -24,22 +23,17 @@ use Rattle.reversal.specs.declared.asked.Asked.the-variants.{Reverse, Le
 abbrev pub handed : Handed → Sizes
 handed h = record { numerator = h .numerator; denominator = h .denominator; steps = h .steps }
 
--- the word that is run: from the finished end the program read backward
-abbrev pub facing : Asked → Word → Word
-facing Reverse w = w
-facing LeftReverse w = reverse w
-facing (Commit h) w = w
+-- from the finished end the program is read backward
+abbrev pub readsBackward : Asked → Bool
+readsBackward Reverse = false
+readsBackward LeftReverse = true
+readsBackward (Commit h) = false
 
 -- the outcome that the ending of that word comes to
 abbrev pub madeOf : Asked → ℕ → Ending → Outcome Fraction
 madeOf Reverse area e = fractionOf area e
 madeOf LeftReverse area e = fractionOf area (readBackward e)
 madeOf (Commit h) area e = committedOf (handed h) area e
-
--- the reversing of that word, under every table that the cells stand for
-abbrev pub RunsAs : Asked → List ℕ → ℕ → List ℕ → ℕ → List ℕ → EndingAnswer → Type 0
-RunsAs asked cells size program budget workspace r =
-    (T : Presentation) → Of cells size T → (w : Word) → readProgram size program ≡ answered w → Reverses T (facing asked w) budget workspace r
 
 -- the result and the answer area that an outcome states
 pub record Answers (outcome : Outcome Fraction) (before after : List ℕ) (r : Reversed) : Type 0 where

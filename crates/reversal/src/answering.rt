@@ -2,10 +2,9 @@
 ghost use mathlib.Core.Path.{_≡_};
 ghost use lib.ListN.{length};
 ghost use Rattle.loading.specs.Loading.{ProgramRuns};
-ghost use Rattle.reversal.specs.Asked.{RunsAs};
 ghost use Rattle.reversal.specs.Answering.{ProgramAnswered, LoadedAnswered, ImagesAnswered};
 use crate::asked::Asked;
-use crate::backward::run_backward;
+use crate::backward::reads_backward;
 use crate::endings::answer_asked;
 use areas::bytes::wipe;
 use cells::layout::CELLS;
@@ -16,29 +15,8 @@ use loading::loading::read_table_program;
 use loading::reversing::reverse_image;
 use mirrors::mirror::Mirrored;
 use mirrors::mirror::mirror_table;
-use model::answers::Ending;
 use model::answers::Refusal;
 use model::answers::Reversed;
-
-// Runs an accepted program, backward where it is reversed from the finished end.
-pub fn run_asked(
-    cells: &[u8],
-    size: u8,
-    program: &[u8],
-    count: u16,
-    asked: Asked,
-    budget: u16,
-    workspace: &mut [u8],
-) -> Ending
-    requires { ⌜ ProgramRuns (now cells) size (now program) count ⌝ }
-    ensures length { λ r. ⌜ length (now (workspace .exit)) ≡ length (now (workspace .entry)) ⌝ }
-    ensures runs { λ r. ⌜ RunsAs asked (now (cells .entry)) size (now (program .entry)) budget (now (workspace .exit)) r ⌝ }
-{
-    if let Asked::LeftReverse = asked {
-        return run_backward(cells, size, program, count, budget, workspace);
-    }
-    reverse_image(cells, size, program, count, budget, workspace)
-}
 
 // An accepted program under cells that were loaded, those of the mirror where it is reversed from the finished end. The workspace is wiped.
 pub fn answer_program(
@@ -55,7 +33,8 @@ pub fn answer_program(
     ensures { λ r. ⌜ ProgramAnswered asked (now (cells .entry)) size (now (program .entry)) budget (now (workspace .entry)) (now (workspace .exit))
         (now (answer .entry)) (now (answer .exit)) r ⌝ }
 {
-    let ending = run_asked(cells, size, program, count, asked, budget, workspace);
+    let backward = reads_backward(asked);
+    let ending = reverse_image(cells, size, program, count, backward, budget, workspace);
     let result = answer_asked(asked, ending, workspace, answer);
     wipe(workspace);
     result

@@ -47,7 +47,7 @@ pub fn enquire_program(
     requires { ⌜ ProgramRuns (now cells) size (now program) count ⌝ }
     ensures { λ r. ⌜ ProgramEnquired (now (cells .entry)) size (now (program .entry)) budget (now (workspace .entry)) (now (workspace .exit)) r ⌝ }
 {
-    let ending = reverse_image(cells, size, program, count, budget, workspace);
+    let ending = reverse_image(cells, size, program, count, false, budget, workspace);
     wipe(workspace);
     sizes_of(ending)
 }

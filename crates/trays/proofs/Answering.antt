@@ -81,7 +81,7 @@ pub record Answered (cells : List ℕ) (size : ℕ) (tray : List ℕ) (pattern :
   pub all : images ≡ done ++ todo
   pub rest : several readLog left (drop at tray) ≡ answered (record { value = todo; rest = [] })
   pub stands : place ≡ 3 * length done
-  pub room : place + 3 * left ≤ length before
+  pub enough : place + 3 * left ≤ length before
   pub same-length : length area ≡ length before
   pub bytes : Under cells size pattern (λ T v. area ≡ written before 0 (trayBytes (map (logVerdict size T v budget room) done)))
 
@@ -94,7 +94,7 @@ module _ (cells : List ℕ) (size : ℕ) (tray : List ℕ) (pattern : List ℕ) 
     all = refl;
     rest = l .filled;
     stands = refl;
-    room = omega (arith, h);
+    enough = omega (arith, h);
     same-length = refl;
     bytes = λ T o v e. refl;
   }
@@ -146,7 +146,7 @@ module _ (cells : List ℕ) (size : ℕ) (tray : List ℕ) (pattern : List ℕ) 
                 ap (λ r. several readLog (left - 1) (r .rest)) (sym this) ∙ behind
                 ∙ ap (λ l. answered (record { value = rs .value; rest = l })) ends;
             stands = omega (arith, p .stands, length-append (p .done) (imageAt tray at ∷ []));
-            room = omega (arith, p .room);
+            enough = omega (arith, p .enough);
             same-length = long ∙ p .same-length;
             bytes = λ T o v e.
                 let f = logVerdict size T v budget room in
@@ -154,7 +154,7 @@ module _ (cells : List ℕ) (size : ℕ) (tray : List ℕ) (pattern : List ℕ) 
                 put T o v e
                 ∙ ap₂ (λ a k. written a k (logBytes (f (imageAt tray at)))) (p .bytes T o v e) behind-all
                 ∙ written-more before 0 (trayBytes (map f (p .done))) (logBytes (f (imageAt tray at)))
-                (omega (arith, p .room, p .stands, answers-long f (p .done)))
+                (omega (arith, p .enough, p .stands, answers-long f (p .done)))
                 ∙ ap (written before 0)
                 (ap (λ l. trayBytes (map f (p .done)) ++ l) (sym (append-nil (logBytes (f (imageAt tray at)))))
                 ∙ sym (answers-append f (p .done) (imageAt tray at ∷ [])));

@@ -25,7 +25,7 @@ returns c =
       wiped = c .before .before .before .wipe .ensures ∙ ap (λ i. replicate i 0) (v .ensures .0);
       answers = λ T o w e. ap reversed (c .sizes-of .ensures)
           ∙ (ap (λ x. reversed (sizesTold x)) (v .ensures .1 T o w e .answer)
-          ∙ (sizes-stated (reversing T (s .args .budget) (length (v .last .1 .1 .1 .1 .1 .0)) w) ∙ ap (λ i. sizesOf (reversing T (s .args .budget) i w))
+          ∙ (sizes-stated (reversing T (s .args .budget) (length (v .last .1 .1 .1 .1 .1 .1 .0)) w) ∙ ap (λ i. sizesOf (reversing T (s .args .budget) i w))
           (v .ensures .0)));
     }
 

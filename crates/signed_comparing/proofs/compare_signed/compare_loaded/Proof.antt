@@ -42,7 +42,7 @@ settle-requires c κs =
       table = p .table;
       stands = p .of .stands;
       word = inverse (one .word) ++ two .word;
-      steps = s .args .budget;
+      budget = s .args .budget;
       reverses = c .before .before .before .reverse-signed .ensures .1 (p .table) (p .of) (one .word) (two .word) (one .read) (two .read);
     }
 

@@ -52,7 +52,7 @@ answer-log-requires c κs =
         (
           next-inside (s .args .cells .now) (s .args .size) (s .args .tray .now) (s .args .pattern .now) (s .args .budget) (length (s .args .workspace .now))
               (s .args .answer .now) (s .pre .1 .1 .0 .images) (l .answer) (l .at) (l .place) (l .left) a (c .before .before .loop-test .taken),
-          omega (arith, a .room, a .same-length, c .before .before .loop-test .taken),
+          omega (arith, a .enough, a .same-length, c .before .before .loop-test .taken),
         ),
       ),
     )
@@ -61,7 +61,7 @@ add-place : tie.Need-add-place Inv-loop μ-loop
 add-place c =
     let k = in-loop (after-workspace (c .before)) in
     let s = start (after-shared-slice-known2 (at-loop k)) in let a = at-loop k .loop .inv .1 (s .pre .1 .1 .0) in
-    omega (arith, a .room, k .loop-test .taken, s .good)
+    omega (arith, a .enough, k .loop-test .taken, s .good)
 
 sub-left : tie.Need-sub-left Inv-loop μ-loop
 sub-left c = omega (arith, in-loop (after-workspace (c .before)) .loop-test .taken)
