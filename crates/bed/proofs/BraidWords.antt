@@ -15,6 +15,7 @@ use Rattle.model.specs.Range.{InRange}
 use Rattle.model.specs.Bed.{adjacent, braidWord}
 use Rattle.model.proofs.Impossible.{impossible}
 use Rattle.model.proofs.Complete.{complete-turn}
+use Rattle.model.specs.Images.{mostLength}
 use Rattle.cells.specs.Layout.{cellAt}
 use Rattle.cells.specs.Stands.{HoldsFirst, HoldsWord, Stands}
 use Rattle.bed.specs.BraidTable.{Decides, HasBraidWord, BraidPair}
@@ -60,7 +61,7 @@ module _ (cells : List ℕ) (T : Presentation) (s : Stands cells T) (a b : ℕ) 
   held w y e = subst (HoldsFirst (T .size) cells (cellAt a b)) e (s .cell a b ra rb)
 
   -- the word that a cell's bytes spell
-  spelled : (w : Positive) → length w ≤ 15 → getD cells (cellAt a b) 0 ≡ length w
+  spelled : (w : Positive) → length w ≤ mostLength → getD cells (cellAt a b) 0 ≡ length w
       → ((k : ℕ) → k < length w → getD cells (cellAt a b + 1 + k) 0 ≡ getD w k 0) → (y : Positive) × (complete T a b ≡ complement w y)
   spelled w short count letters = go (complete T a b) refl
     where

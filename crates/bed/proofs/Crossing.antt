@@ -25,7 +25,7 @@ mag-within : (z : ℤ) → mag z ≤ natAbs z
 mag-within (pos a) = omega arith
 mag-within (negsuc a) = omega arith
 
-small : (z : ℤ) → natAbs z ≤ 4096 → SFits w16 z
+small : (z : ℤ) → natAbs z ≤ mostLetters + 1 → SFits w16 z
 small z h = record { sfits = omega (arith, mag-within z) }
 
 module _ (x d : ℤ) (few : natAbs x ≤ mostLetters) (one : natAbs d ≤ 1) where

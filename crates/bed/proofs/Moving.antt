@@ -10,7 +10,7 @@ use Rattle.model.specs.Word.{Letter, forward, back, Word, byte}
 use Rattle.model.specs.Range.{LetterInRange, Lettered}
 use Rattle.model.specs.Enumeration.{range, pairs}
 use Rattle.model.specs.Outcome.{answered}
-use Rattle.model.specs.Images.{readProgram}
+use Rattle.model.specs.Images.{readProgram, mostSize}
 use Rattle.model.specs.Bed.{Sound, firstBed, crossed, laid}
 use Rattle.model.proofs.Positions.{pairs-many, pairs-few}
 use Rattle.model.proofs.Beds.{range-length, first-sound, laid-sound, laid-append}
@@ -31,7 +31,7 @@ copies-front z zero m h = refl
 copies-front z (suc k) zero h = absurd (omega arith)
 copies-front z (suc k) (suc m) h = ap (λ l. z ∷ l) (copies-front z k m (omega arith))
 
-pub first-shows : (n : ℕ) → n ≤ 16 → Shows (record { bobbins = range 1 17; totals = replicate 136 (pos 0) }) (firstBed n)
+pub first-shows : (n : ℕ) → n ≤ mostSize → Shows (record { bobbins = range 1 17; totals = replicate 136 (pos 0) }) (firstBed n)
 first-shows n h =
     record {
       bobbins = ap (λ k. take k (range 1 17)) (range-length 1 (suc n)) ∙ range-front 1 (suc n) 17 (omega arith);
@@ -74,7 +74,7 @@ letter-of n [] i h l = absurd (omega arith)
 letter-of n (x ∷ w) zero h l = l .0
 letter-of n (x ∷ w) (suc i) h l = letter-of n w i (omega arith) (l .1)
 
-module _ (program : List ℕ) (size : ℕ) (few : size ≤ 16) (w : Word) (read : readProgram size program ≡ answered w) (i : ℕ) (h : i < length w) where
+module _ (program : List ℕ) (size : ℕ) (few : size ≤ mostSize) (w : Word) (read : readProgram size program ≡ answered w) (i : ℕ) (h : i < length w) where
   short : length w ≤ mostLetters
   short = omega (arith, program-in-range size few program w read .short)
 

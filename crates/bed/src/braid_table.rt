@@ -4,6 +4,7 @@ ghost use Prim.Native.Nat.{_≤_};
 ghost use Rattle.cells.specs.Stands.{Sized, Of, Filled, Blank};
 ghost use Rattle.model.specs.Presentation.{Presentation};
 ghost use Rattle.model.specs.Bed.{isBraid, adjacent};
+ghost use Rattle.model.specs.Images.{mostSize};
 ghost use Rattle.bed.specs.BraidTable.{WordDecided, RowDecided, BraidDone};
 use cells::layout::cell_at;
 use images::tables::TableRead;
@@ -11,7 +12,7 @@ use images::tables::read_table;
 use model::answers::Refusal;
 
 pub fn are_adjacent(a: u8, b: u8) -> bool
-    requires { ⌜ (a ≤ 16) × (b ≤ 16) ⌝ }
+    requires { ⌜ (a ≤ mostSize) × (b ≤ mostSize) ⌝ }
     ensures { λ r. ⌜ r ≡ adjacent a b ⌝ }
 {
     if a < b {

@@ -7,7 +7,7 @@ ghost use Rattle.model.specs.Word.{Word};
 ghost use Rattle.model.specs.Range.{InRange};
 ghost use Rattle.model.specs.Enumeration.{pairs};
 ghost use Rattle.model.specs.Outcome.{answered};
-ghost use Rattle.model.specs.Images.{readProgram};
+ghost use Rattle.model.specs.Images.{readProgram, mostSize};
 ghost use Rattle.model.specs.Bed.{firstBed, position, crossed, moved, laid};
 ghost use Rattle.images.specs.Programs.{Accepted};
 ghost use Rattle.bed.specs.Shown.{Shows, Crosses, CrossedBy, Moves, MovedBy};
@@ -26,7 +26,7 @@ pub struct Bed {
 }
 
 pub fn first_bed() -> Bed
-    ensures { λ r. ⌜ ((n : ℕ) → n ≤ 16 → Shows r (firstBed n)) ⌝ }
+    ensures { λ r. ⌜ ((n : ℕ) → n ≤ mostSize → Shows r (firstBed n)) ⌝ }
 {
     Bed {
         bobbins: [1, 2, 3, 4, 5, 6, 7, 8, 9, 10, 11, 12, 13, 14, 15, 16, 17],

@@ -8,7 +8,7 @@ use lib.ListN.{length, take, drop, length-append, length-drop, take-append-drop}
 use lib.Seq.{take-append-add, length-take-le, drop-drop}
 use lib.Pow.{pow-mono, shl-exact, shr-shr}
 use Rattle.model.specs.Bits.{digits, number, bitsOf}
-use Rattle.bits.specs.Fields.{Inside, Written}
+use Rattle.bits.specs.Fields.{Inside, Written, mostWidth}
 use Rattle.bits.proofs.Digits.{AreBits, length-digits, number-append, number-after, number-bound, digits-append}
 use Rattle.bits.proofs.Bytes.{length-bits, bits-are-bits}
 use Rattle.bits.proofs.Runs.{replaced}
@@ -56,11 +56,11 @@ module _ (bytes : List ℕ) (at width : ℕ) (inside : Inside bytes at width) wh
 
     -- what is computed on the way fits
     pub shift-exact : number 0 (take i (drop at (bitsOf bytes))) * 2 ^ c % 65536 ≡ number 0 (take i (drop at (bitsOf bytes))) * 2 ^ c
-    shift-exact = shl-exact i c 16 (field-fits i (omega arith)) (omega (arith, inside .narrow))
+    shift-exact = shl-exact i c mostWidth (field-fits i (omega arith)) (omega (arith, inside .narrow))
 
     pub step-fits : number 0 (take i (drop at (bitsOf bytes))) * 2 ^ c + number 0 (take c (drop (at + i) (bitsOf bytes))) < 2 ^ 16
     step-fits =
-        let m : 2 ^ (i + c) ≤ 2 ^ 16 = pow-mono {j = 16} (omega (arith, inside .narrow)) in
+        let m : 2 ^ (i + c) ≤ 2 ^ mostWidth = pow-mono {j = mostWidth} (omega (arith, inside .narrow)) in
         omega (arith, field-more, field-fits (i + c) more)
 
 -- before the first run nothing is written

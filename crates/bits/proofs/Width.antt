@@ -8,6 +8,7 @@ use borrow.Author.Tests.{ne-eqb}
 use native.Mathlib.Nat.{pow-suc}
 use lib.Count.{leadingZeros, leading-of-zero}
 use Rattle.model.specs.Bits.{binaryDigits, letterWidth}
+use Rattle.model.specs.Images.{mostSize, sizeWidth}
 
 -- of k places the leading zeros and the digits take all
 pub zeros-and-digits : (most more m : ℕ) → m < 2 ^ most → leadingZeros (most + more) m + binaryDigits most m ≡ most + more
@@ -25,7 +26,7 @@ zeros-and-digits (suc most) more (suc m) h =
     let l : leadingZeros (suc most + more) (suc m) ≡ leadingZeros (most + more) (suc m / 2) = ap (λ k. leadingZeros k (suc m)) s in
     omega arith
 
-pub width-is : (n : ℕ) → 1 ≤ n → n ≤ 16 → 8 - leadingZeros 8 (n - 1) ≡ letterWidth n
+pub width-is : (n : ℕ) → 1 ≤ n → n ≤ mostSize → 8 - leadingZeros 8 (n - 1) ≡ letterWidth n
 width-is n l h =
     let e : leadingZeros 8 (n - 1) + letterWidth n ≡ 8 = zeros-and-digits 4 4 (n - 1) (omega arith) in
     omega arith
@@ -38,7 +39,7 @@ digits-at-most (suc most) m = by-case (eqb m 0) (digits-at-most most (m / 2))
     by-case true h = omega arith
     by-case false h = omega arith
 
-pub width-small : (n : ℕ) → letterWidth n ≤ 4
+pub width-small : (n : ℕ) → letterWidth n ≤ sizeWidth
 width-small n = digits-at-most 4 (n - 1)
 
 -- a number is below 2 to the number of its digits
@@ -53,7 +54,7 @@ below-digits (suc most) (suc m) h =
     omega arith
 
 -- a letter's number less 1 fits its field
-pub letter-fits : (n a : ℕ) → n ≤ 16 → 1 ≤ a → a ≤ n → a - 1 < 2 ^ letterWidth n
+pub letter-fits : (n a : ℕ) → n ≤ mostSize → 1 ≤ a → a ≤ n → a - 1 < 2 ^ letterWidth n
 letter-fits n a few positive small =
     let m : n - 1 < 2 ^ letterWidth n = below-digits 4 (n - 1) (omega arith) in
     omega arith

@@ -7,9 +7,13 @@ use lib.ListN.{length, take, drop}
 use Rattle.model.specs.Bits.{bitsOf, digits}
 use Rattle.model.specs.Areas.{written}
 
+-- the widest field that is read
+abbrev pub mostWidth : ℕ
+mostWidth = 16
+
 -- the field lies inside the bytes, and the position after it is a `usize`
 pub record Inside (bytes : List ℕ) (at width : ℕ) : Type 0 where
-  pub narrow : width ≤ 16
+  pub narrow : width ≤ mostWidth
   pub inside : at + width ≤ 8 * length bytes
   pub small : at + width < 2 ^ 64
 

@@ -2,11 +2,12 @@ ghost use mathlib.Core.Path.{_≡_};
 ghost use Prim.Native.Nat.{_+_, _*_, _%_, _≤_, _<_};
 ghost use lib.ListN.{length, take, drop};
 ghost use Rattle.model.specs.Bits.{bitsOf, number, letterWidth};
+ghost use Rattle.model.specs.Images.{mostSize};
 ghost use Rattle.bits.specs.Fields.{Inside, Writable, RunOf, Written};
 
 // The width of a letter's field (specification 5.2): eight, less the leading zeros of n - 1.
 pub fn letter_width(n: u8) -> u8
-    requires { ⌜ (1 ≤ n) × (n ≤ 16) ⌝ }
+    requires { ⌜ (1 ≤ n) × (n ≤ mostSize) ⌝ }
     ensures { λ r. ⌜ r ≡ letterWidth n ⌝ }
 {
     (8 - u8::leading_zeros(n - 1)) as u8

@@ -9,13 +9,13 @@ use lib.Seq.{getD-set-same, getD-set-other}
 use Rattle.model.specs.Word.{Positive}
 use Rattle.model.specs.Presentation.{Complement, undefined, complement}
 use Rattle.model.proofs.Numbers.{below-or}
-use Rattle.cells.specs.Layout.{Letters, cellAt}
+use Rattle.cells.specs.Layout.{Letters, cellAt, cellLength, cellBytes}
 use Rattle.cells.specs.Stands.{HoldsWord, HoldsFirst}
 use Rattle.cells.specs.Kept.{KeptOutside, SameCell, HoldsPair, KeptPair}
 
 -- different cells lie apart
-pub apart : (p q a b k : ℕ) → Letters p q → Letters a b → ((p ≡ a) × (q ≡ b) → ⊥) → k < 16
-    → (cellAt p q + k < cellAt a b) ⊎ (cellAt a b + 16 ≤ cellAt p q + k)
+pub apart : (p q a b k : ℕ) → Letters p q → Letters a b → ((p ≡ a) × (q ≡ b) → ⊥) → k < cellLength
+    → (cellAt p q + k < cellAt a b) ⊎ (cellAt a b + cellLength ≤ cellAt p q + k)
 apart p q a b k lp la d h =
     ⊎-elim
     (λ (l : cellAt p q < cellAt a b). inl (omega arith))
@@ -30,10 +30,10 @@ apart p q a b k lp la d h =
     (below-or (cellAt p q) (cellAt a b))
 
 -- a byte stored in a cell
-pub kept-store : (before : List ℕ) (cell : ℕ) (cells : List ℕ) (i v : ℕ) → KeptOutside before cell cells → cell ≤ i → i < cell + 16
+pub kept-store : (before : List ℕ) (cell : ℕ) (cells : List ℕ) (i v : ℕ) → KeptOutside before cell cells → cell ≤ i → i < cell + cellLength
     → KeptOutside before cell (set cells i v)
 kept-store before cell cells i v k low high j o =
-    getD-set-other cells i j v 0 (λ e. ⊎-elim (λ (h : j < cell). omega arith) (λ (h : cell + 16 ≤ j). omega arith) o) ∙ k j o
+    getD-set-other cells i j v 0 (λ e. ⊎-elim (λ (h : j < cell). omega arith) (λ (h : cell + cellLength ≤ j). omega arith) o) ∙ k j o
 
 pub kept-cell : (before after : List ℕ) (p q a b : ℕ) → Letters p q → Letters a b → ((p ≡ a) × (q ≡ b) → ⊥) → KeptOutside before (cellAt a b) after
     → SameCell before after p q
@@ -68,7 +68,7 @@ holds-kept size before after p q (complement x y) s h = holds-word-kept size bef
 pub swap-letters : (a b : ℕ) → Letters a b → Letters b a
 swap-letters a b l = (record { low = l .1 .low; high = l .1 .high }, record { low = l .0 .low; high = l .0 .high })
 
-pub cell-inside : (a b : ℕ) → Letters a b → cellAt a b + 16 ≤ 4096
+pub cell-inside : (a b : ℕ) → Letters a b → cellAt a b + cellLength ≤ cellBytes
 cell-inside a b letters = omega (arith, letters .0 .low, letters .0 .high, letters .1 .low, letters .1 .high)
 
 -- THE TWO CELLS OF A PAIR of different letters
@@ -77,7 +77,7 @@ module _ (before : List ℕ) (a b : ℕ) (letters : Letters a b) where
   abbrev turned : Letters b a
   turned = swap-letters a b letters
 
-  module _ (size : ℕ) (differ : a ≢ b) (full : length before ≡ 4096) where
+  module _ (size : ℕ) (differ : a ≢ b) (full : length before ≡ cellBytes) where
     pub undefined-held : HoldsPair size (set (set before (cellAt a b) 255) (cellAt b a) 255) a b undefined
     undefined-held =
         record {
@@ -91,10 +91,10 @@ module _ (before : List ℕ) (a b : ℕ) (letters : Letters a b) where
   pub undefined-kept : KeptPair before a b (set (set before (cellAt a b) 255) (cellAt b a) 255)
   undefined-kept p q l d₁ d₂ k h =
       getD-set-other (set before (cellAt a b) 255) (cellAt b a) (cellAt p q + k) 255 0
-      (λ e. ⊎-elim (λ (x : cellAt p q + k < cellAt b a). omega arith) (λ (x : cellAt b a + 16 ≤ cellAt p q + k). omega arith)
+      (λ e. ⊎-elim (λ (x : cellAt p q + k < cellAt b a). omega arith) (λ (x : cellAt b a + cellLength ≤ cellAt p q + k). omega arith)
       (apart p q b a k l turned d₂ h))
       ∙ getD-set-other before (cellAt a b) (cellAt p q + k) 255 0
-      (λ e. ⊎-elim (λ (x : cellAt p q + k < cellAt a b). omega arith) (λ (x : cellAt a b + 16 ≤ cellAt p q + k). omega arith)
+      (λ e. ⊎-elim (λ (x : cellAt p q + k < cellAt a b). omega arith) (λ (x : cellAt a b + cellLength ≤ cellAt p q + k). omega arith)
       (apart p q a b k l letters d₁ h))
 
   module _ (mid after : List ℕ) (first : KeptOutside before (cellAt a b) mid) (second : KeptOutside mid (cellAt b a) after) where

@@ -9,7 +9,8 @@ use Rattle.model.specs.Word.{Positive, positive}
 use Rattle.model.specs.Presentation.{Presentation, Complement, undefined, complement, swapped, complete, weightOf, weigh}
 use Rattle.model.specs.Range.{All, InRange, Lettered}
 use Rattle.model.proofs.Complete.{complete-turn}
-use Rattle.cells.specs.Layout.{cellAt, weightAt}
+use Rattle.model.specs.Images.{mostSize, mostLength}
+use Rattle.cells.specs.Layout.{cellAt, weightAt, cellLength, cellBytes}
 use Rattle.cells.specs.Stands.{HoldsWord, HoldsFirst, Stands, Of, Sized, Filled, Blank}
 
 lettered-all : (n : ℕ) (x : Positive) → All (InRange n) x → Lettered n (positive x)
@@ -22,10 +23,10 @@ module _ {cells : List ℕ} {size : ℕ} {T : Presentation} (o : Of cells size T
   pub of-some : 1 ≤ size
   of-some = omega (arith, o .sized, o .stands .some)
 
-  pub of-few : size ≤ 16
+  pub of-few : size ≤ mostSize
   of-few = omega (arith, o .sized, o .stands .few)
 
-  pub of-size : (1 ≤ size) × (size ≤ 16)
+  pub of-size : (1 ≤ size) × (size ≤ mostSize)
   of-size = (of-some, of-few)
 
   pub of-range : (a : ℕ) → 1 ≤ a → a ≤ size → InRange (T .size) a
@@ -46,10 +47,10 @@ filled s a b low-a high-a low-b high-b =
 pub record WordAt (cells : List ℕ) (at n : ℕ) (x : Positive) : Type 0 where
   pub count : getD cells at 0 ≡ length x
   pub word : take (length x) (drop (at + 1) cells) ≡ x
-  pub short : length x ≤ 15
+  pub short : length x ≤ mostLength
   pub lettered : Lettered n (positive x)
 
-pub word-at : (size : ℕ) (cells : List ℕ) (cell : ℕ) (x : Positive) → cell + 16 ≤ length cells → HoldsWord size cells cell x → WordAt cells cell size x
+pub word-at : (size : ℕ) (cells : List ℕ) (cell : ℕ) (x : Positive) → cell + cellLength ≤ length cells → HoldsWord size cells cell x → WordAt cells cell size x
 word-at size cells cell x room h =
     record {
       count = h .count;
@@ -75,7 +76,7 @@ pub record Rule (cells : List ℕ) (T : Presentation) (a b : ℕ) : Type 0 where
   pub from : WordAt cells (cellAt b a) (T .size) y
 
 module _ (cells : List ℕ) (T : Presentation) (s : Stands cells T) (a b : ℕ) (ra : InRange (T .size) a) (rb : InRange (T .size) b) where
-  pub inside : cellAt a b + 16 ≤ length cells
+  pub inside : cellAt a b + cellLength ≤ length cells
   inside = omega (arith, s .full, s .few, ra .high, rb .high)
 
   -- the word of a complement
@@ -105,8 +106,12 @@ module _ (cells : List ℕ) (T : Presentation) (s : Stands cells T) (a b : ℕ) 
           }
 
 -- cells of zeros
-pub blank-zeros : Blank (replicate 4096 0)
-blank-zeros = record { full = length-replicate {A = ℕ} 4096 0; diagonal = λ a l. getD-replicate {A = ℕ} 4096 (cellAt a a) 0 0 (omega (arith, l .low, l .high)) }
+pub blank-zeros : Blank (replicate cellBytes 0)
+blank-zeros = record {
+  full = length-replicate {A = ℕ} cellBytes 0;
+  diagonal = λ a l. getD-replicate {A = ℕ} cellBytes (cellAt a a) 0 0 (omega
+      (arith, l .low, l .high));
+}
 
 -- the weight that stands in a letter's place is the letter's
 module _ (cells : List ℕ) (T : Presentation) (s : Stands cells T) (a : ℕ) (ra : InRange (T .size) a) where

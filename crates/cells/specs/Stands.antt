@@ -6,7 +6,7 @@ use Prim.Native.Nat.{ℕ, _+_, _^_, _≤_, _<_}
 use lib.ListN.{length, getD}
 use Rattle.model.specs.Word.{Word, Positive}
 use Rattle.model.specs.Presentation.{Presentation, Complement, undefined, complement, complete}
-use Rattle.model.specs.Images.{weightWidth}
+use Rattle.model.specs.Images.{weightWidth, mostSize}
 use Rattle.model.specs.Range.{InRange, Lettered, WordInRange}
 use Rattle.cells.specs.Layout.{cellBytes, cellAt, weightAt}
 
@@ -35,7 +35,7 @@ pub record HoldsWeights (size : ℕ) (cells excess : List ℕ) : Type 0 where
 pub record Stands (cells : List ℕ) (T : Presentation) : Type 0 where
   pub full : length cells ≡ cellBytes
   pub some : 1 ≤ T .size
-  pub few : T .size ≤ 16
+  pub few : T .size ≤ mostSize
   pub weights : HoldsWeights (T .size) cells (T .excess)
   pub cell : (a b : ℕ) → InRange (T .size) a → InRange (T .size) b → HoldsFirst (T .size) cells (cellAt a b) (complete T a b)
 
@@ -65,4 +65,4 @@ pub record Filled (cells : List ℕ) (a b : ℕ) : Type 0 where
 -- cells that a table can be read into: C(a,a) is empty, and a reader writes no length into the cell of a letter with itself
 pub record Blank (cells : List ℕ) : Type 0 where
   pub full : length cells ≡ cellBytes
-  pub diagonal : (a : ℕ) → InRange 16 a → getD cells (cellAt a a) 0 ≡ 0
+  pub diagonal : (a : ℕ) → InRange mostSize a → getD cells (cellAt a a) 0 ≡ 0

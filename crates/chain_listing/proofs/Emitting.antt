@@ -6,10 +6,10 @@ use native.Mathlib.Omega.{arith}
 use lib.ListN.{length, take, drop, getD, length-append}
 use Rattle.model.specs.Word.{Positive, positive, negative, inverse}
 use Rattle.model.specs.Equivalence.{Entry}
-use Rattle.model.specs.Images.{offsetWidth, entryBits, entryPosition}
+use Rattle.model.specs.Images.{offsetWidth, entryBits, entryPosition, mostSize, mostLength}
 use Rattle.engine.specs.Gap.{letters}
 use Rattle.engine.specs.Turn.{Pushed}
-use Rattle.cells.specs.Layout.{cellAt}
+use Rattle.cells.specs.Layout.{cellAt, cellLength}
 use Rattle.model.specs.Range.{InRange}
 use Rattle.engine.proofs.Lettering.{length-positive, length-negative}
 use Rattle.engine.proofs.Stepping.{cell-letters}
@@ -58,16 +58,16 @@ module _ {t : Task} {cells : List ℕ} {size total : ℕ} {bytes answer : List �
   pub b-top : InRange size b
   b-top = subst (InRange size) (top .is-b) face-b
 
-  pub pair-a : InRange 16 a
+  pub pair-a : InRange mostSize a
   pair-a = wide (s .settled) a-top
 
-  pub pair-b : InRange 16 b
+  pub pair-b : InRange mostSize b
   pair-b = wide (s .settled) b-top
 
-  pub to-inside : cellAt a b + 16 ≤ length cells
+  pub to-inside : cellAt a b + cellLength ≤ length cells
   to-inside = cell-inside (s .settled) a-top b-top
 
-  pub from-inside : cellAt b a + 16 ≤ length cells
+  pub from-inside : cellAt b a + cellLength ≤ length cells
   from-inside = cell-inside (s .settled) b-top a-top
 
   to-is : (to : ℕ) → to ≡ cellAt a b → to ≡ cellAt (f .a) (f .b)
@@ -83,7 +83,7 @@ module _ {t : Task} {cells : List ℕ} {size total : ℕ} {bytes answer : List �
   pub from-count : (from : ℕ) → from ≡ cellAt b a → getD cells from 0 ≡ length (f .other)
   from-count from e = ap (λ i. getD cells i 0) (from-is from e) ∙ from-cell (s .settled) course .count
 
-  pub from-short : (from : ℕ) → from ≡ cellAt b a → getD cells from 0 ≤ 15
+  pub from-short : (from : ℕ) → from ≡ cellAt b a → getD cells from 0 ≤ mostLength
   from-short from e = omega (arith, from-count from e, from-cell (s .settled) course .short)
 
   pub passed-is : at .passed ≡ length (passedOf (top .others) (s .done)) + suc (length (f .done))

@@ -10,7 +10,7 @@ use lib.Seq.{take-at, drop-at, drop-drop, length-take-le}
 use Rattle.model.specs.Bits.{bitsOf, digits, letterWidth, bytesFor, pack, filling}
 use Rattle.model.specs.Equivalence.{Entry}
 use Rattle.model.specs.Enumeration.{concatMap}
-use Rattle.model.specs.Images.{offsetWidth, entryBits, letterBits, chainImage, entryWidth, entryPosition}
+use Rattle.model.specs.Images.{offsetWidth, entryBits, letterBits, chainImage, entryWidth, entryPosition, chainCountWidth}
 use Rattle.model.specs.Services.{chainBytes}
 use Rattle.model.specs.Areas.{begins}
 use Rattle.bits.specs.Fields.{Writable, Written}
@@ -34,7 +34,7 @@ module _ (n total : ℕ) (before mid after : List ℕ) (room : chainBytes n tota
   fill = 8 * chainBytes n total - entryPosition n total
 
   rest : List ℕ
-  rest = drop 16 (bitsOf before)
+  rest = drop chainCountWidth (bitsOf before)
 
   gap : List ℕ
   gap = take (total * entryWidth n) rest
@@ -42,15 +42,15 @@ module _ (n total : ℕ) (before mid after : List ℕ) (room : chainBytes n tota
   behind : List ℕ
   behind = drop (total * entryWidth n) rest
 
-  rest-length : length rest ≡ 8 * length before - 16
+  rest-length : length rest ≡ 8 * length before - chainCountWidth
   unfolding rest
-  rest-length = length-drop 16 (bitsOf before) ∙ ap (λ i. i - 16) (length-bits before)
+  rest-length = length-drop chainCountWidth (bitsOf before) ∙ ap (λ i. i - chainCountWidth) (length-bits before)
 
   enough : total * entryWidth n + fill ≤ length rest
   unfolding fill
   enough = sums (total * entryWidth n) (8 * chainBytes n total) (length rest) (8 * length before) (image-end n total) rest-length (omega arith)
     where
-      sums : (s c r l : ℕ) → 16 + s ≤ c → r ≡ l - 16 → c ≤ l → s + (c - (16 + s)) ≤ r
+      sums : (s c r l : ℕ) → chainCountWidth + s ≤ c → r ≡ l - chainCountWidth → c ≤ l → s + (c - (chainCountWidth + s)) ≤ r
       sums s c r l p q m = omega arith
 
   gap-length : length gap ≡ total * entryWidth n
@@ -69,20 +69,21 @@ module _ (n total : ℕ) (before mid after : List ℕ) (room : chainBytes n tota
   last-bits : drop fill behind ≡ drop (8 * chainBytes n total) (bitsOf before)
   unfolding behind rest fill
   last-bits =
-      ap (drop fill) (drop-drop (total * entryWidth n) 16 (bitsOf before))
-      ∙ (drop-drop fill (16 + total * entryWidth n) (bitsOf before)
-      ∙ ap (λ i. drop i (bitsOf before)) (part-whole (16 + total * entryWidth n) (8 * chainBytes n total) (image-end n total)))
+      ap (drop fill) (drop-drop (total * entryWidth n) chainCountWidth (bitsOf before))
+      ∙ (drop-drop fill (chainCountWidth + total * entryWidth n) (bitsOf before)
+      ∙ ap (λ i. drop i (bitsOf before)) (part-whole (chainCountWidth + total * entryWidth n) (8 * chainBytes n total) (image-end n total)))
 
-  pub prepared : Written before 0 16 total mid → Written mid end ((8 - end % 8) % 8) 0 after → Layout n total before [] [] after
+  pub prepared : Written before 0 chainCountWidth total mid → Written mid end ((8 - end % 8) % 8) 0 after → Layout n total before [] [] after
   unfolding gap behind rest fill
   prepared p q =
       let w : (8 - end % 8) % 8 ≡ fill = ap (λ i. (8 - i % 8) % 8) here ∙ sym (fill-width (entryPosition n total)) in
       let split : rest ≡ gap ++ (take fill behind ++ drop fill behind) =
       sym (take-append-drop (total * entryWidth n) rest) ∙ ap (λ l. gap ++ l) (sym (take-append-drop fill behind)) in
-      let b : bitsOf mid ≡ (digits 16 total ++ gap) ++ (take fill behind ++ drop fill behind) =
-      p .bits ∙ (ap (λ l. digits 16 total ++ l) split ∙ sym (append-assoc (digits 16 total) gap (take fill behind ++ drop fill behind))) in
-      let l : length (digits 16 total ++ gap) ≡ end =
-      length-append (digits 16 total) gap ∙ (ap₂ (λ i j. i + j) (length-digits 16 total) gap-length ∙ sym here) in
+      let b : bitsOf mid ≡ (digits chainCountWidth total ++ gap) ++ (take fill behind ++ drop fill behind) =
+      p .bits ∙ (ap (λ l. digits chainCountWidth total ++ l) split ∙ sym (append-assoc (digits chainCountWidth total) gap
+      (take fill behind ++ drop fill behind))) in
+      let l : length (digits chainCountWidth total ++ gap) ≡ end =
+      length-append (digits chainCountWidth total) gap ∙ (ap₂ (λ i j. i + j) (length-digits chainCountWidth total) gap-length ∙ sym here) in
       let f : length (take fill behind) ≡ length (digits ((8 - end % 8) % 8) 0) =
       filled ∙ (sym w ∙ sym (length-digits ((8 - end % 8) % 8) 0)) in
       record {
@@ -92,9 +93,9 @@ module _ (n total : ℕ) (before mid after : List ℕ) (room : chainBytes n tota
         counted = omega arith;
         gap-length = gap-length;
         bits =
-            appended-at (appended-field _ _ _ _ _ q) (digits 16 total ++ gap) (take fill behind) (drop fill behind) b l f
-            ∙ (append-assoc (digits 16 total) gap (digits ((8 - end % 8) % 8) 0 ++ drop fill behind)
-            ∙ ap₂ (λ i t. digits 16 total ++ (gap ++ (digits i 0 ++ t))) w last-bits);
+            appended-at (appended-field _ _ _ _ _ q) (digits chainCountWidth total ++ gap) (take fill behind) (drop fill behind) b l f
+            ∙ (append-assoc (digits chainCountWidth total) gap (digits ((8 - end % 8) % 8) 0 ++ drop fill behind)
+            ∙ ap₂ (λ i t. digits chainCountWidth total ++ (gap ++ (digits i 0 ++ t))) w last-bits);
       }
 
   pub fill-inside : length mid ≡ length before → total < 65536 → Writable mid end ((8 - end % 8) % 8)
@@ -140,7 +141,7 @@ front-length k xs h = length-bits (take k xs) ∙ ap (λ i. 8 * i) (length-take-
 module _ (n total : ℕ) (area answer : List ℕ) (entries : List Entry) (h : Layout n total area entries [] answer) (all : length entries ≡ total)
     (room : chainBytes n total ≤ length area) where
   image : List ℕ
-  image = digits 16 total ++ concatMap (entryBits n) entries
+  image = digits chainCountWidth total ++ concatMap (entryBits n) entries
 
   zeros : List ℕ
   zeros = digits (8 * chainBytes n total - entryPosition n total) 0
@@ -148,8 +149,8 @@ module _ (n total : ℕ) (area answer : List ℕ) (entries : List Entry) (h : La
   image-length : length image ≡ entryPosition n total
   unfolding image
   image-length =
-      length-append (digits 16 total) (concatMap (entryBits n) entries)
-      ∙ (ap₂ (λ i j. i + j) (length-digits 16 total) (length-entries n entries) ∙ ap (λ k. 16 + k * entryWidth n) all)
+      length-append (digits chainCountWidth total) (concatMap (entryBits n) entries)
+      ∙ (ap₂ (λ i j. i + j) (length-digits chainCountWidth total) (length-entries n entries) ∙ ap (λ k. chainCountWidth + k * entryWidth n) all)
 
   no-gap : h .gap ≡ []
   no-gap = empty-of (h .gap) (h .gap-length ∙ (ap (λ k. k * entryWidth n) (none (length entries) (h .free) total all (h .counted)) ∙ zero-mul (entryWidth n)))
@@ -161,8 +162,8 @@ module _ (n total : ℕ) (area answer : List ℕ) (entries : List Entry) (h : La
   unfolding image zeros
   all-bits =
       h .bits
-      ∙ (ap (λ g. digits 16 total ++ (concatMap (entryBits n) entries ++ (g ++ (zeros ++ drop (8 * chainBytes n total) (bitsOf area))))) no-gap
-      ∙ (sym (append-assoc (digits 16 total) (concatMap (entryBits n) entries) (zeros ++ drop (8 * chainBytes n total) (bitsOf area)))
+      ∙ (ap (λ g. digits chainCountWidth total ++ (concatMap (entryBits n) entries ++ (g ++ (zeros ++ drop (8 * chainBytes n total) (bitsOf area))))) no-gap
+      ∙ (sym (append-assoc (digits chainCountWidth total) (concatMap (entryBits n) entries) (zeros ++ drop (8 * chainBytes n total) (bitsOf area)))
       ∙ sym (append-assoc image zeros (drop (8 * chainBytes n total) (bitsOf area)))))
 
   whole-length : length (image ++ zeros) ≡ 8 * chainBytes n total
@@ -204,13 +205,14 @@ module _ (n total : ℕ) (area answer : List ℕ) (entries : List Entry) (h : La
 
   image-is : pack image ≡ chainImage n entries
   unfolding image chainImage
-  image-is = ap (λ k. pack (digits 16 k ++ concatMap (entryBits n) entries)) (sym all)
+  image-is = ap (λ k. pack (digits chainCountWidth k ++ concatMap (entryBits n) entries)) (sym all)
 
   first : AreBytes answer → take (chainBytes n total) answer ≡ chainImage n entries
   unfolding image
   first ba =
       packed-of (take (chainBytes n total) answer) image zeros (bytes-take (chainBytes n total) answer ba)
-      (bits-append (digits 16 total) (concatMap (entryBits n) entries) (digits-are-bits 16 total) (entries-are-bits n entries)) front zeros-fill
+      (bits-append (digits chainCountWidth total) (concatMap (entryBits n) entries) (digits-are-bits chainCountWidth total)
+      (entries-are-bits n entries)) front zeros-fill
       ∙ image-is
 
   pub image-long : AreBytes answer → length (chainImage n entries) ≡ chainBytes n total

@@ -9,7 +9,7 @@ use lib.Seq.{drop-at, length-take-le}
 use Rattle.model.specs.Bits.{bitsOf, digits, bytesFor}
 use Rattle.model.specs.Equivalence.{Entry}
 use Rattle.model.specs.Enumeration.{concatMap}
-use Rattle.model.specs.Images.{entryBits, entryWidth, entryPosition}
+use Rattle.model.specs.Images.{entryBits, entryWidth, entryPosition, chainCountWidth}
 use Rattle.model.specs.Services.{chainBytes}
 use Rattle.model.proofs.Lists.{concat-append}
 use Rattle.bits.proofs.Digits.{length-digits}
@@ -42,7 +42,7 @@ slot-fits n total answer room index h =
     let e : suc index * entryWidth n ≡ index * entryWidth n + entryWidth n = suc-mul index (entryWidth n) in
     sum (index * entryWidth n) (entryWidth n) (total * entryWidth n) (rw e at m) (image-end n total)
   where
-    sum : (i s t : ℕ) → i + s ≤ t → 16 + t ≤ 8 * chainBytes n total → 16 + i + s ≤ 8 * length answer
+    sum : (i s t : ℕ) → i + s ≤ t → chainCountWidth + t ≤ 8 * chainBytes n total → chainCountWidth + i + s ≤ 8 * length answer
     sum i s t p q = omega arith
 
 -- the parts of an image, grouped otherwise
@@ -60,10 +60,10 @@ entry-group d c e g s = simp append-assoc
 
 module _ (n total : ℕ) (area : List ℕ) (entries : List Entry) where
   abbrev head : List ℕ
-  head = digits 16 total ++ concatMap (entryBits n) entries
+  head = digits chainCountWidth total ++ concatMap (entryBits n) entries
 
   abbrev count : List ℕ
-  count = digits 16 total
+  count = digits chainCountWidth total
 
   abbrev body : List ℕ
   body = concatMap (entryBits n) entries
@@ -73,20 +73,20 @@ module _ (n total : ℕ) (area : List ℕ) (entries : List Entry) where
 
   head-length : length head ≡ entryPosition n (length entries)
   head-length =
-      length-append (digits 16 total) (concatMap (entryBits n) entries)
-      ∙ ap₂ (λ i j. i + j) (length-digits 16 total) (length-entries n entries)
+      length-append (digits chainCountWidth total) (concatMap (entryBits n) entries)
+      ∙ ap₂ (λ i j. i + j) (length-digits chainCountWidth total) (length-entries n entries)
 
   -- so many slots after the entries
   after-head : (k : ℕ) (l : List ℕ) → length l ≡ k * entryWidth n → length (head ++ l) ≡ entryPosition n (length entries + k)
   after-head k l e =
       length-append head l ∙ (ap₂ (λ i j. i + j) head-length e ∙ sums (length entries) k (entryWidth n))
     where
-      sums : (i k s : ℕ) → 16 + i * s + k * s ≡ 16 + (i + k) * s
+      sums : (i k s : ℕ) → chainCountWidth + i * s + k * s ≡ chainCountWidth + (i + k) * s
       sums i k s = omega (arith, add-mul i k s)
 
   module _ {slots : List Entry} {answer : List ℕ} (h : Layout n total area entries slots answer) where
     bits-are : bitsOf answer ≡ head ++ (h .gap ++ (concatMap (entryBits n) slots ++ tailBits n total area))
-    bits-are = h .bits ∙ sym (append-assoc (digits 16 total) (concatMap (entryBits n) entries) _)
+    bits-are = h .bits ∙ sym (append-assoc (digits chainCountWidth total) (concatMap (entryBits n) entries) _)
 
     -- A FACE IS PUSHED
 

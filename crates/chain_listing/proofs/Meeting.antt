@@ -7,11 +7,11 @@ use lib.ListN.{length, take, getD, length-append, length-map}
 use Rattle.model.specs.Word.{Positive, positive, negative}
 use Rattle.model.specs.Presentation.{complement, complete}
 use Rattle.model.specs.Equivalence.{Entry}
-use Rattle.model.specs.Images.{offsetWidth, entryBits, entryPosition}
+use Rattle.model.specs.Images.{offsetWidth, entryBits, entryPosition, mostSize}
 use Rattle.model.proofs.Words.{positive-append}
 use Rattle.model.proofs.Complete.{complete-named}
 use Rattle.engine.specs.Gap.{letters}
-use Rattle.cells.specs.Layout.{cellAt}
+use Rattle.cells.specs.Layout.{cellAt, cellLength}
 use Rattle.model.specs.Range.{InRange, Lettered}
 use Rattle.cells.proofs.Rules.{cell-word, WordAt}
 use Rattle.engine.proofs.Lettering.{lettered-end}
@@ -34,11 +34,11 @@ module _ {t : Task} {cells : List ℕ} {size total : ℕ} (h : Fixed t cells siz
   pub size-some : 1 ≤ size
   size-some = omega (arith, h .stands .some, h .size-is)
 
-  pub size-few : size ≤ 16
+  pub size-few : size ≤ mostSize
   size-few = omega (arith, h .stands .few, h .size-is)
 
   -- one of the size's letters is one of sixteen, and a cell of two such lies inside
-  pub wide : {a : ℕ} → InRange size a → InRange 16 a
+  pub wide : {a : ℕ} → InRange size a → InRange mostSize a
   wide r = record { low = r .low; high = omega (arith, r .high, size-few) }
 
   pub sized : {a : ℕ} → InRange (t .table .size) a → InRange size a
@@ -47,7 +47,7 @@ module _ {t : Task} {cells : List ℕ} {size total : ℕ} (h : Fixed t cells siz
   unsized : {a : ℕ} → InRange size a → InRange (t .table .size) a
   unsized r = record { low = r .low; high = omega (arith, r .high, h .size-is) }
 
-  pub cell-inside : {a b : ℕ} → InRange size a → InRange size b → cellAt a b + 16 ≤ length cells
+  pub cell-inside : {a b : ℕ} → InRange size a → InRange size b → cellAt a b + cellLength ≤ length cells
   cell-inside {a} {b} ra rb = omega (arith, h .stands .full, wide ra .high, wide rb .high)
 
   pub cell-of : {a b : ℕ} {x y : Positive} → InRange size a → InRange size b → complete (t .table) a b ≡ complement x y

@@ -7,8 +7,8 @@ use lib.ListN.{length, drop, getD, length-append, length-map}
 use lib.Seq.{getD-take, getD-drop, getD-append-seam}
 use Rattle.model.specs.Word.{Positive}
 use Rattle.model.specs.Equivalence.{Entry}
-use Rattle.model.specs.Images.{entryBits, entryPosition}
-use Rattle.cells.specs.Layout.{cellAt}
+use Rattle.model.specs.Images.{entryBits, entryPosition, mostSize, mostLength}
+use Rattle.cells.specs.Layout.{cellAt, cellLength}
 use Rattle.model.specs.Range.{InRange, EntryInRange}
 use Rattle.cells.proofs.Rules.{WordAt}
 use Rattle.chain_listing.specs.declared.moves.Progress.{Progress}
@@ -107,10 +107,10 @@ module _ {t : Task} {cells : List ℕ} {size total : ℕ} {bytes answer : List �
     pub top-b : InRange size (r .b)
     top-b = subst (InRange size) (sym (same .b)) (slot-holds .b-names)
 
-    pub pair-top : InRange 16 (r .a) × InRange 16 (r .b)
+    pub pair-top : InRange mostSize (r .a) × InRange mostSize (r .b)
     pair-top = (wide (s .settled) top-a, wide (s .settled) top-b)
 
-    pub top-inside : cellAt (r .a) (r .b) + 16 ≤ length cells
+    pub top-inside : cellAt (r .a) (r .b) + cellLength ≤ length cells
     top-inside = cell-inside (s .settled) top-a top-b
 
     module _ (to : ℕ) (et : to ≡ cellAt (r .a) (r .b)) where
@@ -124,7 +124,7 @@ module _ {t : Task} {cells : List ℕ} {size total : ℕ} {bytes answer : List �
       pub count-within : r .offset ≤ getD cells to 0
       count-within = omega (arith, count-is)
 
-      pub count-short : getD cells to 0 ≤ 15
+      pub count-short : getD cells to 0 ≤ mostLength
       count-short = omega (arith, count-is, same .offset, word .short, length-append (f .done) (f .left))
 
       module _ (more : r .offset ≡ 0 → ⊥) where

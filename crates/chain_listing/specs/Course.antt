@@ -5,7 +5,7 @@ use Prim.Native.Nat.{ℕ, _+_, _-_, _*_, _^_, _≤_, _<_}
 use lib.ListN.{length, take, drop}
 use Rattle.model.specs.Word.{Word, Positive, positive, negative}
 use Rattle.model.specs.Presentation.{Presentation, complement, complete, weigh}
-use Rattle.model.specs.Images.{offsetWidth}
+use Rattle.model.specs.Images.{offsetWidth, mostLength, wordLengths}
 use Rattle.model.specs.Equivalence.{Entry, Leads}
 use Rattle.model.specs.Reversing.{finished, run}
 use Rattle.model.specs.Services.{chainBytes}
@@ -95,7 +95,7 @@ Emittable cells size bytes answer at a b =
 
 -- what is left to do
 abbrev pub ahead : ℕ → Progress → ℕ
-ahead total at = 16 * (total - at .emitted) + at .left
+ahead total at = wordLengths * (total - at .emitted) + at .left
 
 -- a move: less is left to do, and every task goes on
 pub record Moves (cells : List ℕ) (size total : ℕ) (taken : Positive) (bytes answer : List ℕ) (at : Progress) (bytes′ answer′ : List ℕ)
@@ -106,7 +106,7 @@ pub record Moves (cells : List ℕ) (size total : ℕ) (taken : Positive) (bytes
 -- one entry more: C(b,a) has at most 15 letters, and every task goes on
 pub record Emits (cells : List ℕ) (size : ℕ) (bytes answer : List ℕ) (at : Progress) (a b : ℕ) (bytes′ answer′ : List ℕ) (at′ : Progress) : Type 0 where
   pub one-more : at′ .emitted ≡ at .emitted + 1
-  pub few-more : at′ .left ≤ at .left + 15
+  pub few-more : at′ .left ≤ at .left + mostLength
   pub situation : (total : ℕ) (t : Task) (s : Situation t cells size total [] bytes answer at) → TopDone (s .faces) a b
       → Situation t cells size total [] bytes′ answer′ at′
 

@@ -6,7 +6,7 @@ use lib.ListN.{length, drop}
 use Rattle.model.specs.Bits.{bitsOf, digits}
 use Rattle.model.specs.Equivalence.{Entry}
 use Rattle.model.specs.Enumeration.{concatMap}
-use Rattle.model.specs.Images.{entryWidth, entryPosition, entryBits}
+use Rattle.model.specs.Images.{entryWidth, entryPosition, entryBits, chainCountWidth}
 use Rattle.model.specs.Services.{chainBytes}
 
 -- the filling, then the bytes after the image
@@ -20,4 +20,4 @@ pub record Layout (n total : ℕ) (area : List ℕ) (entries slots : List Entry)
   pub counted : length entries + (free + length slots) ≡ total
   pub gap-length : length gap ≡ free * entryWidth n
   pub bits : bitsOf answer
-      ≡ digits 16 total ++ (concatMap (entryBits n) entries ++ (gap ++ (concatMap (entryBits n) slots ++ tailBits n total area)))
+      ≡ digits chainCountWidth total ++ (concatMap (entryBits n) entries ++ (gap ++ (concatMap (entryBits n) slots ++ tailBits n total area)))

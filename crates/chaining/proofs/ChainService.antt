@@ -12,7 +12,7 @@ use Rattle.model.specs.Word.{Word, Positive, positive, negative}
 use Rattle.model.specs.Presentation.{Presentation, complete, weightOf, weigh}
 use Rattle.model.specs.Reversing.{finished, no-room, reversing}
 use Rattle.model.specs.Outcome.{Outcome, answered, refused, _>>=_, unless, mapped}
-use Rattle.model.specs.Images.{readProgram, chainImage}
+use Rattle.model.specs.Images.{readProgram, chainImage, mostSize}
 use Rattle.model.specs.Services.{Verdict, same-after, different-after, readForward, comparison, chainBytes, listable, ChainAnswer, listed-after, unlisted-after}
 use Rattle.model.specs.Services.{chainAnswer, verdictIn, chain, Images, readImages}
 use Rattle.model.specs.Areas.{Compares, Listed, ChainArea, workspaceAfter}
@@ -109,7 +109,7 @@ programs-fit T u v budget room k r e =
     let h = finished-fits T budget room (negative u ++ positive v) [] [] k r (e .empty) in
     omega (arith, length-append (negative u) (positive v), length-negative u, length-positive v)
 
-pub listed-of : (T : Presentation) (u v : Positive) (r : ℕ) (before after : List ℕ) → T .size ≤ 16 → Chained T u v r before after
+pub listed-of : (T : Presentation) (u v : Positive) (r : ℕ) (before after : List ℕ) → T .size ≤ mostSize → Chained T u v r before after
     → Listed T u v r (chainBytes (T .size) r) before after
 listed-of T u v r before after few c =
     record {
@@ -127,7 +127,7 @@ module _ (cells : List ℕ) (size : ℕ) (T : Presentation) (o : Of cells size T
     (two : ForwardOf second size seconds) (eu : one .word ≡ u) (ev : two .word ≡ v) (budget room k r : ℕ) (e : Ended T u v budget room k r) (bytes : List ℕ)
     (right : ℕ)
     (same-room : length bytes ≡ room) (l : LoadedPrograms cells T u v bytes firsts right) (area : ℕ) (enough : chainBytes size r ≤ area) where
-  few : size ≤ 16
+  few : size ≤ mostSize
   few = of-few o
 
   named : (w : Positive) (image : List ℕ) → readProgram size image ≡ answered (positive w) → ProgramInRange size (positive w)

@@ -4,6 +4,7 @@ ghost use Prim.Native.Nat.{_≤_};
 ghost use Rattle.model.specs.Outcome.{mapped};
 ghost use Rattle.model.specs.Services.{chain, chainAnswer};
 ghost use Rattle.model.specs.Stated.{compared, chained};
+ghost use Rattle.model.specs.Images.{mostSize};
 ghost use Rattle.loading.specs.Loading.{Forward};
 ghost use Rattle.loading.specs.Weighing.{Weigh};
 ghost use Rattle.chaining.specs.Chain.{Lists, ChainPromise};
@@ -75,7 +76,7 @@ pub fn chain_programs(
 
 // The answer of chain: what is listed has an entry for each step on two different letters.
 pub fn listed(verdict: Compared, size: u8) -> Chained
-    requires { ⌜ (1 ≤ size) × (size ≤ 16) ⌝ }
+    requires { ⌜ (1 ≤ size) × (size ≤ mostSize) ⌝ }
     ensures { λ r. ⌜ chained r ≡ mapped (chainAnswer size) (compared verdict) ⌝ }
 {
     match verdict {

@@ -8,6 +8,7 @@ use Rattle.model.specs.Word.{forward, back, Word, Positive, flip, positive, neg
 use Rattle.model.proofs.Words.{negative-cons}
 use Rattle.engine.specs.Gap.{letters}
 use Rattle.model.specs.Range.{Lettered}
+use Rattle.model.specs.Images.{mostSize}
 use Rattle.engine.proofs.Letters.{letter-forward, letters-cons, letters-nil}
 
 module _ (n : ℕ) where
@@ -28,7 +29,7 @@ module _ (n : ℕ) where
   lettered-negative (a ∷ y) p = rw (negative-cons a y) (lettered-append (negative y) (back a ∷ []) (lettered-negative y (p .1)) (p .0, tt))
 
   -- the bytes of a positive word are its numbers
-  pub letters-positive : n ≤ 16 → (x : Positive) → Lettered n (positive x) → letters x ≡ positive x
+  pub letters-positive : n ≤ mostSize → (x : Positive) → Lettered n (positive x) → letters x ≡ positive x
   letters-positive h [] p = letters-nil
   letters-positive h (a ∷ x) p =
       letters-cons a x ∙ ap₂ (λ l w. l ∷ w) (letter-forward a (omega (arith, p .0 .high))) (letters-positive h x (p .1))

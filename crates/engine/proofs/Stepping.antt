@@ -8,8 +8,9 @@ use Rattle.model.specs.Word.{Positive, positive, inverse}
 use Rattle.model.specs.Presentation.{Presentation}
 use Rattle.model.specs.Reversing.{next, blocked}
 use Rattle.engine.specs.Gap.{letters, wordAt, AtLeftmost}
-use Rattle.cells.specs.Layout.{cellAt}
+use Rattle.cells.specs.Layout.{cellAt, cellLength}
 use Rattle.model.specs.Range.{InRange}
+use Rattle.model.specs.Images.{mostSize, mostLength}
 use Rattle.cells.proofs.Rules.{WordAt, Rule, inside, open-cell, word-cell}
 use Rattle.cells.specs.Stands.{Serves}
 use Rattle.engine.specs.Turn.{cellLetters, Pushed, Steps, Outgrows, Goes}
@@ -17,7 +18,7 @@ use Rattle.engine.proofs.Lettering.{letters-positive}
 use Rattle.engine.proofs.AtGap.{before, after, before-named, after-named, blocked-here, goes, outgrows, steps}
 
 -- the letters of a cell's word
-pub cell-letters : {cells : List ℕ} {at n : ℕ} {x : Positive} → n ≤ 16 → WordAt cells at n x → (from count : ℕ) → from ≡ at + 1 → count ≡ length x
+pub cell-letters : {cells : List ℕ} {at n : ℕ} {x : Positive} → n ≤ mostSize → WordAt cells at n x → (from count : ℕ) → from ≡ at + 1 → count ≡ length x
     → letters (take count (drop from cells)) ≡ positive x
 cell-letters {cells} {n} {x} few w from count e f =
     ap (λ i. letters (take i (drop from cells))) f
@@ -38,16 +39,16 @@ module _ (cells bytes : List ℕ) (left right : ℕ) (h : AtLeftmost bytes left 
     b-named = after-named bytes left right h T (s .lettered)
 
     -- the pair's numbers and cells are in range
-    pub named : InRange 16 a × InRange 16 b
+    pub named : InRange mostSize a × InRange mostSize b
     named = (
       record { low = a-named .low; high = omega (arith, a-named .high, s .stands .few) },
       record { low = b-named .low; high = omega (arith, b-named .high, s .stands .few) },
     )
 
-    pub to-inside : cellAt a b + 16 ≤ length cells
+    pub to-inside : cellAt a b + cellLength ≤ length cells
     to-inside = inside cells T (s .stands) a b a-named b-named
 
-    pub from-inside : cellAt b a + 16 ≤ length cells
+    pub from-inside : cellAt b a + cellLength ≤ length cells
     from-inside = inside cells T (s .stands) b a b-named a-named
 
     module _ (to : ℕ) (et : to ≡ cellAt a b) where
@@ -66,10 +67,10 @@ module _ (cells bytes : List ℕ) (left right : ℕ) (h : AtLeftmost bytes left 
         from-count : getD cells from 0 ≡ length (rule .y)
         from-count = ap (λ i. getD cells i 0) ef ∙ rule .from .count
 
-        pub to-short : getD cells to 0 ≤ 15
+        pub to-short : getD cells to 0 ≤ mostLength
         to-short = omega (arith, to-count, rule .to .short)
 
-        pub from-short : getD cells from 0 ≤ 15
+        pub from-short : getD cells from 0 ≤ mostLength
         from-short = omega (arith, from-count, rule .from .short)
 
         pub goes-on : Goes T (wordAt bytes left right)

@@ -5,14 +5,14 @@ use Prim.Native.Nat.{ℕ, _+_, _*_, _≤_, _<_}
 use lib.ListN.{length, drop}
 use Rattle.model.specs.Bits.{bitsOf}
 use Rattle.model.specs.Equivalence.{Entry}
-use Rattle.model.specs.Images.{entryWidth, entryPosition, entryBits}
+use Rattle.model.specs.Images.{entryWidth, entryPosition, entryBits, mostSize}
 use Rattle.model.specs.Range.{EntryInRange}
 use Rattle.entries.specs.declared.entry.ChainEntry.{ChainEntry}
 
 -- an entry lies inside the area
 pub record EntryInside (n index : ℕ) (area : List ℕ) : Type 0 where
   pub some : 1 ≤ n
-  pub few : n ≤ 16
+  pub few : n ≤ mostSize
   pub low : index < 65536
   pub inside : entryPosition n index + entryWidth n ≤ 8 * length area
 

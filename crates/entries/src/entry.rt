@@ -1,6 +1,6 @@
 ghost use mathlib.Core.Path.{_≡_};
 ghost use Prim.Native.Nat.{_≤_, _<_};
-ghost use Rattle.model.specs.Images.{entryPosition, entryBits};
+ghost use Rattle.model.specs.Images.{entryPosition, entryBits, mostSize};
 ghost use Rattle.model.specs.Services.{chainBytes};
 ghost use Rattle.entries.specs.Entry.{EntryInside, ReadsEntry};
 ghost use Rattle.bits.specs.Fields.{Appended};
@@ -23,7 +23,7 @@ pub struct ChainEntry {
 
 // Where an entry begins.
 pub fn position(size: u8, index: usize) -> usize
-    requires { ⌜ (1 ≤ size) × (size ≤ 16) × (index < 65536) ⌝ }
+    requires { ⌜ (1 ≤ size) × (size ≤ mostSize) × (index < 65536) ⌝ }
     ensures { λ r. ⌜ r ≡ entryPosition size index ⌝ }
 {
     let width = letter_width(size) as usize;
@@ -32,7 +32,7 @@ pub fn position(size: u8, index: usize) -> usize
 
 // The bytes of a chain's image with so many entries.
 pub fn chain_bytes(size: u8, entries: u16) -> usize
-    requires { ⌜ (1 ≤ size) × (size ≤ 16) ⌝ }
+    requires { ⌜ (1 ≤ size) × (size ≤ mostSize) ⌝ }
     ensures { λ r. ⌜ r ≡ chainBytes size entries ⌝ }
 {
     (position(size, entries as usize) + 7) / 8

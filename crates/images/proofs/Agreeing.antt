@@ -9,7 +9,8 @@ use lib.Dec.{ltb, leb, eqb}
 use Rattle.model.specs.Presentation.{undefined}
 use Rattle.model.specs.Outcome.{Outcome, answered, refused, _>>=_, unless}
 use Rattle.model.specs.Bits.{Read, bitsOf, field, letterWidth}
-use Rattle.model.specs.Images.{weightWidth, several, rowsOf, letterField, wordField, definedField, pairField, readTable}
+use Rattle.model.specs.Images.{weightWidth, several, rowsOf, letterField, wordField, definedField, pairField, readTable, wordLengths, lengthWidth, mostSize}
+use Rattle.model.specs.Images.{sizeWidth}
 use Rattle.bits.proofs.Digits.{AreBits}
 use Rattle.bits.proofs.Bytes.{bits-are-bits}
 use Rattle.bits.proofs.Width.{width-small}
@@ -118,7 +119,7 @@ module _ (size : ℕ) where
 
   word-agrees : (bits : List ℕ) → AreBits bits → AgreeBits (wordIn (imageForm size) size bits) (wordField size bits)
   word-agrees bits b =
-      then-agree same AreBits (numberIn 4 0 16 bits) (field 1 4 bits) _ _ (all-said 4 bits b 16 (omega arith))
+      then-agree same AreBits (numberIn lengthWidth 0 wordLengths bits) (field 1 lengthWidth bits) _ _ (all-said lengthWidth bits b wordLengths (omega arith))
       (λ k rest h. several-agree same AreBits (letterIn (imageForm size) size) (letterField 1 2 size) letter-agrees k rest h)
 
   words-agree : (bits : List ℕ) → AreBits bits → AgreeBits (wordsIn (imageForm size) size bits) (definedField size bits)
@@ -145,7 +146,8 @@ module _ (size : ℕ) where
 pub image-read : (image : List ℕ) → tableIn Image image ≡ readTable image
 unfolding tableIn partsIn rowsIn readTable
 image-read image =
-    ends-agree same AreBits (numberIn 4 0 16 (bitsOf image)) (field 1 4 (bitsOf image)) _ _ (all-said 4 (bitsOf image) (bits-are-bits image) 16 (omega arith))
+    ends-agree same AreBits (numberIn sizeWidth 0 mostSize (bitsOf image)) (field 1 sizeWidth (bitsOf image)) _ _
+    (all-said sizeWidth (bitsOf image) (bits-are-bits image) mostSize (omega arith))
     (λ n rest h. ends-agree same AreBits (several (weightIn (imageForm (n + 1))) (n + 1) rest) (several (field 1 weightWidth) (n + 1) rest) _ _
     (several-agree same AreBits (weightIn (imageForm (n + 1))) (field 1 weightWidth) (λ bits b. all-said weightWidth bits b 8 (omega arith)) (n + 1) rest h)
     (λ ws rest h. ends-agree same AreBits (rowsOf (pairIn (imageForm (n + 1)) (n + 1)) (n + 1) rest) (rowsOf (pairField (n + 1)) (n + 1) rest) _ _

@@ -19,6 +19,7 @@ use Rattle.bits.proofs.Digits.{AreBits}
 use Rattle.bits.proofs.Width.{letter-fits}
 use Rattle.model.specs.Range.{All, InRange, LetterInRange, WordInRange, PairInRange, EntryInRange}
 use Rattle.model.proofs.Impossible.{answer-of, same-answer, not-refused}
+use Rattle.model.specs.Images.{mostSize}
 use Rattle.images.proofs.Codec.{Codec, then, field-codec, several-codec, input-rest, bits-suffix}
 
 -- a count, then as many of one kind
@@ -60,7 +61,7 @@ module _ {A : Type 0} (early width : ℕ) (reader : List ℕ → Outcome (Read A
               (subst (λ n. n < 2 ^ width) (sym (c .0)) (field-codec early width .in-range input i (f .0) (f .1)), c .1);
         }
 
-module _ (n : ℕ) (few : n ≤ 16) where
+module _ (n : ℕ) (few : n ≤ mostSize) where
   module _ (early wrong : ℕ) where
     named : Read ℕ → Outcome (Read ℕ)
     named r = unless (leb n (r .value)) wrong (record { value = r .value + 1; rest = r .rest })

@@ -2,7 +2,7 @@
 use mathlib.Core.Path.{_≡_, sym, ap, subst, _∙_}
 use mathlib.Core.List.{List, _∷_, _++_, append-assoc}
 use mathlib.Core.Bool.{true, false, cond}
-use Prim.Native.Nat.{ℕ, suc, _+_, _*_, _≤_, _<_}
+use Prim.Native.Nat.{ℕ, _^_, suc, _+_, _*_, _≤_, _<_}
 use native.Mathlib.Omega.{arith}
 use native.Mathlib.Numerals.{add-one}
 use native.Mathlib.Nat.{mul-le-mul-left}
@@ -12,7 +12,7 @@ use lib.Seq.{drop-cons, drop-length, paste, paste-suc, take-all}
 use Rattle.model.specs.Word.{forward, back, Word, byte}
 use Rattle.model.specs.Outcome.{unplaced, answered, refused}
 use Rattle.model.specs.Bits.{letterWidth}
-use Rattle.model.specs.Images.{signed, signedField, readProgram, countWidth}
+use Rattle.model.specs.Images.{signed, signedField, readProgram, countWidth, sizeWidth}
 use Rattle.model.specs.Plain.{plainProgram}
 use Rattle.model.specs.Services.{isForward}
 use Rattle.bits.proofs.Width.{width-small}
@@ -23,14 +23,14 @@ use Rattle.model.proofs.Impossible.{same-answer}
 use Rattle.images.proofs.RoundTrip.{program-in-range}
 use Rattle.images.proofs.Placed.{letter-placed, letter-inside}
 
-pub near : (i width : ℕ) → i < 4096 → width ≤ 4 → i * (1 + width) ≤ 20480
+pub near : (i width : ℕ) → i < 2 ^ countWidth → width ≤ sizeWidth → i * (1 + width) ≤ 2 ^ countWidth * (1 + sizeWidth)
 near i width h l =
     let l : 1 + width ≤ 5 = omega arith in
     let m : i * (1 + width) ≤ i * 5 = mul-le-mul-left i l in
     omega arith
 
 module _ (image : List ℕ) (size width i : ℕ) (p : HasLetter image size width i) where
-  pub index-small : i < 4096
+  pub index-small : i < 2 ^ countWidth
   index-small = omega (arith, p .inside, program-in-range size (p .few) image (p .word) (p .read) .short)
 
   stands : (w : Word) → readProgram size image ≡ answered w
@@ -64,14 +64,14 @@ has-letter image size count width i a e h =
     record {
       some = a .some;
       few = a .few;
-      narrow = subst (λ n. n ≤ 4) (sym e) (width-small size);
+      narrow = subst (λ n. n ≤ sizeWidth) (sym e) (width-small size);
       width-is = e;
       word = a .program .word;
       read = a .program .read;
       inside = omega (arith, a .program .count-is);
     }
 
-pub count-small : (image : List ℕ) (size count : ℕ) → Accepted image size count → count < 4096
+pub count-small : (image : List ℕ) (size count : ℕ) → Accepted image size count → count < 2 ^ countWidth
 count-small image size count a =
     omega (arith, a .program .count-is, program-in-range size (a .few) image (a .program .word) (a .program .read) .short)
 

@@ -13,7 +13,7 @@ use Rattle.model.specs.Services.{isForward}
 use Rattle.cells.specs.Layout.{weightAt}
 use Rattle.cells.specs.Stands.{Of}
 use Rattle.cells.proofs.Rules.{of-few, held-weight, light-letter}
-use Rattle.model.specs.Images.{countWidth}
+use Rattle.model.specs.Images.{countWidth, mostSize, sizeWidth}
 use Rattle.images.specs.Fields.{FieldAt}
 use Rattle.images.specs.BitReader.{place, Reads}
 use Rattle.images.specs.declared.bit_reader.BitReader.{BitReader}
@@ -21,18 +21,18 @@ use Rattle.images.specs.Programs.{SignedTaken, cellsWeigh}
 use Rattle.images.proofs.Validating.{program, Validated, validated-none, validated-more}
 
 -- a letter's byte has its number and its sign
-module _ (x : Letter) (h : numberOf x ≤ 16) where
+module _ (x : Letter) (h : numberOf x ≤ mostSize) where
   pub byte-number : byte x % 128 ≡ numberOf x
   byte-number = number x h
     where
-      number : (x : Letter) → numberOf x ≤ 16 → byte x % 128 ≡ numberOf x
+      number : (x : Letter) → numberOf x ≤ mostSize → byte x % 128 ≡ numberOf x
       number (forward a) h = omega arith
       number (back a) h = omega arith
 
   pub byte-sign : byte x / 128 ≡ length (backs (x ∷ []))
   byte-sign = sign x h
     where
-      sign : (x : Letter) → numberOf x ≤ 16 → byte x / 128 ≡ length (backs (x ∷ []))
+      sign : (x : Letter) → numberOf x ≤ mostSize → byte x / 128 ≡ length (backs (x ∷ []))
       sign (forward a) h = omega arith
       sign (back a) h = omega arith
 
@@ -89,7 +89,7 @@ module _ (image cells : List ℕ) (size : ℕ) (T : Presentation) (o : Of cells 
     abbrev letter : Letter
     letter = s .signed .letter
 
-    few : numberOf letter ≤ 16
+    few : numberOf letter ≤ mostSize
     few = omega (arith, s .signed .named .high, of-few o)
 
     number-is : x % 128 ≡ numberOf letter
@@ -105,7 +105,7 @@ module _ (image cells : List ℕ) (size : ℕ) (T : Presentation) (o : Of cells 
         one (forward a) = omega arith
         one (back a) = omega arith
 
-    pub passed-named : InRange 16 (x % 128)
+    pub passed-named : InRange mostSize (x % 128)
     passed-named = record { low = omega (arith, number-is, s .signed .named .low); high = omega (arith, number-is, few) }
 
     pub passed-light : suc (getD cells (weightAt (x % 128)) 0) ≤ 8
@@ -114,7 +114,7 @@ module _ (image cells : List ℕ) (size : ℕ) (T : Presentation) (o : Of cells 
         record { low = passed-named .low; high = omega (arith, number-is, s .signed .named .high, o .sized) } in
         omega (arith, held-weight cells T (o .stands) (x % 128) named, light-letter cells T (o .stands) (x % 128) named)
 
-    pub passed-more : (count : ℕ) → FieldAt image 0 countWidth count → (reader : BitReader) → place reader ≡ at → width ≤ 4 → (turned weight i : ℕ)
+    pub passed-more : (count : ℕ) → FieldAt image 0 countWidth count → (reader : BitReader) → place reader ≡ at → width ≤ sizeWidth → (turned weight i : ℕ)
         → Passed image cells size count reader turned weight i → i < count
         → Passed image cells size count r (turned + x / 128) (weight + suc (getD cells (weightAt (x % 128)) 0)) (i + 1)
     unfolding validated-more

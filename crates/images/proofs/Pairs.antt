@@ -11,7 +11,7 @@ use Rattle.model.specs.Presentation.{Complement, undefined, complement}
 use Rattle.model.specs.Word.{Positive}
 use Rattle.model.specs.Outcome.{unplaced, Outcome, answered, refused, _>>=_}
 use Rattle.model.specs.Bits.{Read, field}
-use Rattle.cells.specs.Layout.{Letters, cellAt}
+use Rattle.cells.specs.Layout.{Letters, cellAt, cellBytes}
 use Rattle.cells.proofs.Kept.{undefined-held, undefined-kept, words-held, words-kept}
 use Rattle.images.specs.Fields.{from}
 use Rattle.images.specs.Forms.{wordIn, wordsIn, pairIn}
@@ -55,7 +55,7 @@ module _ (f : Form) (size : ℕ) (bits : List ℕ) where
 -- ITS CELLS
 
 module _ (f : Form) (size : ℕ) (before : List ℕ) (a b : ℕ) (letters : Letters a b) (less : a < b) where
-  pub cells-undefined : length before ≡ 4096 → (bits rest : List ℕ) → pairIn f size bits ≡ answered (record { value = undefined; rest = rest })
+  pub cells-undefined : length before ≡ cellBytes → (bits rest : List ℕ) → pairIn f size bits ≡ answered (record { value = undefined; rest = rest })
       → PairFrom (pairIn f size) size before a b (set (set before (cellAt a b) 255) (cellAt b a) 255) bits rest
   cells-undefined full bits rest e =
       record { pair = undefined; read = e; holds = undefined-held before a b letters size (omega arith) full; kept = undefined-kept before a b letters }

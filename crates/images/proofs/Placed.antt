@@ -11,8 +11,9 @@ use Rattle.model.specs.Word.{Letter, forward, back, Word}
 use Rattle.model.specs.Equivalence.{Entry}
 use Rattle.model.specs.Outcome.{unplaced, Outcome, answered, refused, _>>=_}
 use Rattle.model.specs.Bits.{Read, field, finish, filling, bitsOf, letterWidth}
-use Rattle.model.specs.Images.{several, signedField, signedBits, readProgram, entryWidth, entryPosition, entryField, entryBits, readChain, countWidth}
+use Rattle.model.specs.Images.{several, signedField, signedBits, readProgram, entryWidth, entryPosition, entryField, entryBits, readChain, countWidth, mostSize}
 use Rattle.model.proofs.Impossible.{answer-of, same-answer}
+use Rattle.model.specs.Images.{chainCountWidth}
 use Rattle.bits.proofs.Digits.{AreBits, length-digits}
 use Rattle.bits.proofs.Bytes.{bits-are-bits}
 use Rattle.bits.proofs.Fields.{bits-drop}
@@ -86,7 +87,7 @@ pub length-signed : (n : ℕ) (x : Letter) → length (signedBits n x) ≡ 1 + l
 length-signed n (forward a) = ap suc (length-digits (letterWidth n) (a - 1)) ∙ omega arith
 length-signed n (back a) = ap suc (length-digits (letterWidth n) (a - 1)) ∙ omega arith
 
-module _ (n : ℕ) (few : n ≤ 16) (image : List ℕ) where
+module _ (n : ℕ) (few : n ≤ mostSize) (image : List ℕ) where
   pub letter-placed : (w : Word) → readProgram n image ≡ answered w → (i : ℕ) → i < length w → (d : Letter)
       → signedField n (from image (countWidth + i * (1 + letterWidth n))) ≡ answered
       (record { value = getD w i d; rest = from image (countWidth + i * (1 + letterWidth n) + (1 + letterWidth n)) })
@@ -109,12 +110,12 @@ module _ (n : ℕ) (few : n ≤ 16) (image : List ℕ) where
   pub entry-placed : (es : List Entry) → readChain n image ≡ answered es → (i : ℕ) → i < length es → (d : Entry)
       → entryField n (from image (entryPosition n i)) ≡ answered (record { value = getD es i d; rest = from image (entryPosition n i + entryWidth n) })
   unfolding readChain
-  entry-placed es e i h d = placed 16 6 4 (entryWidth n) (entryField n) (entryBits n) _ (entry-codec n few) (length-entry n) image es e i h d
+  entry-placed es e i h d = placed chainCountWidth 6 4 (entryWidth n) (entryField n) (entryBits n) _ (entry-codec n few) (length-entry n) image es e i h d
 
   pub entry-inside : (es : List Entry) → readChain n image ≡ answered es → (i : ℕ) → i < length es → entryPosition n i + entryWidth n ≤ 8 * length image
   unfolding readChain
   entry-inside es e i h = omega (
     arith,
-    placed-inside 16 6 4 (entryWidth n) (entryField n) (entryBits n) _ (entry-codec n few) (length-entry n) image es e i h
+    placed-inside chainCountWidth 6 4 (entryWidth n) (entryField n) (entryBits n) _ (entry-codec n few) (length-entry n) image es e i h
         (record { offset = 0; a = 0; b = 0 }),
   )

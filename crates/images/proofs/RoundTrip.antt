@@ -18,6 +18,7 @@ use Rattle.bits.proofs.Digits.{AreBits, digits-are-bits, bits-append}
 use Rattle.bits.proofs.Bytes.{bits-are-bits}
 use Rattle.model.specs.Range.{AreBytes, All, Rows, LetterInRange, PairInRange, EntryInRange, ProgramInRange, TableInRange, ChainInRange}
 use Rattle.model.proofs.Impossible.{answer-of, same-answer}
+use Rattle.model.specs.Images.{mostSize, chainCountWidth, lengthWidth, sizeWidth}
 use Rattle.bits.proofs.Packing.{pack-bits, pack-filling, packed-of}
 use Rattle.images.proofs.Several.{bind-assoc}
 use Rattle.images.proofs.Codec.{Codec, then, several-codec, field-codec, rows-codec, input-rest, bits-suffix}
@@ -63,7 +64,7 @@ letter-are-bits : (n a : ℕ) → AreBits (letterBits n a)
 letter-are-bits n a = digits-are-bits (letterWidth n) (a - 1)
 
 pub word-are-bits : (n : ℕ) (x : Positive) → AreBits (wordBits n x)
-word-are-bits n x = bits-append (digits 4 (length x)) (concatMap (letterBits n) x) (digits-are-bits 4 (length x))
+word-are-bits n x = bits-append (digits lengthWidth (length x)) (concatMap (letterBits n) x) (digits-are-bits lengthWidth (length x))
     (concat-bits (letterBits n) (letter-are-bits n) x)
 
 pub pair-are-bits : (n : ℕ) (c : Complement) → AreBits (pairBits n c)
@@ -79,7 +80,7 @@ entry-are-bits n e = bits-append (digits offsetWidth (e .offset)) (letterBits n 
     (bits-append (letterBits n (e .a)) (letterBits n (e .b)) (letter-are-bits n (e .a)) (letter-are-bits n (e .b)))
 
 -- PROGRAMS
-module _ (n : ℕ) (few : n ≤ 16) where
+module _ (n : ℕ) (few : n ≤ mostSize) where
   program-codec : Codec AreBits (counted 4 countWidth (signedField n) (signedBits n) (LetterInRange n) (signed-codec n few))
       (λ w. digits countWidth (length w) ++ concatMap (signedBits n) w) (λ w. (length w < 2 ^ countWidth) × All (LetterInRange n) w)
   program-codec = counted-codec 4 countWidth (signedField n) (signedBits n) (LetterInRange n) (signed-codec n few)
@@ -110,17 +111,18 @@ module _ (n : ℕ) (few : n ≤ 16) where
       record { short = p .0; letters = p .1 }
 
   -- CHAINS
-  chain-codec : Codec AreBits (counted 4 16 (entryField n) (entryBits n) (EntryInRange n) (entry-codec n few))
-      (λ es. digits 16 (length es) ++ concatMap (entryBits n) es) (λ es. (length es < 2 ^ 16) × All (EntryInRange n) es)
-  chain-codec = counted-codec 4 16 (entryField n) (entryBits n) (EntryInRange n) (entry-codec n few)
+  chain-codec : Codec AreBits (counted 4 chainCountWidth (entryField n) (entryBits n) (EntryInRange n) (entry-codec n few))
+      (λ es. digits chainCountWidth (length es) ++ concatMap (entryBits n) es) (λ es. (length es < 2 ^ chainCountWidth) × All (EntryInRange n) es)
+  chain-codec = counted-codec 4 chainCountWidth (entryField n) (entryBits n) (EntryInRange n) (entry-codec n few)
 
-  chain-bits : (es : List Entry) → AreBits (digits 16 (length es) ++ concatMap (entryBits n) es)
-  chain-bits es = bits-append (digits 16 (length es)) (concatMap (entryBits n) es) (digits-are-bits 16 (length es))
+  chain-bits : (es : List Entry) → AreBits (digits chainCountWidth (length es) ++ concatMap (entryBits n) es)
+  chain-bits es = bits-append (digits chainCountWidth (length es)) (concatMap (entryBits n) es) (digits-are-bits chainCountWidth (length es))
       (concat-bits (entryBits n) (entry-are-bits n) es)
 
-  chain-is : (bytes : List ℕ) → readChain n bytes ≡ (counted 4 16 (entryField n) (entryBits n) (EntryInRange n) (entry-codec n few) (bitsOf bytes) >>= finish 6)
+  chain-is : (bytes : List ℕ)
+      → readChain n bytes ≡ (counted 4 chainCountWidth (entryField n) (entryBits n) (EntryInRange n) (entry-codec n few) (bitsOf bytes) >>= finish 6)
   unfolding readChain
-  chain-is bytes = sym (bind-assoc (field 4 16 (bitsOf bytes)) (λ k. several (entryField n) (k .value) (k .rest)) (finish 6))
+  chain-is bytes = sym (bind-assoc (field 4 chainCountWidth (bitsOf bytes)) (λ k. several (entryField n) (k .value) (k .rest)) (finish 6))
 
   pub chain-reads-back : (es : List Entry) → ChainInRange n es → readChain n (chainImage n es) ≡ answered es
   unfolding chainImage
@@ -139,7 +141,7 @@ module _ (n : ℕ) (few : n ≤ 16) where
       record { short = p .0; entries = p .1 }
 
 -- TABLES
-rows-of : (n : ℕ) → n ≤ 16 → Codec AreBits (rowsOf (pairField n) n) (concatMap (concatMap (pairBits n))) (Rows (PairInRange n) n)
+rows-of : (n : ℕ) → n ≤ mostSize → Codec AreBits (rowsOf (pairField n) n) (concatMap (concatMap (pairBits n))) (Rows (PairInRange n) n)
 rows-of n few = rows-codec AreBits bits-suffix (pairField n) (pairBits n) (PairInRange n) (pair-codec n few) n
 
 weights-of : (n : ℕ) → Codec AreBits (several (field 1 weightWidth) n) (concatMap (digits weightWidth))
@@ -166,7 +168,7 @@ record BodyInRange (n : ℕ) (T : Presentation) : Type 0 where
   pub light : All (λ w. w < 2 ^ weightWidth) (T .excess)
   pub pairs : Rows (PairInRange n) n (T .rows)
 
-module _ (n : ℕ) (few : n ≤ 16) where
+module _ (n : ℕ) (few : n ≤ mostSize) where
   body-back : (T : Presentation) → BodyInRange n T → (rest : List ℕ) → body n (bodyBits n T ++ rest) ≡ answered (record { value = T; rest = rest })
   unfolding body afterWeights bodyBits
   body-back T h rest =
@@ -202,16 +204,16 @@ module _ (n : ℕ) (few : n ≤ 16) where
 
 tableBody : List ℕ → Outcome (Read Presentation)
 unfolding body
-tableBody input = field 1 4 input >>= λ head. body (head .value + 1) (head .rest)
+tableBody input = field 1 sizeWidth input >>= λ head. body (head .value + 1) (head .rest)
 
 tableBits : Presentation → List ℕ
 unfolding bodyBits
-tableBits T = digits 4 (T .size - 1) ++ bodyBits (T .size) T
+tableBits T = digits sizeWidth (T .size - 1) ++ bodyBits (T .size) T
 
 table-are-bits : (T : Presentation) → AreBits (tableBits T)
 unfolding tableBits bodyBits
 table-are-bits T =
-    bits-append (digits 4 (T .size - 1)) (bodyBits (T .size) T) (digits-are-bits 4 (T .size - 1))
+    bits-append (digits sizeWidth (T .size - 1)) (bodyBits (T .size) T) (digits-are-bits sizeWidth (T .size - 1))
     (bits-append (concatMap (digits weightWidth) (T .excess)) (concatMap (concatMap (pairBits (T .size))) (T .rows))
     (concat-bits (digits weightWidth) (digits-are-bits weightWidth) (T .excess))
     (concat-bits (concatMap (pairBits (T .size))) (concat-bits (pairBits (T .size)) (pair-are-bits (T .size))) (T .rows)))
@@ -220,18 +222,18 @@ table-parts : (input : List ℕ) → AreBits input → (r : Read Presentation) �
     × TableInRange (r .value)
 unfolding tableBody tableBits
 table-parts input i r e =
-    let h = answer-of (field 1 4 input) (λ head. body (head .value + 1) (head .rest)) r e in
+    let h = answer-of (field 1 sizeWidth input) (λ head. body (head .value + 1) (head .rest)) r e in
     let small : h .0 .value < 2 ^ 4 = field-codec 1 4 .in-range input i (h .0) (h .1) in
     let j = input-rest AreBits bits-suffix (field-codec 1 4) input i (h .0) (h .1) in
-    let few : h .0 .value + 1 ≤ 16 = omega arith in
+    let few : h .0 .value + 1 ≤ mostSize = omega arith in
     let p = body-parts (h .0 .value + 1) few (h .0 .rest) j r (h .2) in
     let size : r .value .size ≡ h .0 .value + 1 = p .1 .sized in
     let less : h .0 .value ≡ r .value .size - 1 = omega arith in (
       field-codec 1 4 .stood-there input i (h .0) (h .1)
-          ∙ (ap (λ l. digits 4 (h .0 .value) ++ l) (p .0)
-          ∙ (ap (λ v. digits 4 v ++ (bodyBits (h .0 .value + 1) (r .value) ++ r .rest)) less
-          ∙ (ap (λ k. digits 4 (r .value .size - 1) ++ (bodyBits k (r .value) ++ r .rest)) (sym size)
-          ∙ sym (append-assoc (digits 4 (r .value .size - 1)) (bodyBits (r .value .size) (r .value)) (r .rest))))),
+          ∙ (ap (λ l. digits sizeWidth (h .0 .value) ++ l) (p .0)
+          ∙ (ap (λ v. digits sizeWidth v ++ (bodyBits (h .0 .value + 1) (r .value) ++ r .rest)) less
+          ∙ (ap (λ k. digits sizeWidth (r .value .size - 1) ++ (bodyBits k (r .value) ++ r .rest)) (sym size)
+          ∙ sym (append-assoc (digits sizeWidth (r .value .size - 1)) (bodyBits (r .value .size) (r .value)) (r .rest))))),
       record {
         some = omega arith;
         few = omega arith;
@@ -246,8 +248,8 @@ unfolding tableBody tableBits
 table-codec =
     record {
       reads-back = λ T h rest.
-          ap tableBody (append-assoc (digits 4 (T .size - 1)) (bodyBits (T .size) T) rest)
-          ∙ then (field 1 4 (digits 4 (T .size - 1) ++ (bodyBits (T .size) T ++ rest))) (λ head. body (head .value + 1) (head .rest))
+          ap tableBody (append-assoc (digits sizeWidth (T .size - 1)) (bodyBits (T .size) T) rest)
+          ∙ then (field 1 sizeWidth (digits sizeWidth (T .size - 1) ++ (bodyBits (T .size) T ++ rest))) (λ head. body (head .value + 1) (head .rest))
           (record { value = T .size - 1; rest = bodyBits (T .size) T ++ rest }) _
           (field-codec 1 4 .reads-back (T .size - 1) (omega (arith, h .few)) (bodyBits (T .size) T ++ rest))
           (ap (λ k. body k (bodyBits (T .size) T ++ rest)) {x = T .size - 1 + 1} {y = T .size} (omega (arith, h .some))
@@ -258,7 +260,8 @@ table-codec =
 
 table-is : (bytes : List ℕ) → readTable bytes ≡ (tableBody (bitsOf bytes) >>= finish 3)
 unfolding readTable tableBody body afterWeights
-table-is bytes = sym (bind-assoc (field 1 4 (bitsOf bytes)) (λ head. body (head .value + 1) (head .rest)) (finish 3) ∙ at-head (field 1 4 (bitsOf bytes)))
+table-is bytes = sym
+    (bind-assoc (field 1 sizeWidth (bitsOf bytes)) (λ head. body (head .value + 1) (head .rest)) (finish 3) ∙ at-head (field 1 sizeWidth (bitsOf bytes)))
   where
     at-rows : (n : ℕ) (o : Outcome (Read (List ℕ))) → (o >>= λ ws. afterWeights n ws >>= finish 3)
         ≡ (o >>= λ ws. rowsOf (pairField n) n (ws .rest) >>= λ rs. finish 3

@@ -14,7 +14,7 @@ use lib.Seq.{getD-at}
 use Rattle.model.specs.Presentation.{Presentation, Complement, undefined, complement, swapped, listed, complete}
 use Rattle.model.specs.Outcome.{unplaced, Outcome, answered, refused, _>>=_}
 use Rattle.model.specs.Bits.{Read, bitsOf, finish, filling}
-use Rattle.model.specs.Images.{several, rowsOf}
+use Rattle.model.specs.Images.{several, rowsOf, mostSize}
 use Rattle.model.proofs.Numbers.{below-or}
 use Rattle.images.specs.Forms.{formOf, numberIn, weightIn, pairIn, rowsIn, partsIn, tableIn}
 use Rattle.cells.specs.Layout.{Letters, cellAt, weightAt}
@@ -57,10 +57,10 @@ pub record RowFilled (reader : List ℕ → Outcome (Read Complement)) (begin : 
   pub resumed : several reader (size - a) begin ≡ after done (several reader (size + 1 - b) rest)
   pub holds : HoldsRow size cells a done
   pub kept : (p q : ℕ) → Letters p q → (p < a) ⊎ (q < a) → SameCell before cells p q
-  pub diagonal : (p : ℕ) → InRange 16 p → SameCell before cells p p
+  pub diagonal : (p : ℕ) → InRange mostSize p → SameCell before cells p p
 
 module _ (reader : List ℕ → Outcome (Read Complement)) (begin : List ℕ) (size : ℕ) (before : List ℕ) (a : ℕ) (positive : 1 ≤ a) (small : a ≤ size)
-    (few : size ≤ 16) where
+    (few : size ≤ mostSize) where
   pub row-none : RowFilled reader begin size before a before begin (a + 1)
   row-none =
       record {
@@ -139,7 +139,8 @@ module _ (reader : List ℕ → Outcome (Read Complement)) (begin : List ℕ) (s
 -- ROWS
 
 -- weights stand where they stood, if no place of one changed
-weights-kept : (size : ℕ) → size ≤ 16 → (before after excess : List ℕ) → ((p : ℕ) → InRange 16 p → getD after (weightAt p) 0 ≡ getD before (weightAt p) 0)
+weights-kept : (size : ℕ) → size ≤ mostSize → (before after excess : List ℕ)
+    → ((p : ℕ) → InRange mostSize p → getD after (weightAt p) 0 ≡ getD before (weightAt p) 0)
     → HoldsWeights size before excess → HoldsWeights size after excess
 weights-kept size few before after excess same h =
     record {
@@ -160,7 +161,7 @@ pub record RowsFilled (reader : List ℕ → Outcome (Read Complement)) (begin :
   pub holds : (i : ℕ) → i < length done → HoldsRow size cells (1 + i) (getD done i [])
 
 -- the pair a, b, whichever way round, from its row
-module _ (cells : List ℕ) (size : ℕ) (rows : List (List Complement)) (few : size ≤ 16)
+module _ (cells : List ℕ) (size : ℕ) (rows : List (List Complement)) (few : size ≤ mostSize)
     (holds : (i : ℕ) → i < length rows → HoldsRow size cells (1 + i) (getD rows i []))
     (many : length rows ≡ size) (widths : (i : ℕ) → i < length rows → length (getD rows i []) ≡ size - (1 + i)) (excess : List ℕ) where
   abbrev T : Presentation
@@ -197,7 +198,7 @@ module _ (cells : List ℕ) (size : ℕ) (rows : List (List Complement)) (few : 
       differ : b ≤ a → b < a
       differ h = ⊎-elim (λ (x : b < a). x) (λ (x : a ≤ b). let e : a ≡ b = omega arith in absurd (d e)) (below-or b a)
 
-module _ (reader : List ℕ → Outcome (Read Complement)) (begin : List ℕ) (size : ℕ) (some : 1 ≤ size) (few : size ≤ 16) where
+module _ (reader : List ℕ → Outcome (Read Complement)) (begin : List ℕ) (size : ℕ) (some : 1 ≤ size) (few : size ≤ mostSize) where
   pub rows-none : (cells : List ℕ) → Blank cells → RowsFilled reader begin size cells cells begin 1
   rows-none cells blank =
       record {
@@ -296,7 +297,7 @@ module _ (reader : List ℕ → Outcome (Read Complement)) (begin : List ℕ) (s
 
 -- WITH THE END, in a form
 
-module _ (f : Form) (begin : List ℕ) (size : ℕ) (some : 1 ≤ size) (few : size ≤ 16) (start cells rest : List ℕ) (a : ℕ)
+module _ (f : Form) (begin : List ℕ) (size : ℕ) (some : 1 ≤ size) (few : size ≤ mostSize) (start cells rest : List ℕ) (a : ℕ)
     (filled : RowsFilled (pairIn f size) begin size start cells rest a) (excess : List ℕ) where
   unfoldable ending : Outcome (Read (List (List Complement))) → Outcome Presentation
   ending o = o >>= λ rs. finish 3 (record { value = record { size = size; excess = excess; rows = rs .value }; rest = rs .rest })
@@ -330,7 +331,7 @@ module _ (kind : Kind) (input : List ℕ) where
   sized o = o >>= λ n. partsIn (formOf kind (n .value + 1)) (n .value + 1) (n .rest)
 
   abbrev pub sizeRead : Outcome (Read ℕ)
-  sizeRead = numberIn (formOf kind 1 .sizes) (formOf kind 1 .more) 16 (bitsOf input)
+  sizeRead = numberIn (formOf kind 1 .sizes) (formOf kind 1 .more) mostSize (bitsOf input)
 
   pub size-refused : (n : ℕ) → sizeRead ≡ refused n unplaced → tableIn kind input ≡ refused n unplaced
   unfolding tableIn sized

@@ -11,7 +11,7 @@ use borrow.Author.Tests.{eq-eqb, ne-eqb}
 use Rattle.model.specs.Word.{Letter, forward, back}
 use Rattle.model.specs.Outcome.{unplaced, Outcome, answered, refused, _>>=_}
 use Rattle.model.specs.Bits.{Read, field, number}
-use Rattle.model.specs.Images.{letterField, signedField, signed}
+use Rattle.model.specs.Images.{letterField, signedField, signed, mostSize}
 use Rattle.images.specs.Fields.{FieldAt, LetterAt, from}
 use Rattle.images.specs.BitReader.{ReadsFrom, TakenAt}
 use Rattle.images.specs.declared.bit_reader.BitReader.{BitReader}
@@ -93,7 +93,7 @@ module _ (image : List ℕ) (at size width : ℕ) (of : WidthOf size width) wher
     pub sign-small : v / 2 ^ width < 2
     sign-small = omega (arith, sign-at .small)
 
-    pub number-small : v % 2 ^ width < 16
+    pub number-small : v % 2 ^ width < mostSize
     number-small =
         let most : 2 ^ width ≤ 2 ^ 4 = pow-mono {i = width} {j = 4} (of .narrow) in
         omega (arith, number-at .small)

@@ -7,9 +7,9 @@ use lib.ListN.{length, getD, set, length-append, length-set}
 use lib.Seq.{getD-set-same, getD-set-other}
 use Rattle.model.specs.Outcome.{unplaced, Outcome, answered, refused}
 use Rattle.model.specs.Bits.{Read}
-use Rattle.model.specs.Images.{weightWidth, several}
+use Rattle.model.specs.Images.{weightWidth, several, mostSize}
 use Rattle.model.specs.Range.{InRange}
-use Rattle.cells.specs.Layout.{cellAt, weightAt}
+use Rattle.cells.specs.Layout.{cellAt, weightAt, cellBytes}
 use Rattle.images.specs.Tables.{WeightsFrom}
 use Rattle.images.proofs.Several.{after, after-none, several-step, several-refused, several-done}
 use Rattle.images.proofs.Rows.{one-more}
@@ -23,9 +23,9 @@ pub record WeightsFilled (reader : List ℕ → Outcome (Read ℕ)) (begin : Lis
   pub resumed : several reader size begin ≡ after done (several reader (size + 1 - a) rest)
   pub holds : (k : ℕ) → k < length done → getD cells (weightAt (1 + k)) 0 ≡ getD done k 0
   pub light : (k : ℕ) → k < length done → getD done k 0 < 2 ^ weightWidth
-  pub kept : (p : ℕ) → InRange 16 p → getD cells (cellAt p p) 0 ≡ getD before (cellAt p p) 0
+  pub kept : (p : ℕ) → InRange mostSize p → getD cells (cellAt p p) 0 ≡ getD before (cellAt p p) 0
 
-module _ (reader : List ℕ → Outcome (Read ℕ)) (begin : List ℕ) (size : ℕ) (few : size ≤ 16) (before : List ℕ) (full : length before ≡ 4096) where
+module _ (reader : List ℕ → Outcome (Read ℕ)) (begin : List ℕ) (size : ℕ) (few : size ≤ mostSize) (before : List ℕ) (full : length before ≡ cellBytes) where
   pub weights-none : WeightsFilled reader begin size before before begin 1
   weights-none =
       record {

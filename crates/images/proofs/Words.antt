@@ -10,12 +10,13 @@ use lib.Seq.{getD-set-same, getD-set-other, getD-at}
 use Rattle.model.specs.Word.{Positive}
 use Rattle.model.specs.Outcome.{unplaced, Outcome, answered, refused}
 use Rattle.model.specs.Bits.{Read}
-use Rattle.model.specs.Images.{several}
+use Rattle.model.specs.Images.{several, wordLengths}
 use Rattle.model.proofs.Numbers.{below-or}
 use Rattle.model.proofs.Lists.{all-more}
 use Rattle.model.specs.Range.{All, InRange}
 use Rattle.cells.specs.Kept.{KeptOutside}
 use Rattle.cells.proofs.Kept.{kept-store}
+use Rattle.cells.specs.Layout.{cellLength}
 use Rattle.images.specs.Tables.{WordFrom}
 use Rattle.images.proofs.Several.{after, after-none, several-step, several-refused, several-done}
 
@@ -48,8 +49,8 @@ stored-letters cells place done a h old j l =
     ∙ (sym (getD-at done a [] 0 (length done) refl) ∙ ap (λ j. getD (done ++ (a ∷ [])) j 0) (sym e))))
     (below-or j (length done))
 
-module _ (reader : List ℕ → Outcome (Read ℕ)) (begin : List ℕ) (size : ℕ) (before : List ℕ) (cell count : ℕ) (room : cell + 16 ≤ length before)
-    (small : count < 16) where
+module _ (reader : List ℕ → Outcome (Read ℕ)) (begin : List ℕ) (size : ℕ) (before : List ℕ) (cell count : ℕ) (room : cell + cellLength ≤ length before)
+    (small : count < wordLengths) where
   pub letters-none : Filled reader begin size (set before cell count) cell count (set before cell count) begin 0
   letters-none =
       record {

@@ -5,7 +5,7 @@ use Prim.Native.Nat.{ℕ, _+_, _*_, _≤_, _<_}
 use lib.ListN.{length}
 use Rattle.model.specs.Equivalence.{Entry}
 use Rattle.model.specs.Outcome.{unplaced, answered, refused}
-use Rattle.model.specs.Images.{offsetWidth, entryField, readChain}
+use Rattle.model.specs.Images.{offsetWidth, entryField, readChain, mostSize}
 use Rattle.model.specs.Stated.{refusal}
 use Rattle.images.specs.Fields.{from}
 use Rattle.entries.specs.declared.entry.ChainEntry.{ChainEntry}
@@ -40,7 +40,7 @@ ChainDone image size (Refused r) = readChain size image ≡ refusal r
 -- an accepted chain has an entry numbered i, from 0
 pub record HasEntry (image : List ℕ) (size i : ℕ) : Type 0 where
   pub some : 1 ≤ size
-  pub few : size ≤ 16
+  pub few : size ≤ mostSize
   pub entries : List Entry
   pub read : readChain size image ≡ answered entries
   pub inside : i < length entries

@@ -5,15 +5,16 @@ use Prim.Native.Nat.{ℕ, _+_, _*_, _^_, _≤_, _<_}
 use lib.ListN.{length, drop}
 use Rattle.model.specs.Outcome.{unplaced, answered, refused}
 use Rattle.model.specs.Bits.{bitsOf, field, letterWidth}
-use Rattle.model.specs.Images.{letterField}
+use Rattle.model.specs.Images.{letterField, mostSize, sizeWidth}
 use Rattle.images.specs.declared.fields.Field.{Field}
 use Rattle.images.specs.declared.fields.Field.the-variants.{Value, Ends}
 use Rattle.images.specs.declared.fields.LetterField.{LetterField}
 use Rattle.images.specs.declared.fields.LetterField.the-variants.{Letter, Ends as LetterEnds, Wrong}
+use Rattle.bits.specs.Fields.{mostWidth}
 
 -- a position inside an image, before a field of at most 16 bits whose end is a `usize`
 pub record Position (image : List ℕ) (at width : ℕ) : Type 0 where
-  pub narrow : width ≤ 16
+  pub narrow : width ≤ mostWidth
   pub inside : at ≤ 8 * length image
   pub small : at + width + 7 < 2 ^ 64
 
@@ -22,8 +23,8 @@ pub record Before (image : List ℕ) (at size width : ℕ) : Type 0 where
   pub inside : at ≤ 8 * length image
   pub small : at ≤ 2 ^ 40
   pub some : 1 ≤ size
-  pub few : size ≤ 16
-  pub narrow : width ≤ 4
+  pub few : size ≤ mostSize
+  pub narrow : width ≤ sizeWidth
   pub width-is : width ≡ letterWidth size
 
 -- the bits from a position on

@@ -8,7 +8,7 @@ use Rattle.model.specs.Word.{Positive}
 use Rattle.model.specs.Presentation.{Presentation, Complement, undefined, complement}
 use Rattle.model.specs.Outcome.{Outcome, answered, _>>=_, unless}
 use Rattle.model.specs.Bits.{Read, bitsOf, field, letterWidth, finish}
-use Rattle.model.specs.Images.{sizeWidth, weightWidth, lengthWidth, several, rowsOf}
+use Rattle.model.specs.Images.{sizeWidth, weightWidth, lengthWidth, several, rowsOf, mostSize, wordLengths}
 use Rattle.model.specs.Plain.{openByte, mostWeight}
 use Rattle.images.specs.declared.forms.Form.{Form}
 use Rattle.images.specs.declared.forms.Kind.{Kind}
@@ -60,7 +60,7 @@ abbrev pub letterIn : Form → ℕ → List ℕ → Outcome (Read ℕ)
 letterIn f size bits = numberIn (f .letters) (f .more) size bits >>= λ r. answered (record { value = r .value + 1; rest = r .rest })
 
 abbrev pub wordIn : Form → ℕ → List ℕ → Outcome (Read Positive)
-wordIn f size bits = numberIn (f .lengths) 0 16 bits >>= λ k. several (letterIn f size) (k .value) (k .rest)
+wordIn f size bits = numberIn (f .lengths) 0 wordLengths bits >>= λ k. several (letterIn f size) (k .value) (k .rest)
 
 abbrev pub wordsIn : Form → ℕ → List ℕ → Outcome (Read Complement)
 wordsIn f size bits =
@@ -85,5 +85,5 @@ partsIn f size bits = several (weightIn f) size bits >>= λ ws. rowsIn f size (w
 
 unfoldable pub tableIn : Kind → List ℕ → Outcome Presentation
 tableIn kind input =
-    numberIn (formOf kind 1 .sizes) (formOf kind 1 .more) 16 (bitsOf input) >>= λ n.
+    numberIn (formOf kind 1 .sizes) (formOf kind 1 .more) mostSize (bitsOf input) >>= λ n.
     partsIn (formOf kind (n .value + 1)) (n .value + 1) (n .rest)

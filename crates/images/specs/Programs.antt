@@ -7,7 +7,7 @@ use lib.ListN.{length, getD}
 use Rattle.model.specs.Word.{Letter, Word, byte, Positive, positive}
 use Rattle.model.specs.Outcome.{unplaced, Outcome, answered, refused}
 use Rattle.model.specs.Bits.{letterWidth}
-use Rattle.model.specs.Images.{signedField, readProgram}
+use Rattle.model.specs.Images.{signedField, readProgram, mostSize, sizeWidth}
 use Rattle.model.specs.Services.{isForward, readForward}
 use Rattle.model.specs.Range.{numberOf, LetterInRange}
 use Rattle.model.specs.Stated.{refusal}
@@ -39,7 +39,7 @@ pub record SignedTaken (image : List ℕ) (at size width x : ℕ) (r : BitReader
 pub record LetterTaken (image : List ℕ) (at size width sign number : ℕ) (r : BitReader) : Type 0 where
   pub taken : SignedTaken image at size width (sign * 128 + number) r
   pub sign-small : sign ≤ 1
-  pub number-small : number ≤ 16
+  pub number-small : number ≤ mostSize
 
 abbrev pub SignedDone : List ℕ → ℕ → ℕ → ℕ → SignedField → Type 0
 SignedDone image at size width (SignedLetter sign number r) = LetterTaken image at size width sign number r
@@ -70,14 +70,14 @@ ProgramDone image cells size (Refused r) = readProgram size image ≡ refusal r
 -- an image of a program of so many letters, under a number of letters that a table can have
 pub record Accepted (image : List ℕ) (size count : ℕ) : Type 0 where
   pub some : 1 ≤ size
-  pub few : size ≤ 16
+  pub few : size ≤ mostSize
   pub program : ProgramOf image size count
 
 -- an accepted program has a letter numbered i, from 0
 pub record HasLetter (image : List ℕ) (size width i : ℕ) : Type 0 where
   pub some : 1 ≤ size
-  pub few : size ≤ 16
-  pub narrow : width ≤ 4
+  pub few : size ≤ mostSize
+  pub narrow : width ≤ sizeWidth
   pub width-is : width ≡ letterWidth size
   pub word : Word
   pub read : readProgram size image ≡ answered word

@@ -8,7 +8,7 @@ use Rattle.model.specs.Word.{Positive}
 use Rattle.model.specs.Presentation.{Presentation, Complement, undefined}
 use Rattle.model.specs.Outcome.{unplaced, Outcome, answered, refused}
 use Rattle.model.specs.Bits.{Read}
-use Rattle.model.specs.Images.{several, readTable}
+use Rattle.model.specs.Images.{several, readTable, mostSize}
 use Rattle.model.specs.Stated.{refusal}
 use Rattle.images.specs.Fields.{from}
 use Rattle.images.specs.BitReader.{place, Reads}
@@ -71,7 +71,7 @@ pub record RowFrom (reader : List ℕ → Outcome (Read Complement)) (size : ℕ
   pub read : several reader (size - a) input ≡ answered (record { value = row; rest = rest })
   pub holds : HoldsRow size after a row
   pub kept : (p q : ℕ) → Letters p q → (p < a) ⊎ (q < a) → SameCell before after p q
-  pub diagonal : (p : ℕ) → InRange 16 p → SameCell before after p p
+  pub diagonal : (p : ℕ) → InRange mostSize p → SameCell before after p p
 
 abbrev pub RowDone : List ℕ → ℕ → Form → ℕ → List ℕ → ℕ → List ℕ → TablePart → Type 0
 RowDone input at f size before a after r = PartDone (several (pairIn f size) (size - a)) (RowFrom (pairIn f size) size before a after) input at r
@@ -87,7 +87,7 @@ pub record WeightsFrom (reader : List ℕ → Outcome (Read ℕ)) (size : ℕ) (
   pub excess : List ℕ
   pub read : several reader size input ≡ answered (record { value = excess; rest = rest })
   pub holds : HoldsWeights size after excess
-  pub kept : (p : ℕ) → InRange 16 p → getD after (cellAt p p) 0 ≡ getD before (cellAt p p) 0
+  pub kept : (p : ℕ) → InRange mostSize p → getD after (cellAt p p) 0 ≡ getD before (cellAt p p) 0
 
 abbrev pub WeightsDone : List ℕ → ℕ → Form → ℕ → List ℕ → List ℕ → TablePart → Type 0
 WeightsDone input at f size before after r = PartDone (several (weightIn f) size) (WeightsFrom (weightIn f) size before after) input at r
@@ -119,7 +119,7 @@ pub record SizeOf (image : List ℕ) (size : ℕ) : Type 0 where
   pub read : readTable image ≡ answered table
   pub size-is : table .size ≡ size
   pub some : 1 ≤ size
-  pub few : size ≤ 16
+  pub few : size ≤ mostSize
 
 abbrev pub SizeDone : List ℕ → TableRead → Type 0
 SizeDone image (Table size) = SizeOf image size

@@ -14,7 +14,7 @@ ghost use Prim.Native.Nat.{_+_, _≤_, _<_};
 ghost use lib.ListN.{getD};
 ghost use Rattle.model.specs.Equivalence.{Entry};
 ghost use Rattle.model.specs.Outcome.{answered};
-ghost use Rattle.model.specs.Images.{readChain};
+ghost use Rattle.model.specs.Images.{readChain, mostSize};
 ghost use Rattle.images.specs.Fields.{Before};
 ghost use Rattle.images.specs.Chains.{entryOf, EntryDone, ChainDone, HasEntry};
 
@@ -52,7 +52,7 @@ pub fn next_entry(image: &[u8], at: usize, size: u8, width: usize) -> EntryField
 
 // Refusal 4 or 5, whichever is come to first, then 6 (specification 5.3); nothing is written.
 pub fn read_chain(image: &[u8], size: u8) -> ChainRead
-    requires { ⌜ (1 ≤ size) × (size ≤ 16) ⌝ }
+    requires { ⌜ (1 ≤ size) × (size ≤ mostSize) ⌝ }
     ensures { λ r. ⌜ ChainDone (now (image .entry)) size r ⌝ }
 {
     let Field::Value(count) = fields::next_field(image, 0, COUNT_BITS) else {

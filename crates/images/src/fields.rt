@@ -4,6 +4,7 @@ ghost use mathlib.Core.Path.{_≡_};
 ghost use Prim.Native.Nat.{_+_, _*_, _≤_};
 ghost use lib.ListN.{drop};
 ghost use Rattle.model.specs.Bits.{bitsOf, letterWidth, filling};
+ghost use Rattle.model.specs.Images.{mostSize};
 ghost use Rattle.images.specs.Fields.{FieldDone, LetterDone, Position};
 
 // What stands at a position: a field's number, or too few bits.
@@ -31,7 +32,7 @@ pub fn next_field(image: &[u8], at: usize, width: usize) -> Field
 
 // `width` is the width of a letter under `size` letters.
 pub fn next_letter(image: &[u8], at: usize, size: u8, width: usize) -> LetterField
-    requires { ⌜ Position (now image) at width × (width ≡ letterWidth size) × (size ≤ 16) ⌝ }
+    requires { ⌜ Position (now image) at width × (width ≡ letterWidth size) × (size ≤ mostSize) ⌝ }
     ensures { λ r. ⌜ LetterDone (now (image .entry)) at size width r ⌝ }
 {
     match next_field(image, at, width) {

@@ -3,6 +3,7 @@
 ghost use mathlib.Core.Path.{_≡_};
 ghost use Prim.Native.Nat.{_≤_};
 ghost use Rattle.images.specs.Forms.{imageForm, plainForm, formOf};
+ghost use Rattle.model.specs.Images.{mostSize};
 use cells::layout::UNDEFINED;
 
 // The bits of a table's number of letters, of a weight, of the mark that a pair is defined, and of a word's length.
@@ -40,7 +41,7 @@ pub struct Form {
 
 // The image of a table of so many letters.
 pub fn image_form(size: u8) -> Form
-    requires { ⌜ (1 ≤ size) × (size ≤ 16) ⌝ }
+    requires { ⌜ (1 ≤ size) × (size ≤ mostSize) ⌝ }
     ensures { λ r. ⌜ r ≡ imageForm size ⌝ }
 {
     Form {
@@ -77,7 +78,7 @@ pub fn plain_form() -> Form
 
 // The form of a table of so many letters.
 pub fn form_of(kind: Kind, size: u8) -> Form
-    requires { ⌜ (1 ≤ size) × (size ≤ 16) ⌝ }
+    requires { ⌜ (1 ≤ size) × (size ≤ mostSize) ⌝ }
     ensures { λ r. ⌜ r ≡ formOf kind size ⌝ }
 {
     match kind {

@@ -19,11 +19,12 @@ use model::plain::MOST_WEIGHT;
 ghost use mathlib.Core.Path.{_≡_};
 ghost use Prim.Native.Nat.{_+_, _≤_, _<_};
 ghost use lib.ListN.{length};
-ghost use Rattle.cells.specs.Layout.{Letters};
+ghost use Rattle.cells.specs.Layout.{Letters, cellLength, cellBytes};
 ghost use Rattle.cells.specs.Stands.{Blank};
 ghost use Rattle.images.specs.BitReader.{place, Reads};
 ghost use Rattle.images.specs.Forms.{Narrow, tableIn};
 ghost use Rattle.images.specs.Tables.{WordDone, HeadDone, PairDone, RowDone, WeightsDone, RowsDone, LoadedAs, TableDone, SizeDone};
+ghost use Rattle.model.specs.Images.{mostSize};
 
 // The most letters of a table, and one more than the most of a word.
 pub const MOST_SIZE: u8 = 16;
@@ -51,7 +52,7 @@ pub fn read_word(
     cells: &mut [u8],
     cell: usize,
 ) -> TablePart
-    requires { ⌜ Reads (now input) begin × Narrow form × (size ≤ 16) × (cell + 16 ≤ length (now cells)) ⌝ }
+    requires { ⌜ Reads (now input) begin × Narrow form × (size ≤ mostSize) × (cell + cellLength ≤ length (now cells)) ⌝ }
     ensures length { λ r. ⌜ length (now (cells .exit)) ≡ length (now (cells .entry)) ⌝ }
     ensures word { λ r. ⌜ WordDone (now (input .entry)) (place begin) form size (now (cells .entry)) cell (now (cells .exit)) r ⌝ }
 {
@@ -124,7 +125,7 @@ pub fn read_pair(
     a: u8,
     b: u8,
 ) -> TablePart
-    requires { ⌜ Reads (now input) begin × Narrow form × (size ≤ 16) × Letters a b × (a < b) × (length (now cells) ≡ 4096) ⌝ }
+    requires { ⌜ Reads (now input) begin × Narrow form × (size ≤ mostSize) × Letters a b × (a < b) × (length (now cells) ≡ cellBytes) ⌝ }
     ensures length { λ r. ⌜ length (now (cells .exit)) ≡ length (now (cells .entry)) ⌝ }
     ensures pair { λ r. ⌜ PairDone (now (input .entry)) (place begin) form size (now (cells .entry)) a b (now (cells .exit)) r ⌝ }
 {
@@ -156,7 +157,7 @@ pub fn read_row(
     cells: &mut [u8],
     a: u8,
 ) -> TablePart
-    requires { ⌜ Reads (now input) begin × Narrow form × (1 ≤ a) × (a ≤ size) × (size ≤ 16) × (length (now cells) ≡ 4096) ⌝ }
+    requires { ⌜ Reads (now input) begin × Narrow form × (1 ≤ a) × (a ≤ size) × (size ≤ mostSize) × (length (now cells) ≡ cellBytes) ⌝ }
     ensures length { λ r. ⌜ length (now (cells .exit)) ≡ length (now (cells .entry)) ⌝ }
     ensures row { λ r. ⌜ RowDone (now (input .entry)) (place begin) form size (now (cells .entry)) a (now (cells .exit)) r ⌝ }
 {
@@ -183,7 +184,7 @@ pub fn read_weights(
     size: u8,
     cells: &mut [u8],
 ) -> TablePart
-    requires { ⌜ Reads (now input) begin × Narrow form × (size ≤ 16) × (length (now cells) ≡ 4096) ⌝ }
+    requires { ⌜ Reads (now input) begin × Narrow form × (size ≤ mostSize) × (length (now cells) ≡ cellBytes) ⌝ }
     ensures length { λ r. ⌜ length (now (cells .exit)) ≡ length (now (cells .entry)) ⌝ }
     ensures weights { λ r. ⌜ WeightsDone (now (input .entry)) (place begin) form size (now (cells .entry)) (now (cells .exit)) r ⌝ }
 {
@@ -215,7 +216,7 @@ pub fn read_rows(
     size: u8,
     cells: &mut [u8],
 ) -> TableRead
-    requires { ⌜ Reads (now input) begin × Narrow form × (1 ≤ size) × (size ≤ 16) × Blank (now cells) ⌝ }
+    requires { ⌜ Reads (now input) begin × Narrow form × (1 ≤ size) × (size ≤ mostSize) × Blank (now cells) ⌝ }
     ensures length { λ r. ⌜ length (now (cells .exit)) ≡ length (now (cells .entry)) ⌝ }
     ensures rows { λ r. ⌜ RowsDone (now (input .entry)) (place begin) form size (now (cells .entry)) (now (cells .exit)) r ⌝ }
 {

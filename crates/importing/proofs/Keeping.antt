@@ -26,25 +26,25 @@ use Rattle.importing.proofs.Readers.{withCount, count-there, count-none
 pub capped-low : (m : ℕ) → m ≤ mostLetters → capped m ≡ m
 capped-low m h = test (ltb mostLetters m) refl
   where
-    test : (b : Bool) → ltb mostLetters m ≡ b → cond b 4096 m ≡ m
+    test : (b : Bool) → ltb mostLetters m ≡ b → cond b (mostLetters + 1) m ≡ m
     test true e = absurd (omega (arith, ltb-true mostLetters m e, h))
     test false e = refl
 
-pub capped-high : (m : ℕ) → 4096 ≤ m → capped m ≡ 4096
+pub capped-high : (m : ℕ) → (mostLetters + 1) ≤ m → capped m ≡ (mostLetters + 1)
 capped-high m h = test (ltb mostLetters m) refl
   where
-    test : (b : Bool) → ltb mostLetters m ≡ b → cond b 4096 m ≡ 4096
+    test : (b : Bool) → ltb mostLetters m ≡ b → cond b (mostLetters + 1) m ≡ (mostLetters + 1)
     test true e = refl
     test false e = absurd (omega (arith, ltb-false mostLetters m e, h))
 
 pub capped-sum : (a b : ℕ) → capped (a + capped b) ≡ capped (a + b)
-capped-sum a b = ⊎-elim low high (below-or b 4096)
+capped-sum a b = ⊎-elim low high (below-or b (mostLetters + 1))
   where
-    low : b < 4096 → capped (a + capped b) ≡ capped (a + b)
+    low : b < (mostLetters + 1) → capped (a + capped b) ≡ capped (a + b)
     low h = ap (λ m. capped (a + m)) (capped-low b (omega (arith, h)))
 
-    high : 4096 ≤ b → capped (a + capped b) ≡ capped (a + b)
-    high h = ap (λ m. capped (a + m)) (capped-high b h) ∙ capped-high (a + 4096) (omega arith) ∙ sym (capped-high (a + b) (omega (arith, h)))
+    high : (mostLetters + 1) ≤ b → capped (a + capped b) ≡ capped (a + b)
+    high h = ap (λ m. capped (a + m)) (capped-high b h) ∙ capped-high (a + (mostLetters + 1)) (omega arith) ∙ sym (capped-high (a + b) (omega (arith, h)))
 
 capped-sum-left : (a b : ℕ) → capped (capped a + b) ≡ capped (a + b)
 capped-sum-left a b =
@@ -52,15 +52,15 @@ capped-sum-left a b =
 
 capped-product : (c m : ℕ) → capped (c * m) ≡ capped (c * capped m)
 capped-product zero m = ap capped (zero-mul m ∙ sym (zero-mul (capped m)))
-capped-product (suc c) m = ⊎-elim low high (below-or m 4096)
+capped-product (suc c) m = ⊎-elim low high (below-or m (mostLetters + 1))
   where
-    low : m < 4096 → capped (suc c * m) ≡ capped (suc c * capped m)
+    low : m < (mostLetters + 1) → capped (suc c * m) ≡ capped (suc c * capped m)
     low h = ap (λ n. capped (suc c * n)) (sym (capped-low m (omega (arith, h))))
 
-    high : 4096 ≤ m → capped (suc c * m) ≡ capped (suc c * capped m)
+    high : (mostLetters + 1) ≤ m → capped (suc c * m) ≡ capped (suc c * capped m)
     high h =
         capped-high (suc c * m) (omega (arith, suc-mul c m, h))
-        ∙ sym (ap (λ n. capped (suc c * n)) (capped-high m h) ∙ capped-high (suc c * 4096) (omega (arith, suc-mul c 4096)))
+        ∙ sym (ap (λ n. capped (suc c * n)) (capped-high m h) ∙ capped-high (suc c * (mostLetters + 1)) (omega (arith, suc-mul c (mostLetters + 1))))
 
 -- THE HIGHEST NUMBER
 

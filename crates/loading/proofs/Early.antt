@@ -17,6 +17,10 @@ use Rattle.model.specs.Services.{isForward, readForward}
 use Rattle.model.specs.Areas.{workspaceAfter}
 use Rattle.model.specs.Stated.{numbered, refusal}
 use Rattle.model.specs.declared.answers.Refusal.{Refusal}
+use Rattle.model.specs.Images.{countWidth}
+use Rattle.model.specs.Images.{chainCountWidth}
+use Rattle.model.specs.Images.{lengthWidth}
+use Rattle.model.specs.Images.{sizeWidth}
 
 -- a refusal, if it is one, has a number of at most k
 abbrev pub Early : {A : Type 0} → ℕ → Outcome A → Type 0
@@ -66,7 +70,7 @@ module _ (k : ℕ) where
 
 word-early : (n : ℕ) (bits : List ℕ) → Early 3 (wordField n bits)
 word-early n bits =
-    early-then 3 (field 1 4 bits) _ (field-early 3 1 4 bits (omega arith))
+    early-then 3 (field 1 lengthWidth bits) _ (field-early 3 1 lengthWidth bits (omega arith))
     (λ c. several-early 3 (letterField 1 2 n) (λ b. letter-early 3 1 2 n b (omega arith) (omega arith)) (c .value) (c .rest))
 
 pair-early : (n : ℕ) (bits : List ℕ) → Early 3 (pairField n bits)
@@ -78,7 +82,7 @@ pair-early n bits =
 pub table-early : (bytes : List ℕ) → Early 3 (readTable bytes)
 unfolding readTable
 table-early bytes =
-    early-then 3 (field 1 4 (bitsOf bytes)) _ (field-early 3 1 4 (bitsOf bytes) (omega arith))
+    early-then 3 (field 1 sizeWidth (bitsOf bytes)) _ (field-early 3 1 sizeWidth (bitsOf bytes) (omega arith))
     (λ h. early-then 3 (several (field 1 weightWidth) (h .value + 1) (h .rest)) _
     (several-early 3 (field 1 weightWidth) (λ b. field-early 3 1 weightWidth b (omega arith)) (h .value + 1) (h .rest))
     (λ ws. early-then 3 (rowsOf (pairField (h .value + 1)) (h .value + 1) (ws .rest)) _
@@ -93,7 +97,7 @@ signed-early n bits =
 pub program-early : (n : ℕ) (bytes : List ℕ) → Early 7 (readProgram n bytes)
 unfolding readProgram
 program-early n bytes =
-    early-then 7 (field 4 12 (bitsOf bytes)) _ (field-early 7 4 12 (bitsOf bytes) (omega arith))
+    early-then 7 (field 4 countWidth (bitsOf bytes)) _ (field-early 7 4 countWidth (bitsOf bytes) (omega arith))
     (λ c. early-then 7 (several (signedField n) (c .value) (c .rest)) _ (several-early 7 (signedField n) (signed-early n) (c .value) (c .rest))
     (λ w. finish-early 7 6 w (omega arith)))
 
@@ -106,7 +110,7 @@ entry-early n bits =
 pub chain-early : (n : ℕ) (bytes : List ℕ) → Early 6 (readChain n bytes)
 unfolding readChain
 chain-early n bytes =
-    early-then 6 (field 4 16 (bitsOf bytes)) _ (field-early 6 4 16 (bitsOf bytes) (omega arith))
+    early-then 6 (field 4 chainCountWidth (bitsOf bytes)) _ (field-early 6 4 chainCountWidth (bitsOf bytes) (omega arith))
     (λ c. early-then 6 (several (entryField n) (c .value) (c .rest)) _ (several-early 6 (entryField n) (entry-early n) (c .value) (c .rest))
     (λ es. finish-early 6 6 es (omega arith)))
 

@@ -8,7 +8,7 @@ use lib.Seq.{take-at, take-append-le, take-take}
 use Rattle.model.specs.Word.{Word, Positive, positive, negative, inverse, byte}
 use Rattle.model.specs.Presentation.{Presentation}
 use Rattle.model.specs.Outcome.{answered}
-use Rattle.model.specs.Images.{readProgram}
+use Rattle.model.specs.Images.{readProgram, mostSize}
 use Rattle.model.specs.Plain.{plainProgram}
 use Rattle.model.specs.declared.answers.Ending.the-variants.{Stopped}
 use Rattle.model.specs.declared.answers.Stop.the-variants.{Room}
@@ -36,7 +36,7 @@ module _ (cells : List ℕ) (size : ℕ) (T : Presentation) (o : Of cells size T
   abbrev pub both : List ℕ
   both = written turned (length start - seconds) (plainProgram (positive v))
 
-  few : size ≤ 16
+  few : size ≤ mostSize
   few = of-few o
 
   plain-length : (w : Positive) → length (plainProgram (positive w)) ≡ length w
@@ -94,7 +94,8 @@ pair-too-long T u v budget area h =
     (simp (length-append, length-negative, length-positive) h)
 
 -- from what the three writes of `load_programs` promise
-pub loads-pair : (cells : List ℕ) (size : ℕ) (T : Presentation) → Of cells size T → (u v : Positive) (first second : List ℕ) (firsts seconds : ℕ) → size ≤ 16
+pub loads-pair : (cells : List ℕ) (size : ℕ) (T : Presentation) → Of cells size T → (u v : Positive) (first second : List ℕ) (firsts seconds : ℕ)
+    → size ≤ mostSize
     → (one : ForwardOf first size firsts) (two : ForwardOf second size seconds) → one .word ≡ u → two .word ≡ v
     → (start unpacked turned last : List ℕ) → firsts + seconds ≤ length start
     → ((w : Word) → readProgram size first ≡ answered w → unpacked ≡ written start 0 (plainProgram w)) → Inverted unpacked firsts turned

@@ -15,6 +15,7 @@ use Rattle.model.specs.declared.answers.Stop.the-variants.{Room}
 use Rattle.model.proofs.Reversal.{reversing-long}
 use Rattle.model.specs.Range.{All, LetterInRange, ProgramInRange, Lettered}
 use Rattle.model.specs.Areas.{written}
+use Rattle.model.specs.Images.{mostSize}
 use Rattle.engine.specs.Gap.{letters, wordAt, Searched}
 use Rattle.cells.specs.Stands.{Serves, Of}
 use Rattle.engine.specs.Run.{Reverses}
@@ -22,7 +23,7 @@ use Rattle.engine.proofs.Letters.{letter-forward, letter-back, letters-cons, le
 use Rattle.cells.proofs.Rules.{of-few}
 
 -- the bytes of letters that a table can have are those letters
-pub byte-letters : (n : ℕ) → n ≤ 16 → (w : Word) → All (LetterInRange n) w → letters (map byte w) ≡ w
+pub byte-letters : (n : ℕ) → n ≤ mostSize → (w : Word) → All (LetterInRange n) w → letters (map byte w) ≡ w
 byte-letters n h [] p = letters-nil
 byte-letters n h (forward a ∷ w) p =
     letters-cons a (map byte w) ∙ ap₂ (λ l v. l ∷ v) (letter-forward a (omega (arith, p .0 .high))) (byte-letters n h w (p .1))
@@ -41,7 +42,7 @@ module _ (cells : List ℕ) (size : ℕ) (T : Presentation) (o : Of cells size T
   abbrev pub ready : List ℕ
   ready = written area right (plainProgram w)
 
-  few : size ≤ 16
+  few : size ≤ mostSize
   few = of-few o
 
   pub word-loaded : wordAt ready 0 right ≡ w

@@ -4,7 +4,7 @@ use mathlib.Core.Path.{_≡_}
 use Prim.Native.Nat.{ℕ, _≤_}
 use Rattle.model.specs.Presentation.{Presentation}
 use Rattle.model.specs.Outcome.{answered}
-use Rattle.model.specs.Images.{readTable, readProgram}
+use Rattle.model.specs.Images.{readTable, readProgram, mostSize}
 use Rattle.model.specs.Services.{readTableWith, readForward, readImages}
 use Rattle.model.specs.Areas.{Compares}
 use Rattle.model.specs.Stated.{refusal}
@@ -59,7 +59,7 @@ TableProgramDone table program s cells (NotLoaded r) = readTableWith (readAs s) 
 -- two forward programs of so many letters
 pub record TwoForward (size : ℕ) (first : List ℕ) (firsts : ℕ) (second : List ℕ) (seconds : ℕ) : Type 0 where
   pub some : 1 ≤ size
-  pub few : size ≤ 16
+  pub few : size ≤ mostSize
   pub one : ForwardOf first size firsts
   pub two : ForwardOf second size seconds
 

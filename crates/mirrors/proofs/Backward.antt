@@ -13,9 +13,11 @@ use Rattle.model.specs.Mirror.{fromEnd}
 use Rattle.model.proofs.Lists.{all-reverse}
 use Rattle.model.proofs.Words.{reverse-at}
 use Rattle.model.proofs.Mirrors.{last-is, before-is, before-length, before-named}
+use Rattle.model.specs.Images.{mostLength}
 use Rattle.cells.specs.Stands.{HoldsWord}
 use Rattle.cells.specs.Kept.{KeptOutside}
 use Rattle.cells.proofs.Kept.{kept-store}
+use Rattle.cells.specs.Layout.{cellLength}
 use Rattle.mirrors.specs.Sides.{EndsIn, PutBackward}
 
 -- the letters of the side, as they lie behind the length of a cell
@@ -56,7 +58,7 @@ pub record Putting (cells : List ℕ) (a cell count : ℕ) (begun : List ℕ) (t
   pub letters : (j : ℕ) → j < k → getD mirror (to + count - j) 0 ≡ sideAt cells a cell j
   pub kept : KeptOutside begun to mirror
 
-module _ (cells : List ℕ) (a cell count : ℕ) (small : count ≤ 15) (begun : List ℕ) (to : ℕ) (room : to + 16 ≤ length begun) where
+module _ (cells : List ℕ) (a cell count : ℕ) (small : count ≤ mostLength) (begun : List ℕ) (to : ℕ) (room : to + cellLength ≤ length begun) where
   pub put-none : getD begun to 0 ≡ count → Putting cells a cell count begun to begun a 0
   put-none e =
       record { some-left = omega arith; same-length = refl; first = e; next-is = refl; letters = λ j h. absurd (omega arith); kept = λ i o. refl }
@@ -124,7 +126,8 @@ module _ (cells : List ℕ) (a cell count : ℕ) (small : count ≤ 15) (begun :
           }
 
 -- the whole, where the length was stored before the letters
-pub put-whole : (cells : List ℕ) (a cell : ℕ) (before : List ℕ) (to : ℕ) → getD cells cell 0 ≤ 15 → to + 16 ≤ length before → (mirror : List ℕ) (next k : ℕ)
+pub put-whole : (cells : List ℕ) (a cell : ℕ) (before : List ℕ) (to : ℕ) → getD cells cell 0 ≤ mostLength → to + cellLength ≤ length before
+    → (mirror : List ℕ) (next k : ℕ)
     → Putting cells a cell (getD cells cell 0) (set before to (getD cells cell 0)) to mirror next k → getD cells cell 0 ≤ k
     → PutBackward cells a cell before to mirror
 put-whole cells a cell before to small room mirror next k p done =

@@ -19,13 +19,14 @@ use Rattle.model.specs.Mirror.{fromEnd, relationEnding, orElse, found, backward
 use Rattle.model.proofs.Complete.{complete-same}
 use Rattle.model.proofs.Pairs.{pair}
 use Rattle.model.proofs.Mirrors.{ending-own, ending-other, else-none, found-more, found-turned, left-found, mirror-different}
-use Rattle.cells.specs.Layout.{Letters, cellAt}
+use Rattle.model.specs.Images.{mostSize}
+use Rattle.cells.specs.Layout.{Letters, cellAt, cellBytes}
 use Rattle.cells.specs.Stands.{HoldsWord, HoldsFirst, Of}
 use Rattle.cells.specs.Kept.{KeptOutside, SameCell, HoldsPair, KeptPair}
 use Rattle.cells.proofs.Kept.{first-byte, holds-kept, words-held, words-kept}
 use Rattle.mirrors.specs.Mirror.{offended, Building, WeightsCopied}
 
-pub wide : {n a : ℕ} → n ≤ 16 → InRange n a → InRange 16 a
+pub wide : {n a : ℕ} → n ≤ mostSize → InRange n a → InRange mostSize a
 wide few r = record { low = r .low; high = omega (arith, r .high) }
 
 same-pair : (i j p q : ℕ) → Dec ((i ≡ p) × (j ≡ q))
@@ -36,7 +37,7 @@ same-pair i j p q = go (ℕ-discrete i p) (ℕ-discrete j q)
     go (yes e) (no f) = no (λ g. f (g .1))
     go (no e) _ = no (λ g. e (g .0))
 
-module _ (T : Presentation) (few : T .size ≤ 16) (a b : ℕ) (rest : List Two) (cells : List ℕ) (h : Building T cells (pair a b ∷ rest)) where
+module _ (T : Presentation) (few : T .size ≤ mostSize) (a b : ℕ) (rest : List Two) (cells : List ℕ) (h : Building T cells (pair a b ∷ rest)) where
   abbrev more : List Two
   more = h .earlier ++ (pair a b ∷ [])
 
@@ -161,7 +162,7 @@ module _ (T : Presentation) (few : T .size ≤ 16) (a b : ℕ) (rest : List Two)
 
 -- WHERE BUILDING BEGINS: the weights are copied into cells where every pair is open
 
-pub begun : (cells : List ℕ) (size : ℕ) (T : Presentation) → Of cells size T → (mid : List ℕ) → WeightsCopied cells size (replicate 4096 255) mid
+pub begun : (cells : List ℕ) (size : ℕ) (T : Presentation) → Of cells size T → (mid : List ℕ) → WeightsCopied cells size (replicate cellBytes 255) mid
     → Building T mid (pairs size)
 unfolding mirrorCheck
 begun cells size T o mid c =
@@ -179,13 +180,13 @@ begun cells size T o mid c =
       same = λ i r. c .same i (record { low = r .low; high = omega (arith, r .high, o .sized) });
       different = λ p q rp rq d.
           let letters : Letters p q = (wide (o .stands .few) rp, wide (o .stands .few) rq) in
-          first-byte (replicate 4096 255) mid p q (c .kept p q letters d)
-          ∙ getD-replicate {A = ℕ} 4096 (cellAt p q) 255 0 (omega (arith, letters .0 .low, letters .0 .high, letters .1 .low, letters .1 .high));
+          first-byte (replicate cellBytes 255) mid p q (c .kept p q letters d)
+          ∙ getD-replicate {A = ℕ} cellBytes (cellAt p q) 255 0 (omega (arith, letters .0 .low, letters .0 .high, letters .1 .low, letters .1 .high));
     }
 
 -- WHERE NO PAIR IS LEFT
 
-module _ (cells : List ℕ) (size : ℕ) (T : Presentation) (o : Of cells size T) (after : List ℕ) (full : length after ≡ 4096) (h : Building T after []) where
+module _ (cells : List ℕ) (size : ℕ) (T : Presentation) (o : Of cells size T) (after : List ℕ) (full : length after ≡ cellBytes) (h : Building T after []) where
   all-entered : h .earlier ≡ pairs (T .size)
   all-entered = sym (h .split ∙ append-nil (h .earlier))
 

@@ -8,7 +8,8 @@ use native.Mathlib.Decide.{decLt}
 use lib.ListN.{length, getD, set, length-set}
 use lib.Seq.{getD-set-same, getD-set-other}
 use Rattle.model.specs.Range.{InRange}
-use Rattle.cells.specs.Layout.{Letters, cellAt, weightAt}
+use Rattle.model.specs.Images.{mostSize}
+use Rattle.cells.specs.Layout.{Letters, cellAt, weightAt, cellBytes}
 use Rattle.cells.specs.Kept.{KeptOutside, SameCell}
 use Rattle.cells.proofs.Kept.{kept-store, kept-cell, same-cell-after}
 use Rattle.mirrors.specs.Mirror.{WeightsCopied}
@@ -24,14 +25,15 @@ pub copied-none : (cells before : List ℕ) → Copying cells before before 1
 copied-none cells before =
     record { same-length = refl; weights = λ i l h. absurd (omega arith); same = λ i l h. absurd (omega arith); kept = λ p q l d k h. refl }
 
-module _ (cells before : List ℕ) (full : length before ≡ 4096) (mirror : List ℕ) (a : ℕ) (named : InRange 16 a) (c : Copying cells before mirror a) where
+module _ (cells before : List ℕ) (full : length before ≡ cellBytes) (mirror : List ℕ) (a : ℕ) (named : InRange mostSize a)
+    (c : Copying cells before mirror a) where
   abbrev emptied : List ℕ
   emptied = set mirror (cellAt a a) 0
 
   abbrev copied : List ℕ
   copied = set emptied (weightAt a) (getD cells (weightAt a) 0)
 
-  emptied-length : length emptied ≡ 4096
+  emptied-length : length emptied ≡ cellBytes
   emptied-length = length-set mirror (cellAt a a) 0 ∙ (c .same-length ∙ full)
 
   weight : (i : ℕ) → 1 ≤ i → i < a + 1 → Dec (i < a) → getD copied (weightAt i) 0 ≡ getD cells (weightAt i) 0

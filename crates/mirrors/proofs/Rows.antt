@@ -72,7 +72,7 @@ module _ (cells : List ℕ) (size : ℕ) (before : List ℕ) where
 -- THE WHOLE, from cells where every pair is open
 
 pub table-done : (cells : List ℕ) (size : ℕ) (before mid after : List ℕ) → before ≡ replicate cellBytes undefinedLength → WeightsCopied cells size before mid
-    → length after ≡ 4096
+    → length after ≡ cellBytes
     → (r : Mirrored) → RowsDone cells size mid after r → MirrorDone cells size after r
 table-done cells size before mid after blank copied full Made done =
     λ T o. built cells size T o after full (done T o (begun cells size T o mid (subst (λ b. WeightsCopied cells size b mid) blank copied)))

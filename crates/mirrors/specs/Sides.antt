@@ -6,13 +6,15 @@ use lib.ListN.{length, getD}
 use Rattle.model.specs.Word.{Positive}
 use Rattle.model.specs.Range.{InRange}
 use Rattle.model.specs.Mirror.{fromEnd}
+use Rattle.model.specs.Images.{mostLength}
 use Rattle.cells.specs.Stands.{HoldsWord}
 use Rattle.cells.specs.Kept.{KeptOutside}
+use Rattle.cells.specs.Layout.{cellLength}
 
 -- the cell has a word's length, and lies inside
 pub record Short (cells : List ℕ) (cell : ℕ) : Type 0 where
-  pub inside : cell + 16 ≤ length cells
-  pub few : getD cells cell 0 ≤ 15
+  pub inside : cell + cellLength ≤ length cells
+  pub few : getD cells cell 0 ≤ mostLength
 
 -- the last letter, whatever word the cell holds
 abbrev pub EndsIn : List ℕ → ℕ → ℕ → ℕ → Type 0

@@ -1,7 +1,7 @@
 -- Specification 5.4 to 5.6: table, program and chain images, written and read. Reading refuses by the numbers of 5.3.
 use mathlib.Core.List.{List, [], _∷_, _++_}
 use mathlib.Core.Bool.{cond}
-use Prim.Native.Nat.{ℕ, zero, suc, _+_, _-_, _*_}
+use Prim.Native.Nat.{ℕ, zero, suc, _+_, _-_, _*_, _^_}
 use lib.Dec.{leb, eqb}
 use lib.ListN.{length}
 use Rattle.model.specs.Word.{Letter, forward, back, Word, Positive}
@@ -30,6 +30,17 @@ chainCountWidth = 16
 
 abbrev pub offsetWidth : ℕ
 offsetWidth = 15
+
+-- WHAT THEY HOLD (1.3): the most letters of a table, how many lengths a completion can have, and the longest
+
+abbrev pub mostSize : ℕ
+mostSize = 2 ^ sizeWidth
+
+abbrev pub wordLengths : ℕ
+wordLengths = 2 ^ lengthWidth
+
+abbrev pub mostLength : ℕ
+mostLength = wordLengths - 1
 
 -- WRITING
 

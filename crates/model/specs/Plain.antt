@@ -9,14 +9,14 @@ use Rattle.model.specs.Presentation.{Presentation, Complement, undefined
 use Rattle.model.specs.Enumeration.{concatMap}
 use Rattle.model.specs.Outcome.{unplaced, Outcome, answered, refused, _>>=_, unless}
 use Rattle.model.specs.Bits.{Read}
-use Rattle.model.specs.Images.{countWidth, several, rowsOf}
+use Rattle.model.specs.Images.{weightWidth, countWidth, mostSize, mostLength, several, rowsOf}
 
 -- 1.3, 5.7: the byte of an open pair, the largest weight of a letter and the most letters of a program
 abbrev pub openByte : ℕ
 openByte = 255
 
 abbrev pub mostWeight : ℕ
-mostWeight = 8
+mostWeight = 2 ^ weightWidth
 
 abbrev pub mostLetters : ℕ
 mostLetters = 2 ^ countWidth - 1
@@ -56,7 +56,7 @@ plainWeight input = plainLetter mostWeight input >>= λ r. answered (record { va
 
 -- 5.7: a word whose length byte was read; refusal 2 where that is above 15
 abbrev pub plainLetters : ℕ → ℕ → List ℕ → Outcome (Read Positive)
-plainLetters n k input = unless (ltb 15 k) 2 k >>= λ k. several (plainLetter n) k input
+plainLetters n k input = unless (ltb mostLength k) 2 k >>= λ k. several (plainLetter n) k input
 
 -- 5.7: a pair that is not open, and whose first length byte was read
 abbrev pub plainDefined : ℕ → ℕ → List ℕ → Outcome (Read Complement)
@@ -76,7 +76,7 @@ plainPairAt n input =
 unfoldable pub readPlainTable : List ℕ → Outcome Presentation
 readPlainTable bytes =
     nextByte bytes >>= λ n.
-    unless (ltb (n .value) 1 || ltb 16 (n .value)) 2 n >>= λ n.
+    unless (ltb (n .value) 1 || ltb mostSize (n .value)) 2 n >>= λ n.
     several plainWeight (n .value) (n .rest) >>= λ ws.
     rowsOf (plainPairAt (n .value)) (n .value) (ws .rest) >>= λ rs.
     unless (ltb 0 (length (rs .rest))) 3 (record { size = n .value; excess = ws .value; rows = rs .value })

@@ -6,7 +6,7 @@ use lib.ListN.{length, getD}
 use Rattle.model.specs.Word.{Letter, forward, back, Word, Positive}
 use Rattle.model.specs.Presentation.{Presentation, Complement, undefined, complement}
 use Rattle.model.specs.Equivalence.{Entry}
-use Rattle.model.specs.Images.{weightWidth, lengthWidth, countWidth, chainCountWidth, offsetWidth}
+use Rattle.model.specs.Images.{mostSize, weightWidth, lengthWidth, countWidth, chainCountWidth, offsetWidth}
 
 -- every element
 abbrev pub All : {A : Type 0} → (A → Type 0) → List A → Type 0
@@ -57,7 +57,7 @@ Rows P (suc k) (row ∷ rows) = (length row ≡ k) × All P row × Rows P k rows
 -- 1.3: a table, of 1 to 16 letters, each with a weight of 1 to 8
 pub record TableInRange (T : Presentation) : Type 0 where
   pub some : 1 ≤ T .size
-  pub few : T .size ≤ 16
+  pub few : T .size ≤ mostSize
   pub weighed : length (T .excess) ≡ T .size
   pub light : All (λ w. w < 2 ^ weightWidth) (T .excess)
   pub pairs : Rows (PairInRange (T .size)) (T .size) (T .rows)

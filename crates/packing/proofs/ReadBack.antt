@@ -11,7 +11,7 @@ use Rattle.model.specs.Word.{Word}
 use Rattle.model.specs.Outcome.{Outcome, answered, refused, _>>=_, mapped}
 use Rattle.model.specs.Range.{AreBytes}
 use Rattle.model.specs.Areas.{outputAfter, ReadsBack}
-use Rattle.model.specs.Images.{readTable, readProgram, programImage, tableImage}
+use Rattle.model.specs.Images.{readTable, readProgram, programImage, tableImage, mostSize}
 use Rattle.model.specs.Plain.{plainProgram, readPlainProgram, readPlainTable, plainTable}
 use Rattle.model.specs.Services.{fitted, programUnder, plainProgramUnder, unpackProgram, packProgram, packTable, unpackTable}
 use Rattle.model.proofs.Impossible.{impossible, answer-of, same-answer, not-refused}
@@ -29,7 +29,7 @@ pub plain-table-back : (table : List ℕ) (T : Presentation) → readTable table
 plain-table-back table T e = plain-table-reads-back T (table-in-range table T e) ∙ sym e
 
 module _ (table : List ℕ) (T : Presentation) (size : ℕ) (e : readTable table ≡ answered T) (s : T .size ≡ size) where
-  few : size ≤ 16
+  few : size ≤ mostSize
   few = omega (arith, s, table-in-range table T e .few)
 
   -- reading under the table, whatever is read

@@ -11,7 +11,7 @@ use Rattle.model.specs.Presentation.{Presentation, undefined, complement}
 use Rattle.model.specs.Word.{Positive}
 use Rattle.model.specs.Outcome.{unplaced, Outcome, answered, refused, _>>=_, unless}
 use Rattle.model.specs.Bits.{Read, bitsOf, digits, field, allZero, finish}
-use Rattle.model.specs.Images.{several, rowsOf}
+use Rattle.model.specs.Images.{several, rowsOf, wordLengths, mostSize}
 use Rattle.model.specs.Plain.{openByte, mostWeight, nextByte, plainLetter, plainWeight, plainLetters, plainDefined, plainPairAt, readPlainTable}
 use Rattle.model.specs.Range.{AreBytes}
 use Rattle.images.specs.Forms.{plainForm, numberIn, weightIn, letterIn, wordIn, wordsIn, pairIn, rowsIn, partsIn, tableIn}
@@ -77,14 +77,14 @@ module _ (size : ℕ) where
   letters k = several (letterIn plainForm size) (k .value) (k .rest)
 
   word-agrees : (x : ℕ) (xs : List ℕ) → AreBytes (x ∷ xs) → AgreeBytes (wordIn plainForm size (bitsOf (x ∷ xs))) (plainLetters size x xs)
-  word-agrees x xs h = subst (λ o. AgreeBytes o (plainLetters size x xs)) (sym read) (pick (leb 16 x))
+  word-agrees x xs h = subst (λ o. AgreeBytes o (plainLetters size x xs)) (sym read) (pick (leb wordLengths x))
     where
-      read : wordIn plainForm size (bitsOf (x ∷ xs)) ≡ (unless (leb 16 x) 2 (said x (bitsOf xs)) >>= letters)
+      read : wordIn plainForm size (bitsOf (x ∷ xs)) ≡ (unless (leb wordLengths x) 2 (said x (bitsOf xs)) >>= letters)
       read =
-          ap (λ (o : Outcome (Read ℕ)). (o >>= λ r. unless (ltb (r .value) 0 || leb 16 (r .value - 0)) 2 (said (r .value - 0) (r .rest))) >>= letters)
+          ap (λ (o : Outcome (Read ℕ)). (o >>= λ r. unless (ltb (r .value) 0 || leb wordLengths (r .value - 0)) 2 (said (r .value - 0) (r .rest))) >>= letters)
           (byte-read x xs h)
-          ∙ (ap (λ t. unless (t || leb 16 (x - 0)) 2 (said (x - 0) (bitsOf xs)) >>= letters) (le-ltb x 0 (omega arith))
-          ∙ ap (λ n. unless (leb 16 n) 2 (said n (bitsOf xs)) >>= letters) {x = x - 0} {y = x} (omega arith))
+          ∙ (ap (λ t. unless (t || leb wordLengths (x - 0)) 2 (said (x - 0) (bitsOf xs)) >>= letters) (le-ltb x 0 (omega arith))
+          ∙ ap (λ n. unless (leb wordLengths n) 2 (said n (bitsOf xs)) >>= letters) {x = x - 0} {y = x} (omega arith))
 
       pick : (t : Bool) → AgreeBytes (unless t 2 (said x (bitsOf xs)) >>= letters) (unless t 2 x >>= λ k. several (plainLetter size) k xs)
       pick true = refl
@@ -149,9 +149,9 @@ parts-agree size bytes h =
 pub plain-read : (plain : List ℕ) → AreBytes plain → tableIn Plain plain ≡ readPlainTable plain
 unfolding tableIn readPlainTable field
 plain-read [] h = refl
-plain-read (zero ∷ xs) h = ap (λ (o : Outcome (Read ℕ)). o >>= λ n. partsIn plainForm (n .value + 1) (n .rest)) (number-read 16 zero xs h)
+plain-read (zero ∷ xs) h = ap (λ (o : Outcome (Read ℕ)). o >>= λ n. partsIn plainForm (n .value + 1) (n .rest)) (number-read mostSize zero xs h)
 plain-read (suc x ∷ xs) h =
-    ap (λ (o : Outcome (Read ℕ)). o >>= λ n. partsIn plainForm (n .value + 1) (n .rest)) (number-read 16 (suc x) xs h) ∙ pick (none 16 (suc x))
+    ap (λ (o : Outcome (Read ℕ)). o >>= λ n. partsIn plainForm (n .value + 1) (n .rest)) (number-read mostSize (suc x) xs h) ∙ pick (none 16 (suc x))
   where
     pick : (t : Bool) → (unless t 2 (said (suc x - 1) (bitsOf xs)) >>= λ n. partsIn plainForm (n .value + 1) (n .rest)) ≡
         (unless t 2 (said (suc x) xs) >>= λ n. parts (n .value) (n .rest))

@@ -12,7 +12,7 @@ use Rattle.model.specs.Presentation.{Presentation, Complement, undefined, compl
 use Rattle.model.specs.Enumeration.{concatMap}
 use Rattle.model.specs.Outcome.{Outcome, answered, _>>=_, unless}
 use Rattle.model.specs.Bits.{Read}
-use Rattle.model.specs.Images.{weightWidth, several, rowsOf, offsetWidth}
+use Rattle.model.specs.Images.{weightWidth, several, rowsOf, offsetWidth, mostSize}
 use Rattle.model.specs.Plain.{plainWord, plainPair, plainTable, plainProgram, nextByte, plainLetter, plainWeight, plainLetters, plainDefined, plainPairAt}
 use Rattle.model.specs.Plain.{readPlainTable, namesLetter, plainLettersSigned, readPlainProgram, mostLetters}
 use Rattle.model.specs.Range.{AreBytes, All, Rows, InRange, LetterInRange, WordInRange, PairInRange, ProgramInRange, TableInRange}
@@ -216,7 +216,7 @@ tableWeights n = several plainWeight (n .value) (n .rest) >>= tableRows (n .valu
 
 tableSize : Read ℕ → Outcome Presentation
 unfolding tableWeights tableRows tableEnd
-tableSize n = unless (ltb (n .value) 1 || ltb 16 (n .value)) 2 n >>= tableWeights
+tableSize n = unless (ltb (n .value) 1 || ltb mostSize (n .value)) 2 n >>= tableWeights
 
 pub plain-table-reads-back : (T : Presentation) → TableInRange T → readPlainTable (plainTable T) ≡ answered T
 unfolding readPlainTable plainTable tableWeights tableRows tableEnd
@@ -224,7 +224,7 @@ plain-table-reads-back T h =
     let rows = concatMap (concatMap plainPair) (T .rows) in
     let weights = map suc (T .excess) in
     ap (λ t. unless t 2 (record { value = T .size; rest = weights ++ rows }) >>= tableWeights)
-    (or-neither (ltb (T .size) 1) (ltb 16 (T .size)) (le-ltb (T .size) 1 (h .some)) (le-ltb 16 (T .size) (h .few)))
+    (or-neither (ltb (T .size) 1) (ltb mostSize (T .size)) (le-ltb (T .size) 1 (h .some)) (le-ltb mostSize (T .size) (h .few)))
     ∙ (ap (λ l. several plainWeight (T .size) (l ++ rows) >>= tableRows (T .size)) (sym (weight-bytes (T .excess)))
     ∙ then (several plainWeight (T .size) (concatMap weightByte (T .excess) ++ rows)) (tableRows (T .size)) (record { value = T .excess; rest = rows }) _
     (plain-weights (T .size) .reads-back (T .excess) (h .weighed, h .light) rows)
@@ -239,8 +239,8 @@ pub plain-table-of : (bytes : List ℕ) (T : Presentation) → readPlainTable by
 unfolding readPlainTable plainTable tableSize tableWeights tableRows tableEnd
 plain-table-of bytes T e =
     let h = answer-of (nextByte bytes) tableSize T e in
-    let s = answer-of (unless (ltb (h .0 .value) 1 || ltb 16 (h .0 .value)) 2 (h .0)) tableWeights T (h .2) in
-    let p = not-refused (ltb (h .0 .value) 1 || ltb 16 (h .0 .value)) 2 (h .0) (s .0) (s .1) in
+    let s = answer-of (unless (ltb (h .0 .value) 1 || ltb mostSize (h .0 .value)) 2 (h .0)) tableWeights T (h .2) in
+    let p = not-refused (ltb (h .0 .value) 1 || ltb mostSize (h .0 .value)) 2 (h .0) (s .0) (s .1) in
     let t : tableWeights (h .0) ≡ answered T = ap tableWeights (p .1) ∙ s .2 in
     let w = answer-of (several plainWeight (h .0 .value) (h .0 .rest)) (tableRows (h .0 .value)) T t in
     let r = answer-of (rowsOf (plainPairAt (h .0 .value)) (h .0 .value) (w .0 .rest)) (tableEnd (h .0 .value) (w .0 .value)) T (w .2) in
@@ -255,8 +255,8 @@ plain-table-of bytes T e =
           (plain-rows (h .0 .value) .stood-there (w .0 .rest) tt (r .0) (r .1)
           ∙ (ap (λ l. concatMap (concatMap plainPair) (r .0 .value) ++ l) z ∙ append-nil (concatMap (concatMap plainPair) (r .0 .value)))))),
       record {
-        some = ltb-false (h .0 .value) 1 (or-first (ltb (h .0 .value) 1) (ltb 16 (h .0 .value)) (p .0));
-        few = ltb-false 16 (h .0 .value) (or-second (ltb (h .0 .value) 1) (ltb 16 (h .0 .value)) (p .0));
+        some = ltb-false (h .0 .value) 1 (or-first (ltb (h .0 .value) 1) (ltb mostSize (h .0 .value)) (p .0));
+        few = ltb-false mostSize (h .0 .value) (or-second (ltb (h .0 .value) 1) (ltb mostSize (h .0 .value)) (p .0));
         weighed = plain-weights (h .0 .value) .in-range (h .0 .rest) tt (w .0) (w .1) .0;
         light = plain-weights (h .0 .value) .in-range (h .0 .rest) tt (w .0) (w .1) .1;
         pairs = plain-rows (h .0 .value) .in-range (w .0 .rest) tt (r .0) (r .1);
@@ -266,7 +266,7 @@ plain-table-of bytes T e =
 -- PROGRAMS
 
 -- the byte of a letter in range names it
-byte-names : (n : ℕ) (x : Letter) → n ≤ 16 → LetterInRange n x → namesLetter n (byte x) ≡ true
+byte-names : (n : ℕ) (x : Letter) → n ≤ mostSize → LetterInRange n x → namesLetter n (byte x) ≡ true
 byte-names n (forward a) few h =
     let e : a % 128 ≡ a = omega (arith, h .high) in
     ap (λ v. leb 1 v && leb v n) e ∙ both (le-leb 1 a (h .low)) (le-leb a n (h .high))
@@ -274,19 +274,19 @@ byte-names n (back a) few h =
     let e : (128 + a) % 128 ≡ a = omega (arith, h .high) in
     ap (λ v. leb 1 v && leb v n) e ∙ both (le-leb 1 a (h .low)) (le-leb a n (h .high))
 
-letter-of-byte : (n : ℕ) (x : Letter) → n ≤ 16 → LetterInRange n x → letter (byte x) ≡ x
+letter-of-byte : (n : ℕ) (x : Letter) → n ≤ mostSize → LetterInRange n x → letter (byte x) ≡ x
 letter-of-byte n (forward a) few h = ap (λ t. cond t (forward a) (back (a - 128))) (lt-ltb a 128 (omega (arith, h .high)))
 letter-of-byte n (back a) few h =
     ap (λ t. cond t (forward (128 + a)) (back (128 + a - 128))) (le-ltb (128 + a) 128 (omega arith)) ∙ ap back {x = 128 + a - 128} {y = a} (omega arith)
 
-letters-read-back : (n : ℕ) (w : Word) → n ≤ 16 → All (LetterInRange n) w → plainLettersSigned n (plainProgram w) ≡ answered w
+letters-read-back : (n : ℕ) (w : Word) → n ≤ mostSize → All (LetterInRange n) w → plainLettersSigned n (plainProgram w) ≡ answered w
 letters-read-back n [] few h = refl
 letters-read-back n (x ∷ w) few h =
     ap (λ t. unless (not t) 5 (letter (byte x)) >>= λ a. plainLettersSigned n (plainProgram w) >>= λ w. answered (a ∷ w)) (byte-names n x few (h .0))
     ∙ (ap (λ o. o >>= λ w. answered (letter (byte x) ∷ w)) (letters-read-back n w few (h .1))
     ∙ ap (λ a. answered (a ∷ w)) (letter-of-byte n x few (h .0)))
 
-pub plain-program-reads-back : (n : ℕ) → n ≤ 16 → (w : Word) → ProgramInRange n w → readPlainProgram n (plainProgram w) ≡ answered w
+pub plain-program-reads-back : (n : ℕ) → n ≤ mostSize → (w : Word) → ProgramInRange n w → readPlainProgram n (plainProgram w) ≡ answered w
 unfolding readPlainProgram
 plain-program-reads-back n few w h =
     ap (λ t. unless t 4 (plainProgram w) >>= plainLettersSigned n) (le-ltb mostLetters (length (plainProgram w)) (omega (arith, h .short, length-map w byte)))

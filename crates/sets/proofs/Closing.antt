@@ -15,6 +15,7 @@ use Rattle.model.specs.Ways.{listingBytes}
 use Rattle.model.specs.Outcome.{Outcome, answered, refused, _>>=_, mapped}
 use Rattle.model.specs.Signed.{firstWords, placesAt, mostWords, setBytes, takenPairs, grownFrom, grownSet}
 use Rattle.model.specs.declared.answers.Stop.the-variants.{Room}
+use Rattle.model.specs.Images.{mostSize}
 use Rattle.cells.specs.Stands.{Stands}
 use Rattle.sets.specs.declared.growing.Grown.{Grown}
 use Rattle.sets.specs.declared.growing.Held.{Held}
@@ -83,7 +84,7 @@ pub record Closing (T : Presentation) (budget room : ℕ) (area : List ℕ) (h :
   pub at-is : at ≡ setBytes (take place words)
   pub left : grownSet T budget room ≡ grownFrom T budget room rounds place words
 
-pub closing-begun : (T : Presentation) (budget room size : ℕ) (area : List ℕ) → T .size ≡ size → size ≤ 16 → 1 + 2 * size ≤ length area
+pub closing-begun : (T : Presentation) (budget room size : ℕ) (area : List ℕ) → T .size ≡ size → size ≤ mostSize → 1 + 2 * size ≤ length area
     → take (1 + 2 * size) area ≡ listingBytes (firstWords size) → Closing T budget room area (record { used = 1 + 2 * size; words = 1 + size }) 0
 unfolding grownSet
 closing-begun T budget room size area e small inside bytes =

@@ -8,13 +8,14 @@ use Rattle.model.specs.Word.{Positive, positive}
 use Rattle.model.specs.Range.{All, Lettered}
 use Rattle.model.specs.Ways.{listingBytes}
 use Rattle.model.specs.Signed.{isListed, setBytes}
+use Rattle.model.specs.Images.{mostSize}
 use Rattle.sets.specs.declared.words.Span.{Span}
 
 -- the first bytes are the words, whose letters are among n, as many as a table can have
 pub record Lists (n : ℕ) (area : List ℕ) (used : ℕ) (vs : List Positive) : Type 0 where
   pub inside : used ≤ length area
   pub bytes : take used area ≡ listingBytes vs
-  pub few : n ≤ 16
+  pub few : n ≤ mostSize
   pub named : All (λ w. Lettered n (positive w)) vs
 
 abbrev pub Listing : List ℕ → ℕ → Type 0

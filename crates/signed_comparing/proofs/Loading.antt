@@ -11,6 +11,7 @@ use Rattle.model.specs.Plain.{plainProgram}
 use Rattle.model.specs.Range.{LetterInRange, Lettered, ProgramInRange}
 use Rattle.theory.proofs.Letters.{all-append, inverse-lettered}
 use Rattle.model.specs.Areas.{written}
+use Rattle.model.specs.Images.{mostSize}
 use Rattle.engine.specs.Gap.{letters, wordAt, Searched}
 use Rattle.engine.specs.Words.{Inverted}
 use Rattle.engine.proofs.Letters.{letters-append}
@@ -18,7 +19,7 @@ use Rattle.cells.specs.Stands.{Serves, Of}
 use Rattle.loading.proofs.Programs.{byte-letters}
 
 -- the inverse of w stands from `right` on, then v, up to the end
-module _ (size : ℕ) (few : size ≤ 16) (w v : Word) (pw : ProgramInRange size w) (pv : ProgramInRange size v) (start turned : List ℕ) (right m n : ℕ)
+module _ (size : ℕ) (few : size ≤ mostSize) (w v : Word) (pw : ProgramInRange size w) (pv : ProgramInRange size v) (start turned : List ℕ) (right m n : ℕ)
     (wm : length w ≡ m) (vn : length v ≡ n)
     (fit : right + (m + n) ≡ length start) (part : List ℕ) (i : Inverted (drop right (written start right (plainProgram w))) m part)
     (t : turned ≡ take right (written start right (plainProgram w)) ++ part) where

@@ -14,6 +14,7 @@ use Rattle.model.specs.Presentation.{Presentation, weightOf, weigh}
 use Rattle.model.specs.Range.{All, InRange}
 use Rattle.model.proofs.Equiv.{total-more}
 use Rattle.model.proofs.Lists.{all-at}
+use Rattle.model.specs.Images.{mostSize}
 use Rattle.cells.specs.Layout.{weightAt}
 use Rattle.cells.specs.Stands.{Stands}
 use Rattle.cells.proofs.Rules.{held-weight, light-letter}
@@ -35,7 +36,7 @@ module _ (cells : List ℕ) (T : Presentation) (s : Stands cells T) (u : Positiv
   in-table : InRange (T .size) x
   in-table = subst (InRange (T .size)) (sym is) (all-at (InRange (T .size)) u i 0 named h)
 
-  pub in-range : InRange 16 x
+  pub in-range : InRange mostSize x
   in-range = record { low = in-table .low; high = omega (arith, in-table .high, s .few) }
 
   pub weight-light : suc (getD cells (weightAt x) 0) ≤ 8

@@ -10,10 +10,11 @@ use lib.ListN.{length, getD}
 use Rattle.model.specs.Word.{Positive}
 use Rattle.model.specs.Range.{InRange}
 use Rattle.model.proofs.Impossible.{impossible}
+use Rattle.model.specs.Images.{mostSize}
 use Rattle.spans.specs.Ends.{marked, isEnding, Inside, HasEnd, EndFound, StartFound}
 
 -- a letter's byte ends nothing
-pub letter-ends-none : (n a : ℕ) → n ≤ 16 → InRange n a → isEnding a ≡ false
+pub letter-ends-none : (n a : ℕ) → n ≤ mostSize → InRange n a → isEnding a ≡ false
 letter-ends-none n a few r = ne-eqb (a % marked) 0 (omega (arith, r .low, r .high))
 
 pub inside-none : (area : List ℕ) (at : ℕ) → Inside area at at

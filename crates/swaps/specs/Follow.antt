@@ -8,7 +8,7 @@ use Rattle.model.specs.Word.{Positive}
 use Rattle.model.specs.Presentation.{Presentation}
 use Rattle.model.specs.Equivalence.{Entry, equal}
 use Rattle.model.specs.Outcome.{unplaced, Outcome, answered, refused}
-use Rattle.model.specs.Images.{readChain}
+use Rattle.model.specs.Images.{readChain, mostSize}
 use Rattle.model.specs.Services.{Passage, joins, breaks, ends-elsewhere, followed}
 use Rattle.images.specs.Chains.{ChainOf}
 use Rattle.images.specs.Programs.{ForwardOf}
@@ -36,6 +36,6 @@ FollowMeans cells size chain before left right after r =
 
 pub record Spells (bytes : List ℕ) (letters : ℕ) (program : List ℕ) (size count : ℕ) : Type 0 where
   pub some : 1 ≤ size
-  pub few : size ≤ 16
+  pub few : size ≤ mostSize
   pub inside : letters ≤ length bytes
   pub forward : ForwardOf program size count

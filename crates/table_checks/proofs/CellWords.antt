@@ -7,8 +7,9 @@ use lib.ListN.{length, take, drop, getD}
 use Rattle.model.specs.Word.{Word, Positive, positive, negative, inverse}
 use Rattle.model.specs.Presentation.{Presentation, complement, complete}
 use Rattle.engine.specs.Gap.{letters, wordAt, Searched}
-use Rattle.cells.specs.Layout.{cellAt}
+use Rattle.cells.specs.Layout.{cellAt, cellLength}
 use Rattle.model.specs.Range.{InRange}
+use Rattle.model.specs.Images.{mostSize, mostLength}
 use Rattle.cells.proofs.Rules.{cell-word, WordAt, Rule, inside, word-cell}
 use Rattle.cells.specs.Stands.{Serves}
 use Rattle.engine.specs.Turn.{Pushed}
@@ -25,17 +26,18 @@ module _ {cells : List ℕ} {T : Presentation} {word : Word} (s : Serves cells w
   pub rule-of : (getD cells (cellAt a b) 0 ≡ 255 → ⊥) → Rule cells T a b
   rule-of h = word-cell cells T (s .stands) a b ra rb h
 
-  pub short-cell : (getD cells (cellAt a b) 0 ≡ 255 → ⊥) → getD cells (cellAt a b) 0 ≤ 15
+  pub short-cell : (getD cells (cellAt a b) 0 ≡ 255 → ⊥) → getD cells (cellAt a b) 0 ≤ mostLength
   short-cell h = let r = rule-of h in omega (arith, r .to .count, r .to .short)
 
-  pub cell-inside : cellAt a b + 16 ≤ length cells
+  pub cell-inside : cellAt a b + cellLength ≤ length cells
   cell-inside = inside cells T (s .stands) a b ra rb
 
 module _ (cells bytes mid last : List ℕ) (a b c to-b to-c : ℕ) (eb : to-b ≡ cellAt a b) (ec : to-c ≡ cellAt a c)
     (p : Pushed (inverse (letters (take (getD cells to-b 0) (drop (to-b + 1) cells)))) bytes (getD cells to-b 0) (getD cells to-b 0) mid)
     (q : Pushed (letters (take (getD cells to-c 0) (drop (to-c + 1) cells))) mid (length bytes) (getD cells to-c 0) last)
     (room : getD cells to-b 0 + getD cells to-c 0 ≤ length bytes)
-    (T : Presentation) (few : T .size ≤ 16) (x y : Positive) (cx : WordAt cells (cellAt a b) (T .size) x) (cy : WordAt cells (cellAt a c) (T .size) y) where
+    (T : Presentation) (few : T .size ≤ mostSize) (x y : Positive) (cx : WordAt cells (cellAt a b) (T .size) x)
+    (cy : WordAt cells (cellAt a c) (T .size) y) where
   x-count : getD cells to-b 0 ≡ length x
   x-count = ap (λ i. getD cells i 0) eb ∙ cx .count
 

@@ -10,6 +10,7 @@ use Rattle.model.specs.Presentation.{Presentation, complement, complete, weight
 use Rattle.model.specs.Range.{InRange}
 use Rattle.model.proofs.Equiv.{total-more}
 use Rattle.model.proofs.Lists.{all-at}
+use Rattle.model.specs.Images.{mostLength}
 use Rattle.cells.specs.Layout.{cellAt, weightAt}
 use Rattle.cells.specs.Stands.{HoldsWord, HoldsFirst, Of}
 use Rattle.cells.proofs.Rules.{Rule, word-cell, held-weight, light-letter}
@@ -39,7 +40,7 @@ module _ (cells : List ℕ) (size : ℕ) (T : Presentation) (o : Of cells size T
     pub side-count : getD cells (cellAt a b) 0 ≡ length x
     side-count = completion .count
 
-    pub side-short : length x ≤ 15
+    pub side-short : length x ≤ mostLength
     side-short = omega (arith, completion .in-range .short)
 
     pub side-letter : (k : ℕ) → k < length x → InRange size (getD cells (cellAt a b + 1 + k) 0)

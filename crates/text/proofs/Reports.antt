@@ -8,7 +8,7 @@ use lib.Seq.{take-at, drop-at, length-take-le}
 use Rattle.model.specs.Word.{forward, back, Word, byte}
 use Rattle.model.specs.Presentation.{Presentation}
 use Rattle.model.specs.Outcome.{Outcome, answered, _>>=_, mapped}
-use Rattle.model.specs.Images.{readTable, readProgram}
+use Rattle.model.specs.Images.{readTable, readProgram, mostSize}
 use Rattle.model.specs.Services.{readTableWith, sizes, Fraction, reverse}
 use Rattle.model.specs.Areas.{begins}
 use Rattle.model.specs.Stated.{refusal}
@@ -46,7 +46,7 @@ module _ (table program : List ℕ) where
     answer x g = sym (ap outcomeText (read-both ∙ goes-on outcome x g (text T w)))
 
 -- the bytes of a program's letters are written as its letters
-pub bytes-word : (n : ℕ) → n ≤ 16 → (w : Word) → All (LetterInRange n) w → bytesText (map byte w) ≡ wordText w
+pub bytes-word : (n : ℕ) → n ≤ mostSize → (w : Word) → All (LetterInRange n) w → bytesText (map byte w) ≡ wordText w
 unfolding bytesText wordText
 bytes-word n h [] p = refl
 bytes-word n h (forward a ∷ w) p = ap₂ _++_ (ap letterText (letter-forward a (omega (arith, p .0 .high)))) (bytes-word n h w (p .1))

@@ -15,8 +15,9 @@ use Rattle.model.specs.Range.{InRange, All}
 use Rattle.model.proofs.Impossible.{impossible}
 use Rattle.model.proofs.Lists.{all-at}
 use Rattle.model.proofs.Entries.{applied-applies}
+use Rattle.model.specs.Images.{mostSize, mostLength}
 use Rattle.theory.proofs.Ways.{joined-letters}
-use Rattle.cells.specs.Layout.{cellAt}
+use Rattle.cells.specs.Layout.{cellAt, cellBytes}
 use Rattle.cells.specs.Stands.{Stands}
 use Rattle.cells.proofs.Rules.{Rule, word-cell}
 use Rattle.swaps.proofs.Comparing.{lengths-differ}
@@ -108,13 +109,13 @@ module _ {cells : List ℕ} {size : ℕ} (g : Work cells size) (area : List ℕ)
       from-count : getD cells from 0 ≡ length (rule .y)
       from-count = ap (λ i. getD cells i 0) ef ∙ rule .from .count
 
-      pub side-held : (to + 1 + getD cells to 0 ≤ length cells) × (getD cells to 0 ≤ 15)
+      pub side-held : (to + 1 + getD cells to 0 ≤ length cells) × (getD cells to 0 ≤ mostLength)
       side-held = (
         omega (arith, to-count, rule .to .short, et, st .full, st .few, ra .high, rb .high, ra .low, rb .low),
         omega (arith, to-count, rule .to .short),
       )
 
-      pub other-held : (from + (1 + getD cells from 0) ≤ length cells) × (getD cells from 0 ≤ 15)
+      pub other-held : (from + (1 + getD cells from 0) ≤ length cells) × (getD cells from 0 ≤ mostLength)
       other-held = (
         omega (arith, from-count, rule .from .short, ef, st .full, st .few, ra .high, rb .high, ra .low, rb .low),
         omega (arith, from-count, rule .from .short),
@@ -215,11 +216,11 @@ module _ {cells : List ℕ} {size : ℕ} (g : Work cells size) (area : List ℕ)
             ∙ ap some (sym new-is))
 
 -- letters of a table are letters that a table can have, and their cells are there
-pub sixteen : {cells : List ℕ} {size : ℕ} (g : Work cells size) (a : ℕ) → InRange (g .table .size) a → InRange 16 a
+pub sixteen : {cells : List ℕ} {size : ℕ} (g : Work cells size) (a : ℕ) → InRange (g .table .size) a → InRange mostSize a
 sixteen g a r = record { low = r .low; high = omega (arith, r .high, g .of .stands .few) }
 
 pub in-table : {cells : List ℕ} {size : ℕ} (g : Work cells size) (b : ℕ) → InRange size b → InRange (g .table .size) b
 in-table g b r = subst (λ n. InRange n b) (sym (g .of .sized)) r
 
-pub cell-inside : (cells : List ℕ) (a b to : ℕ) → length cells ≡ 4096 → InRange 16 a → InRange 16 b → to ≡ cellAt a b → to < length cells
+pub cell-inside : (cells : List ℕ) (a b to : ℕ) → length cells ≡ cellBytes → InRange mostSize a → InRange mostSize b → to ≡ cellAt a b → to < length cells
 cell-inside cells a b to full ra rb e = omega (arith, full, ra .low, ra .high, rb .low, rb .high, e)

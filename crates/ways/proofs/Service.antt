@@ -19,7 +19,7 @@ use Rattle.model.specs.Equivalence.{Joined}
 use Rattle.model.specs.Enumeration.{pairs}
 use Rattle.model.specs.Range.{All, InRange, Lettered}
 use Rattle.model.specs.Outcome.{Outcome, answered, refused, _>>=_, unless, mapped}
-use Rattle.model.specs.Images.{readTable, readProgram}
+use Rattle.model.specs.Images.{readTable, readProgram, mostSize}
 use Rattle.model.specs.Plain.{plainProgram}
 use Rattle.model.specs.Services.{isForward, readForward, readTableWith}
 use Rattle.model.specs.Checks.{weightCheck}
@@ -60,7 +60,7 @@ module _ (cells : List ℕ) (size : ℕ) (program : List ℕ) (count : ℕ) (f :
   pub word-length : length u ≡ count
   word-length = ap length (sym same-word) ∙ f .count-is
 
-  few : size ≤ 16
+  few : size ≤ mostSize
   few = of-few (p .of)
 
   pub weighed : Weighed T u
@@ -228,7 +228,7 @@ forward-letters n (forward a ∷ w) h = (h .0, forward-letters n w (h .1))
 forward-letters n (back a ∷ w) h = forward-letters n w (h .1)
 
 -- a program that was read names letters only
-read-letters : (n : ℕ) → n ≤ 16 → (bytes : List ℕ) (u : Positive) → readForward n bytes ≡ answered u → All (InRange n) u
+read-letters : (n : ℕ) → n ≤ mostSize → (bytes : List ℕ) (u : Positive) → readForward n bytes ≡ answered u → All (InRange n) u
 unfolding readForward
 read-letters n few bytes u h = go (readProgram n bytes) refl h
   where
@@ -246,7 +246,7 @@ module _ (table program before after : List ℕ) (r : Ways) (a : Answers (ways t
       let t = told-words (ways table program (length before)) c (sym (a .result) ∙ told) in
       by (weightCheck T (pairs (T .size))) refl (t .0) (t .1) (t .2)
     where
-      few : T .size ≤ 16
+      few : T .size ≤ mostSize
       few = table-in-range table T e .few
 
       means : weightCheck T (pairs (T .size)) ≡ answered tt → (vs : List Positive) → ways table program (length before) ≡ answered vs → counts vs ≡ c

@@ -14,7 +14,7 @@ use lib.Pow.{pow-add, shl-exact}
 use Rattle.model.specs.Word.{forward, back, letter}
 use Rattle.model.specs.Enumeration.{concatMap}
 use Rattle.model.specs.Bits.{digits, pack, letterWidth}
-use Rattle.model.specs.Images.{letterBits, signedBits, programImage}
+use Rattle.model.specs.Images.{letterBits, signedBits, programImage, countWidth}
 use Rattle.model.specs.Plain.{namesLetter}
 use Rattle.model.proofs.Lists.{concat-append}
 use Rattle.bits.proofs.Digits.{AreBits, length-digits, digits-are-bits, bits-append, digits-append, digits-joined, digits-mod}
@@ -93,26 +93,26 @@ module _ (size width : ℕ) (width-is : width ≡ letterWidth size) (plain : Lis
   unfolding firstBits
   first-none = refl
 
-  pub first-all : (i : ℕ) → length plain ≤ i → digits 12 (length plain) ++ firstBits size plain i ≡ programBits size plain
+  pub first-all : (i : ℕ) → length plain ≤ i → digits countWidth (length plain) ++ firstBits size plain i ≡ programBits size plain
   unfolding firstBits programBits
-  first-all i h = ap (λ l. digits 12 (length plain) ++ concatMap (signedBits size) (map letter l)) (take-all i plain h)
+  first-all i h = ap (λ l. digits countWidth (length plain) ++ concatMap (signedBits size) (map letter l)) (take-all i plain h)
 
-  pub program-length : length (programBits size plain) ≡ 12 + length plain * (1 + width)
+  pub program-length : length (programBits size plain) ≡ countWidth + length plain * (1 + width)
   program-length =
       ap length (sym (first-all (length plain) (omega arith)))
-      ∙ (length-append (digits 12 (length plain)) (firstBits size plain (length plain))
-      ∙ omega (arith, length-digits 12 (length plain), first-length (length plain) (omega arith)))
+      ∙ (length-append (digits countWidth (length plain)) (firstBits size plain (length plain))
+      ∙ omega (arith, length-digits countWidth (length plain), first-length (length plain) (omega arith)))
 
 pub program-bits : (size : ℕ) (plain : List ℕ) → AreBits (programBits size plain)
 unfolding programBits
 program-bits size plain =
-    bits-append (digits 12 (length plain)) (concatMap (signedBits size) (map letter plain)) (digits-are-bits 12 (length plain))
+    bits-append (digits countWidth (length plain)) (concatMap (signedBits size) (map letter plain)) (digits-are-bits countWidth (length plain))
     (concat-bits (signedBits size) (signed-are-bits size) (map letter plain))
 
 pub program-image : (size : ℕ) (plain : List ℕ) → programImage size (map letter plain) ≡ pack (programBits size plain)
 unfolding programBits programImage
-program-image size plain = ap (λ n. pack (digits 12 n ++ concatMap (signedBits size) (map letter plain))) (length-map plain letter)
+program-image size plain = ap (λ n. pack (digits countWidth n ++ concatMap (signedBits size) (map letter plain))) (length-map plain letter)
 
 -- the count's twelve bits, as four and eight
-pub count-parts : (n : ℕ) → digits 4 (n / 256) ++ digits 8 (n % 256) ≡ digits 12 n
-count-parts n = ap (λ l. digits 4 (n / 256) ++ l) (digits-mod 8 n) ∙ sym (digits-append 4 8 n)
+pub count-parts : (n : ℕ) → digits (countWidth - 8) (n / 256) ++ digits 8 (n % 256) ≡ digits countWidth n
+count-parts n = ap (λ l. digits (countWidth - 8) (n / 256) ++ l) (digits-mod 8 n) ∙ sym (digits-append (countWidth - 8) 8 n)

@@ -8,7 +8,7 @@ use Rattle.model.specs.Word.{Positive}
 use Rattle.model.specs.Presentation.{Presentation, Complement, undefined, complement}
 use Rattle.model.specs.Enumeration.{concatMap}
 use Rattle.model.specs.Bits.{bitsOf, digits, pack}
-use Rattle.model.specs.Images.{weightWidth, pairBits, tableImage}
+use Rattle.model.specs.Images.{weightWidth, pairBits, tableImage, mostSize, sizeWidth}
 use Rattle.model.specs.Plain.{plainWord, plainPair, plainTable}
 use Rattle.model.specs.Range.{All, AreBytes, InRange, WordInRange, PairInRange, Rows, TableInRange}
 use Rattle.bits.proofs.Bytes.{bits-of-append, bits-are-bits}
@@ -19,7 +19,7 @@ use Rattle.writers.specs.Forms.{letterAs, pairAs, weightAs, tableAs, For
 
 -- THE IMAGE
 
-pub image-fits : (size : ℕ) → 1 ≤ size → size ≤ 16 → FormFor size (imageForm size)
+pub image-fits : (size : ℕ) → 1 ≤ size → size ≤ mostSize → FormFor size (imageForm size)
 image-fits size some few =
     record {
       sizes-narrow = omega arith;
@@ -51,15 +51,15 @@ pub image-bits : (T : Presentation) (size : ℕ) → T .size ≡ size → pack (
 unfolding tableImage
 image-bits T size e =
     ap pack
-    (ap₂ (λ l r. digits 4 (size - 1) ++ (l ++ r))
+    (ap₂ (λ l r. digits sizeWidth (size - 1) ++ (l ++ r))
     (concat-same (weightAs (imageForm size)) (digits weightWidth) (λ e. ap (digits weightWidth) {x = e + 0} {y = e} (omega arith)) (T .excess))
     (concat-same (concatMap (pairAs (imageForm size))) (concatMap (pairBits size)) (concat-same (pairAs (imageForm size)) (pairBits size) (pair-image size))
     (T .rows)))
-    ∙ ap (λ n. pack (digits 4 (n - 1) ++ (concatMap (digits weightWidth) (T .excess) ++ concatMap (concatMap (pairBits n)) (T .rows)))) (sym e)
+    ∙ ap (λ n. pack (digits sizeWidth (n - 1) ++ (concatMap (digits weightWidth) (T .excess) ++ concatMap (concatMap (pairBits n)) (T .rows)))) (sym e)
 
 -- THE PLAIN FORM
 
-pub plain-fits : (size : ℕ) → size ≤ 16 → FormFor size plainForm
+pub plain-fits : (size : ℕ) → size ≤ mostSize → FormFor size plainForm
 plain-fits size few =
     record {
       sizes-narrow = omega arith;
@@ -125,18 +125,18 @@ bytes-concat : {A : Type 0} (P : A → Type 0) (f : A → List ℕ) → ((x : A)
 bytes-concat P f h [] r = bytes-none
 bytes-concat P f h (x ∷ xs) r = bytes-append (f x) (concatMap f xs) (h x (r .0)) (bytes-concat P f h xs (r .1))
 
-letters-bytes : (n : ℕ) → n ≤ 16 → (x : Positive) → All (InRange n) x → AreBytes x
+letters-bytes : (n : ℕ) → n ≤ mostSize → (x : Positive) → All (InRange n) x → AreBytes x
 letters-bytes n few [] r = bytes-none
 letters-bytes n few (a ∷ x) r = bytes-cons a x (omega (arith, r .0 .high)) (letters-bytes n few x (r .1))
 
-word-bytes : (n : ℕ) → n ≤ 16 → (x : Positive) → WordInRange n x → AreBytes (plainWord x)
+word-bytes : (n : ℕ) → n ≤ mostSize → (x : Positive) → WordInRange n x → AreBytes (plainWord x)
 word-bytes n few x r = bytes-cons (length x) x (omega (arith, r .short)) (letters-bytes n few x (r .letters))
 
-pair-bytes : (n : ℕ) → n ≤ 16 → (pair : Complement) → PairInRange n pair → AreBytes (plainPair pair)
+pair-bytes : (n : ℕ) → n ≤ mostSize → (pair : Complement) → PairInRange n pair → AreBytes (plainPair pair)
 pair-bytes n few undefined r = bytes-cons 255 [] (omega arith) bytes-none
 pair-bytes n few (complement x y) r = bytes-append (plainWord x) (plainWord y) (word-bytes n few x (r .0)) (word-bytes n few y (r .1))
 
-rows-bytes : (n : ℕ) → n ≤ 16 → (k : ℕ) (rows : List (List Complement)) → Rows (PairInRange n) k rows → AreBytes (concatMap (concatMap plainPair) rows)
+rows-bytes : (n : ℕ) → n ≤ mostSize → (k : ℕ) (rows : List (List Complement)) → Rows (PairInRange n) k rows → AreBytes (concatMap (concatMap plainPair) rows)
 rows-bytes n few zero [] r = bytes-none
 rows-bytes n few zero (row ∷ rows) r = absurd r
 rows-bytes n few (suc k) [] r = absurd r

@@ -6,7 +6,7 @@ use Rattle.model.specs.Word.{Positive}
 use Rattle.model.specs.Presentation.{Complement, undefined, complement}
 use Rattle.model.specs.Enumeration.{concatMap}
 use Rattle.model.specs.Bits.{digits}
-use Rattle.model.specs.Images.{weightWidth}
+use Rattle.model.specs.Images.{weightWidth, mostLength}
 use Rattle.model.specs.Range.{InRange}
 use Rattle.images.specs.declared.forms.Form.{Form}
 
@@ -41,5 +41,5 @@ pub record FormFor (size : ℕ) (f : Form) : Type 0 where
   pub weight-fits : (e : ℕ) → e < 2 ^ weightWidth → e + f .more < 2 ^ f .weights
   pub mark-fits : f .mark < 2 ^ f .opens
   pub head-fits : f .head < 2 ^ f .heads
-  pub length-fits : 15 < 2 ^ f .lengths
+  pub length-fits : mostLength < 2 ^ f .lengths
   pub letter-fits : (a : ℕ) → InRange size a → a - f .less < 2 ^ f .letters

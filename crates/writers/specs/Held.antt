@@ -5,6 +5,7 @@ use Prim.Native.Nat.{ℕ, _+_, _≤_}
 use lib.ListN.{length}
 use Rattle.model.specs.Word.{Positive}
 use Rattle.model.specs.Presentation.{Complement}
+use Rattle.model.specs.Images.{mostSize}
 use Rattle.cells.specs.Stands.{HoldsWord, HoldsWeights}
 use Rattle.cells.specs.Kept.{HoldsPair}
 use Rattle.images.specs.Tables.{HoldsRow, RowsHeld}
@@ -23,7 +24,7 @@ pub record HoldsSomePair (size : ℕ) (cells : List ℕ) (a b : ℕ) : Type 0 wh
 pub record HoldsSomeRow (size : ℕ) (cells : List ℕ) (a : ℕ) : Type 0 where
   pub positive : 1 ≤ a
   pub below : a ≤ size
-  pub few : size ≤ 16
+  pub few : size ≤ mostSize
   pub row : List Complement
   pub row-length : length row + a ≡ size
   pub holds : HoldsRow size cells a row
@@ -31,7 +32,7 @@ pub record HoldsSomeRow (size : ℕ) (cells : List ℕ) (a : ℕ) : Type 0 where
 -- the cells hold some table of so many letters
 pub record HoldsSomeTable (size : ℕ) (cells : List ℕ) : Type 0 where
   pub some : 1 ≤ size
-  pub few : size ≤ 16
+  pub few : size ≤ mostSize
   pub excess : List ℕ
   pub weights : HoldsWeights size cells excess
   pub rows : List (List Complement)

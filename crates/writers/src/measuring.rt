@@ -6,7 +6,7 @@ ghost use Prim.Native.Nat.{ℕ, _+_, _≤_};
 ghost use lib.ListN.{length};
 ghost use Rattle.model.specs.Presentation.{Complement};
 ghost use Rattle.model.specs.Enumeration.{concatMap};
-ghost use Rattle.cells.specs.Layout.{Letters};
+ghost use Rattle.cells.specs.Layout.{Letters, cellBytes};
 ghost use Rattle.cells.specs.Stands.{HoldsWeights};
 ghost use Rattle.cells.specs.Kept.{HoldsPair};
 ghost use Rattle.images.specs.Tables.{HoldsRow, RowsHeld};
@@ -18,7 +18,7 @@ use images::forms::Form;
 
 // The bits of a pair.
 pub fn pair_bits(cells: &[u8], a: u8, b: u8, size: u8, form: Form) -> usize
-    requires { ⌜ HoldsSomePair size (now cells) a b × Letters a b × FormFor size form × (length (now cells) ≡ 4096) ⌝ }
+    requires { ⌜ HoldsSomePair size (now cells) a b × Letters a b × FormFor size form × (length (now cells) ≡ cellBytes) ⌝ }
     ensures bits { λ r. ⌜ ((pair : Complement) → HoldsPair size (now (cells .entry)) a b pair → r ≡ length (pairAs form pair)) ⌝ }
     ensures near { λ r. ⌜ r ≤ 264 ⌝ }
 {
@@ -34,7 +34,7 @@ pub fn pair_bits(cells: &[u8], a: u8, b: u8, size: u8, form: Form) -> usize
 
 // The bits of the pairs of a letter with those after it.
 pub fn row_bits(cells: &[u8], size: u8, a: u8, form: Form) -> usize
-    requires { ⌜ HoldsSomeRow size (now cells) a × FormFor size form × (length (now cells) ≡ 4096) ⌝ }
+    requires { ⌜ HoldsSomeRow size (now cells) a × FormFor size form × (length (now cells) ≡ cellBytes) ⌝ }
     ensures bits { λ r. ⌜ ((row : List Complement) → HoldsRow size (now (cells .entry)) a row → length row + a ≡ size
         → r ≡ length (concatMap (pairAs form) row)) ⌝ }
     ensures near { λ r. ⌜ r ≤ 3960 ⌝ }
@@ -50,7 +50,7 @@ pub fn row_bits(cells: &[u8], size: u8, a: u8, form: Form) -> usize
 
 // The bits of a table.
 pub fn table_bits(cells: &[u8], size: u8, form: Form) -> usize
-    requires { ⌜ HoldsSomeTable size (now cells) × FormFor size form × (length (now cells) ≡ 4096) ⌝ }
+    requires { ⌜ HoldsSomeTable size (now cells) × FormFor size form × (length (now cells) ≡ cellBytes) ⌝ }
     ensures bits { λ r. ⌜ ((excess : List ℕ) (rows : List (List Complement)) → HoldsWeights size (now (cells .entry)) excess
         → RowsHeld size (now (cells .entry)) rows → r ≡ length (tableAs form size excess rows)) ⌝ }
     ensures near { λ r. ⌜ r ≤ 65535 ⌝ }

@@ -8,7 +8,7 @@ ghost use Rattle.model.specs.Word.{Positive};
 ghost use Rattle.model.specs.Presentation.{Complement};
 ghost use Rattle.model.specs.Enumeration.{concatMap};
 ghost use Rattle.model.specs.Bits.{pack};
-ghost use Rattle.cells.specs.Layout.{Letters};
+ghost use Rattle.cells.specs.Layout.{Letters, cellLength, cellBytes};
 ghost use Rattle.cells.specs.Stands.{HoldsWord, HoldsWeights};
 ghost use Rattle.cells.specs.Kept.{HoldsPair};
 ghost use Rattle.images.specs.Tables.{HoldsRow, RowsHeld};
@@ -36,7 +36,7 @@ pub fn put_word(
     area: &mut [u8],
     begin: BitWriter,
 ) -> BitWriter
-    requires { ⌜ HoldsSomeWord size (now cells) cell × FormFor size form × (cell + 16 ≤ length (now cells)) × Writes (now area) begin ⌝ }
+    requires { ⌜ HoldsSomeWord size (now cells) cell × FormFor size form × (cell + cellLength ≤ length (now cells)) × Writes (now area) begin ⌝ }
     ensures { λ r. ⌜ ((x : Positive) → HoldsWord size (now (cells .entry)) cell x → Puts (now (area .entry)) begin (wordAs form x) (now (area .exit)) r) ⌝ }
 {
     let first = cells[cell];
@@ -61,7 +61,7 @@ pub fn put_pair(
     area: &mut [u8],
     begin: BitWriter,
 ) -> BitWriter
-    requires { ⌜ HoldsSomePair size (now cells) a b × Letters a b × FormFor size form × (length (now cells) ≡ 4096) × Writes (now area) begin ⌝ }
+    requires { ⌜ HoldsSomePair size (now cells) a b × Letters a b × FormFor size form × (length (now cells) ≡ cellBytes) × Writes (now area) begin ⌝ }
     ensures { λ r. ⌜ ((pair : Complement) → HoldsPair size (now (cells .entry)) a b pair → Puts (now (area .entry)) begin (pairAs form pair)
         (now (area .exit)) r) ⌝ }
 {
@@ -84,7 +84,7 @@ pub fn put_row(
     area: &mut [u8],
     begin: BitWriter,
 ) -> BitWriter
-    requires { ⌜ HoldsSomeRow size (now cells) a × FormFor size form × (length (now cells) ≡ 4096) × Writes (now area) begin ⌝ }
+    requires { ⌜ HoldsSomeRow size (now cells) a × FormFor size form × (length (now cells) ≡ cellBytes) × Writes (now area) begin ⌝ }
     ensures { λ r. ⌜ ((row : List Complement) → HoldsRow size (now (cells .entry)) a row → length row + a ≡ size
         → Puts (now (area .entry)) begin (concatMap (pairAs form) row) (now (area .exit)) r) ⌝ }
 {
@@ -105,7 +105,7 @@ pub fn put_weights(
     area: &mut [u8],
     begin: BitWriter,
 ) -> BitWriter
-    requires { ⌜ HoldsSomeTable size (now cells) × FormFor size form × (length (now cells) ≡ 4096) × Writes (now area) begin ⌝ }
+    requires { ⌜ HoldsSomeTable size (now cells) × FormFor size form × (length (now cells) ≡ cellBytes) × Writes (now area) begin ⌝ }
     ensures { λ r. ⌜ ((excess : List ℕ) → HoldsWeights size (now (cells .entry)) excess → Puts (now (area .entry)) begin (concatMap (weightAs form) excess)
         (now (area .exit)) r) ⌝ }
 {
@@ -126,7 +126,7 @@ pub fn put_weights(
 
 // The pairs of a table, from their cells.
 pub fn put_rows(cells: &[u8], size: u8, form: Form, area: &mut [u8], begin: BitWriter) -> BitWriter
-    requires { ⌜ HoldsSomeTable size (now cells) × FormFor size form × (length (now cells) ≡ 4096) × Writes (now area) begin ⌝ }
+    requires { ⌜ HoldsSomeTable size (now cells) × FormFor size form × (length (now cells) ≡ cellBytes) × Writes (now area) begin ⌝ }
     ensures { λ r. ⌜ ((rows : List (List Complement)) → RowsHeld size (now (cells .entry)) rows
         → Puts (now (area .entry)) begin (concatMap (concatMap (pairAs form)) rows) (now (area .exit)) r) ⌝ }
 {
@@ -141,7 +141,7 @@ pub fn put_rows(cells: &[u8], size: u8, form: Form, area: &mut [u8], begin: BitW
 
 // A table, from its cells.
 pub fn put_table(cells: &[u8], size: u8, form: Form, area: &mut [u8]) -> BitWriter
-    requires { ⌜ HoldsSomeTable size (now cells) × FormFor size form × (length (now cells) ≡ 4096) ⌝ }
+    requires { ⌜ HoldsSomeTable size (now cells) × FormFor size form × (length (now cells) ≡ cellBytes) ⌝ }
     ensures { λ r. ⌜ ((excess : List ℕ) (rows : List (List Complement)) → HoldsWeights size (now (cells .entry)) excess
         → RowsHeld size (now (cells .entry)) rows → Puts (now (area .entry)) (record { next = 0; held = 0; bits = 0 }) (tableAs form size excess rows)
         (now (area .exit)) r) ⌝ }
@@ -158,7 +158,7 @@ pub fn put_table(cells: &[u8], size: u8, form: Form, area: &mut [u8]) -> BitWrit
 
 // Writes a table where the area has room for it.
 pub fn write_table(cells: &[u8], size: u8, form: Form, area: &mut [u8]) -> Packed
-    requires { ⌜ HoldsSomeTable size (now cells) × FormFor size form × (length (now cells) ≡ 4096) ⌝ }
+    requires { ⌜ HoldsSomeTable size (now cells) × FormFor size form × (length (now cells) ≡ cellBytes) ⌝ }
     ensures { λ r. ⌜ ((excess : List ℕ) (rows : List (List Complement)) → HoldsWeights size (now (cells .entry)) excess
         → RowsHeld size (now (cells .entry)) rows → Fills (now (area .entry)) (pack (tableAs form size excess rows)) r (now (area .exit))) ⌝ }
 {

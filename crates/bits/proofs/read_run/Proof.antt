@@ -8,9 +8,10 @@ use Rattle.bits.proofs.Runs.{shifted-one, run-read}
 use borrow.Author.Needs.{needs}
 use Rattle.bits.proofs.read_run.Statement.{statement}
 use Rattle.bits.proofs.read_run.Tie as tie
+use Rattle.bits.specs.Fields.{mostWidth}
 
 span : (c : tie.Start) → (1 * 2 ^ c .args .count) % 65536 ≡ 2 ^ c .args .count
-span c = shifted-one 16 (c .args .count) (omega (arith, c .pre .1))
+span c = shifted-one mostWidth (c .args .count) (omega (arith, c .pre .1))
 
 cast-result : tie.Need-cast-result
 cast-result c = omega (arith, c .shared-slice-known .given (c .before .args .at / 8))

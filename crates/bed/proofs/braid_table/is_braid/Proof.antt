@@ -4,6 +4,7 @@ use Prim.Native.Nat.{ℕ, _+_, _-_, _≤_, _<_}
 use native.Mathlib.Omega.{arith}
 use borrow.Author.Tests.{not-true, not-false}
 use Rattle.model.specs.Presentation.{Presentation}
+use Rattle.model.specs.Images.{mostSize}
 use Rattle.cells.specs.Stands.{Of}
 use Rattle.theory.proofs.Braiding.{all-braid, not-braid}
 use Rattle.bed.specs.BraidTable.{BraidRow}
@@ -14,7 +15,7 @@ use Rattle.bed.proofs.braid_table.is_braid.Tie as tie
 
 abbrev Inv-loop : tie.InvT-loop
 Inv-loop cells size a₀ a =
-    (1 ≤ a) × (a ≤ size + 1) × (size ≤ 16) × ((T : Presentation) → Of cells size T → (k : ℕ) → 0 < k → k < a → BraidRow T size k)
+    (1 ≤ a) × (a ≤ size + 1) × (size ≤ mostSize) × ((T : Presentation) → Of cells size T → (k : ℕ) → 0 < k → k < a → BraidRow T size k)
 
 abbrev μ-loop : tie.MeasureT-loop
 μ-loop cells size a₀ a = size + 1 - a

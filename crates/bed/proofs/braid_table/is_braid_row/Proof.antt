@@ -3,6 +3,7 @@ use Prim.Native.Nat.{ℕ, _+_, _-_, _≤_, _<_}
 use native.Mathlib.Omega.{arith}
 use borrow.Author.Tests.{not-true, not-false}
 use Rattle.model.specs.Presentation.{Presentation}
+use Rattle.model.specs.Images.{mostSize}
 use Rattle.cells.specs.Stands.{Of}
 use Rattle.bed.specs.BraidTable.{BraidPair}
 use Rattle.cells.proofs.Rules.{of-few, of-range, filled}
@@ -12,7 +13,7 @@ use Rattle.bed.proofs.braid_table.is_braid_row.Tie as tie
 
 abbrev Inv-loop : tie.InvT-loop
 Inv-loop cells size a b₀ b =
-    (a < b) × (b ≤ size + 1) × (size ≤ 16) × ((T : Presentation) → Of cells size T → (k : ℕ) → a < k → k < b → BraidPair T a k)
+    (a < b) × (b ≤ size + 1) × (size ≤ mostSize) × ((T : Presentation) → Of cells size T → (k : ℕ) → a < k → k < b → BraidPair T a k)
 
 abbrev μ-loop : tie.MeasureT-loop
 μ-loop cells size a b₀ b = size + 1 - b

@@ -6,6 +6,7 @@ use Rattle.entries.proofs.Placing.{position-small}
 use borrow.Author.Needs.{needs}
 use Rattle.entries.proofs.entry.position.Statement.{statement}
 use Rattle.entries.proofs.entry.position.Tie as tie
+use Rattle.model.specs.Images.{chainCountWidth, offsetWidth}
 
 mul-result-2 : tie.Need-mul-result-2
 mul-result-2 c =
@@ -17,7 +18,7 @@ add-result-2 c =
 
 returns : tie.Need-returns
 returns c =
-    ap (λ w. 16 + c .before .args .index * (15 + 2 * w)) (c .letter-width .ensures)
+    ap (λ w. chainCountWidth + c .before .args .index * (offsetWidth + 2 * w)) (c .letter-width .ensures)
 
 pub position-spec : {M : Type 1} → statement M
 position-spec = tie.close (tie.spec (λ c κs. search needs) (λ c. search needs) (λ c. search needs) (λ c. search needs) mul-result-2 add-result-2 returns)

@@ -6,6 +6,7 @@ use Rattle.entries.proofs.Placing.{entry-small, first-inside, second-in
 use borrow.Author.Needs.{needs}
 use Rattle.entries.proofs.entry.read_entry.Statement.{statement}
 use Rattle.entries.proofs.entry.read_entry.Tie as tie
+use Rattle.model.specs.Images.{offsetWidth}
 
 abbrev start : tie.After-letter-width → tie.Start
 start c = c .before .before .before
@@ -55,7 +56,7 @@ add-t12 c =
     let width = c .before .before .before .letter-width in
     omega (
       arith,
-      letter-small (s .pre) (at .result) (width .result) (at .ensures) (width .ensures) (at .result + 15) (c .before .read-field2 .result)
+      letter-small (s .pre) (at .result) (width .result) (at .ensures) (width .ensures) (at .result + offsetWidth) (c .before .read-field2 .result)
           (second-inside (s .pre) (at .result) (width .result) (at .ensures) (width .ensures)) (c .before .read-field2 .ensures),
     )
 
@@ -67,7 +68,7 @@ cast-t9 c =
     let width = c .before .before .before .letter-width in
     omega (
       arith,
-      letter-small (s .pre) (at .result) (width .result) (at .ensures) (width .ensures) (at .result + 15) (c .before .read-field2 .result)
+      letter-small (s .pre) (at .result) (width .result) (at .ensures) (width .ensures) (at .result + offsetWidth) (c .before .read-field2 .result)
           (second-inside (s .pre) (at .result) (width .result) (at .ensures) (width .ensures)) (c .before .read-field2 .ensures),
     )
 
@@ -79,7 +80,7 @@ add-t13 c =
     let width = c .before .before .before .letter-width in
     omega (
       arith,
-      letter-small (s .pre) (at .result) (width .result) (at .ensures) (width .ensures) (at .result + 15 + width .result) (c .read-field3 .result)
+      letter-small (s .pre) (at .result) (width .result) (at .ensures) (width .ensures) (at .result + offsetWidth + width .result) (c .read-field3 .result)
           (third-inside (s .pre) (at .result) (width .result) (at .ensures) (width .ensures)) (c .read-field3 .ensures),
     )
 
@@ -91,7 +92,7 @@ cast-t14 c =
     let width = c .before .before .before .letter-width in
     omega (
       arith,
-      letter-small (s .pre) (at .result) (width .result) (at .ensures) (width .ensures) (at .result + 15 + width .result) (c .read-field3 .result)
+      letter-small (s .pre) (at .result) (width .result) (at .ensures) (width .ensures) (at .result + offsetWidth + width .result) (c .read-field3 .result)
           (third-inside (s .pre) (at .result) (width .result) (at .ensures) (width .ensures)) (c .read-field3 .ensures),
     )
 

@@ -9,6 +9,7 @@ use Rattle.entries.proofs.Placing.{GatherFits, gather-fits, entry-writa
 use borrow.Author.Needs.{needs}
 use Rattle.entries.proofs.entry.write_entry.Statement.{statement}
 use Rattle.entries.proofs.entry.write_entry.Tie as tie
+use Rattle.model.specs.Images.{sizeWidth}
 
 abbrev start : tie.After-letter-width → tie.Start
 start c = c .before .before .before
@@ -16,8 +17,8 @@ start c = c .before .before .before
 abbrev wide : tie.After-struct-known3 → tie.After-letter-width
 wide c = c .before .before .before
 
-narrow : (c : tie.After-letter-width) → c .letter-width .result ≤ 4
-narrow c = subst (λ n. n ≤ 4) (sym (c .letter-width .ensures)) (width-small (start c .args .size))
+narrow : (c : tie.After-letter-width) → c .letter-width .result ≤ sizeWidth
+narrow c = subst (λ n. n ≤ sizeWidth) (sym (c .letter-width .ensures)) (width-small (start c .args .size))
 
 span : (c : tie.After-letter-width) → (1 * 2 ^ c .letter-width .result) % 4294967296 ≡ 2 ^ c .letter-width .result
 span c = shifted-one 32 (c .letter-width .result) (omega (arith, narrow c))

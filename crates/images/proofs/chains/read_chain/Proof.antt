@@ -4,7 +4,7 @@ use native.Mathlib.Omega.{arith}
 use borrow.Author.Needs.{needs}
 use Prim.Native.Nat.{ℕ, _+_, _-_, _≤_}
 use Rattle.model.specs.Outcome.{unplaced, refused}
-use Rattle.model.specs.Images.{offsetWidth, entryField, readChain}
+use Rattle.model.specs.Images.{offsetWidth, entryField, readChain, chainCountWidth, sizeWidth}
 use Rattle.bits.proofs.Width.{width-small}
 use Rattle.images.specs.Fields.{FieldDone, FieldAt, from}
 use Rattle.images.specs.Chains.{entryOf, EntryDone, EntryAt}
@@ -25,11 +25,11 @@ start-from-after-next-field c = c .before .before
 abbrev start : tie.After-known-told Inv-loop μ-loop → tie.Start Inv-loop μ-loop
 start c = c .before .before .before .before .before
 
-count-at : (c : tie.After-known-told Inv-loop μ-loop) → FieldAt (start c .args .image .now) 0 16 (c .before .count .given .0 .0)
-count-at c = subst (FieldDone (start c .args .image .now) 0 16) (c .before .count .given .1) (c .before .before .before .next-field .ensures)
+count-at : (c : tie.After-known-told Inv-loop μ-loop) → FieldAt (start c .args .image .now) 0 chainCountWidth (c .before .count .given .0 .0)
+count-at c = subst (FieldDone (start c .args .image .now) 0 chainCountWidth) (c .before .count .given .1) (c .before .before .before .next-field .ensures)
 
-narrow : (c : tie.After-letter-width Inv-loop μ-loop) → c .letter-width .result ≤ 4
-narrow c = subst (λ n. n ≤ 4) (sym (c .letter-width .ensures)) (width-small (start (c .before) .args .size))
+narrow : (c : tie.After-letter-width Inv-loop μ-loop) → c .letter-width .result ≤ sizeWidth
+narrow c = subst (λ n. n ≤ sizeWidth) (sym (c .letter-width .ensures)) (width-small (start (c .before) .args .size))
 
 -- a turn of the loop: what stands at the position
 abbrev loop : tie.After-next-entry Inv-loop μ-loop → tie.At-loop Inv-loop μ-loop
@@ -70,7 +70,7 @@ returns : tie.Need-returns Inv-loop μ-loop
 returns c =
     let s = start-from-after-next-field (c .before .before) in
     count-ends (chain (s .args .size)) (s .args .image .now)
-    (subst (FieldDone (s .args .image .now) 0 16) (c .enum-told .given .1) (c .before .before .next-field .ensures))
+    (subst (FieldDone (s .args .image .now) 0 chainCountWidth) (c .enum-told .given .1) (c .before .before .next-field .ensures))
 
 letter-width-requires : tie.Need-letter-width-requires Inv-loop μ-loop
 letter-width-requires c κs = start c .pre

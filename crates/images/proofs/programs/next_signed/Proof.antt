@@ -9,6 +9,7 @@ use Rattle.images.proofs.Signed.{signed-ends, sign-small, number-small,
 use borrow.Author.Needs.{needs}
 use Rattle.images.proofs.programs.next_signed.Statement.{statement}
 use Rattle.images.proofs.programs.next_signed.Tie as tie
+use Rattle.model.specs.Images.{mostSize}
 
 abbrev start-from-after-take : tie.After-take → tie.Start
 start-from-after-take c = c .before .before
@@ -31,7 +32,7 @@ taken c = subst (TakenDone (start c .args .image .now) (start c .args .reader) (
 number-is : (c : tie.After-known-told) → value c % ((1 * 2 ^ start c .args .width) % 4294967296) ≡ value c % 2 ^ start c .args .width
 number-is c = ap (λ n. value c % n) (span (start c .args .width) (omega (arith, start c .pre .1 .narrow)))
 
-number-below : (c : tie.After-known-told) → value c % 2 ^ start c .args .width < 16
+number-below : (c : tie.After-known-told) → value c % 2 ^ start c .args .width < mostSize
 number-below c = number-small (start c .args .image .now) (at c) (start c .args .size) (start c .args .width) (start c .pre .1) (value c)
     (c .before .value .given .0 .1 .0) (taken c)
 

@@ -5,7 +5,7 @@ use native.Mathlib.Omega.{arith}
 use lib.Dec.{eqb}
 use lib.ListN.{getD}
 use Rattle.model.specs.Outcome.{unplaced, refused}
-use Rattle.model.specs.Images.{signedField, readProgram, countWidth}
+use Rattle.model.specs.Images.{signedField, readProgram, countWidth, mostSize, sizeWidth}
 use Rattle.bits.proofs.Width.{width-small}
 use Rattle.cells.specs.Layout.{weightAt}
 use Rattle.cells.proofs.Rules.{of-size}
@@ -43,7 +43,7 @@ width-of c =
     let s = start (c .before) in
     record {
       few = of-size (s .pre .1) .1;
-      narrow = subst (λ n. n ≤ 4) (sym (c .letter-width .ensures)) (width-small (s .args .size));
+      narrow = subst (λ n. n ≤ sizeWidth) (sym (c .letter-width .ensures)) (width-small (s .args .size));
       width-is = c .letter-width .ensures;
     }
 
@@ -163,7 +163,7 @@ letter-weight-requires c κs =
     let s = began c in
     let l = loop (turn c) in (
       s .pre .1 .stands .full,
-      subst (InRange 16) (number-is c)
+      subst (InRange mostSize) (number-is c)
           (passed-named (s .args .image .now) (s .args .cells .now) (s .args .size) (s .pre .0) (s .pre .1) (wide l .letter-width .result) (byte c)
           (place (l .loop .reader)) (behind c) (taken c)),
     )

@@ -9,7 +9,7 @@ use lib.ListN.{length, set, length-set}
 use lib.Seq.{paste, paste-zero}
 use Rattle.model.specs.Word.{Word}
 use Rattle.model.specs.Outcome.{unplaced, answered, refused}
-use Rattle.model.specs.Images.{signedField, readProgram, countWidth}
+use Rattle.model.specs.Images.{signedField, readProgram, countWidth, mostSize, sizeWidth}
 use Rattle.model.specs.Plain.{plainProgram}
 use Rattle.images.specs.Fields.{from}
 use Rattle.images.specs.BitReader.{place, ReadsFrom, TakenAt, TakenDone}
@@ -57,7 +57,7 @@ width-of : (c : tie.At-loop Inv-loop μ-loop) → WidthOf (start c .args .size) 
 width-of c =
     record {
       few = start c .pre .0 .few;
-      narrow = subst (λ n. n ≤ 4) (sym (c .before .before .letter-width .ensures)) (width-small (start c .args .size));
+      narrow = subst (λ n. n ≤ sizeWidth) (sym (c .before .before .letter-width .ensures)) (width-small (start c .args .size));
       width-is = c .before .before .letter-width .ensures;
     }
 
@@ -146,7 +146,7 @@ sign-below c =
 number-is : (c : tie.After-known-told Inv-loop μ-loop) → value c % ((1 * 2 ^ width (loop (turn c))) % 4294967296) ≡ value c % 2 ^ width (loop (turn c))
 number-is c = ap (λ n. value c % n) (span (width (loop (turn c))) (omega (arith, width-of (loop (turn c)) .narrow)))
 
-number-below : (c : tie.After-known-told Inv-loop μ-loop) → value c % 2 ^ width (loop (turn c)) < 16
+number-below : (c : tie.After-known-told Inv-loop μ-loop) → value c % 2 ^ width (loop (turn c)) < mostSize
 number-below c =
     let l = loop (turn c) in
     number-small (start l .args .image .now) (here l) (start l .args .size) (width l) (width-of l) (value c) (behind c) (taken c)

@@ -9,7 +9,7 @@ use lib.ListN.{length, length-set}
 use Rattle.model.specs.Word.{Positive}
 use Rattle.model.specs.Outcome.{unplaced, Outcome, answered, refused, _>>=_}
 use Rattle.model.specs.Bits.{Read}
-use Rattle.model.specs.Images.{several}
+use Rattle.model.specs.Images.{several, wordLengths}
 use Rattle.images.specs.Fields.{from}
 use Rattle.images.specs.Forms.{numberIn, letterIn, wordIn}
 use Rattle.images.specs.BitReader.{place, Reads, NumberAt, NumberDone}
@@ -27,7 +27,7 @@ counted f size o = o >>= λ k. several (letterIn f size) (k .value) (k .rest)
 numbered : Outcome (Read ℕ) → Outcome (Read ℕ)
 numbered o = o >>= λ r. answered (record { value = r .value + 1; rest = r .rest })
 
-counted-as : (f : Form) (size : ℕ) (bits : List ℕ) (o : Outcome (Read ℕ)) → numberIn (f .lengths) 0 16 bits ≡ o
+counted-as : (f : Form) (size : ℕ) (bits : List ℕ) (o : Outcome (Read ℕ)) → numberIn (f .lengths) 0 wordLengths bits ≡ o
     → wordIn f size bits ≡ (o >>= λ k. several (letterIn f size) (k .value) (k .rest))
 unfolding counted
 counted-as f size bits o e = ap (counted f size) e
@@ -48,8 +48,9 @@ abbrev start : tie.After-take-number Inv-loop μ-loop → tie.Start Inv-loop μ-
 start c = c .before .before .before
 
 first-told : (c : tie.After-take-number Inv-loop μ-loop) (r : TakenNumber) → c .take-number .result ≡ r
-    → NumberDone (start c .args .input .now) (place (start c .args .begin)) (start c .args .form .lengths) 0 16 r
-first-told c r e = subst (NumberDone (start c .args .input .now) (place (start c .args .begin)) (start c .args .form .lengths) 0 16) e (c .take-number .ensures)
+    → NumberDone (start c .args .input .now) (place (start c .args .begin)) (start c .args .form .lengths) 0 wordLengths r
+first-told c r e = subst (NumberDone (start c .args .input .now) (place (start c .args .begin)) (start c .args .form .lengths) 0 wordLengths) e
+    (c .take-number .ensures)
 
 -- the length that was read
 abbrev began : tie.After-known-told Inv-loop μ-loop → tie.Start Inv-loop μ-loop
@@ -65,7 +66,7 @@ abbrev bits : tie.After-known-told Inv-loop μ-loop → BitReader → List ℕ
 bits c r = from (began c .args .input .now) (place r)
 
 counted-at : (c : tie.After-known-told Inv-loop μ-loop)
-    → NumberAt (began c .args .input .now) (place (began c .args .begin)) (began c .args .form .lengths) 0 16 (count c) (letters c)
+    → NumberAt (began c .args .input .now) (place (began c .args .begin)) (began c .args .form .lengths) 0 wordLengths (count c) (letters c)
 counted-at c = first-told (c .before .before .before) _ (c .before .first .given .1)
 
 word-is : (c : tie.After-known-told Inv-loop μ-loop)

@@ -4,14 +4,16 @@ use Prim.Native.Nat.{_+_, _-_, _≤_}
 use native.Mathlib.Omega.{arith}
 use lib.ListN.{length, length-set}
 use Rattle.model.specs.Range.{InRange}
+use Rattle.model.specs.Images.{mostSize}
 use Rattle.cells.proofs.Rules.{of-few}
+use Rattle.cells.specs.Layout.{cellBytes}
 use Rattle.mirrors.proofs.Copying.{Copying, copied-none, copied-more, copied-all}
 use Rattle.mirrors.proofs.mirror.copy_weights.Statement.{statement}
 use Rattle.mirrors.proofs.mirror.copy_weights.Tie as tie
 
 abbrev Inv-loop : tie.InvT-loop
 Inv-loop cells size mirror₀ a₀ mirror a =
-    (1 ≤ a) × (a ≤ size + 1) × (size ≤ 16) × (length mirror₀ ≡ 4096) × Copying cells mirror₀ mirror a
+    (1 ≤ a) × (a ≤ size + 1) × (size ≤ mostSize) × (length mirror₀ ≡ cellBytes) × Copying cells mirror₀ mirror a
 
 abbrev μ-loop : tie.MeasureT-loop
 μ-loop cells size mirror₀ a₀ mirror a = size + 1 - a
@@ -30,7 +32,7 @@ loop-holds c =
 cell-at-requires : tie.Need-cell-at-requires Inv-loop μ-loop
 cell-at-requires c κs =
     let l = c .before .loop in
-    let named : InRange 16 (l .a) = record { low = l .inv .0; high = omega (arith, l .inv .2, c .loop-test .taken) } in
+    let named : InRange mostSize (l .a) = record { low = l .inv .0; high = omega (arith, l .inv .2, c .loop-test .taken) } in
     (named, named)
 
 slice-write-mirror : tie.Need-slice-write-mirror Inv-loop μ-loop

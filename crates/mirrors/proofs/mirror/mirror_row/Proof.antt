@@ -5,6 +5,7 @@ use native.Mathlib.Omega.{arith}
 use borrow.Author.Tests.{not-true, not-false}
 use lib.ListN.{length}
 use Rattle.model.specs.Range.{InRange}
+use Rattle.model.specs.Images.{mostSize}
 use Rattle.cells.proofs.Rules.{of-few, filled}
 use Rattle.mirrors.proofs.Rows.{RowBuilding, row-begun, row-more, row-offends, row-built}
 use Rattle.mirrors.proofs.mirror.mirror_row.Statement.{statement}
@@ -12,7 +13,7 @@ use Rattle.mirrors.proofs.mirror.mirror_row.Tie as tie
 
 abbrev Inv-loop : tie.InvT-loop
 Inv-loop cells size a mirror₀ b₀ mirror b =
-    (a < b) × (b ≤ size + 1) × (size ≤ 16) × (length mirror ≡ length mirror₀) × RowBuilding cells size a mirror₀ mirror b
+    (a < b) × (b ≤ size + 1) × (size ≤ mostSize) × (length mirror ≡ length mirror₀) × RowBuilding cells size a mirror₀ mirror b
 
 abbrev μ-loop : tie.MeasureT-loop
 μ-loop cells size a mirror₀ b₀ mirror b = size + 1 - b

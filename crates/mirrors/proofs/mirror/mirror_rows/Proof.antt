@@ -8,10 +8,11 @@ use Rattle.cells.proofs.Rules.{of-few}
 use Rattle.mirrors.proofs.Rows.{RowsBuilding, rows-begun, rows-next, rows-built}
 use Rattle.mirrors.proofs.mirror.mirror_rows.Statement.{statement}
 use Rattle.mirrors.proofs.mirror.mirror_rows.Tie as tie
+use Rattle.model.specs.Images.{mostSize}
 
 abbrev Inv-loop : tie.InvT-loop
 Inv-loop cells size mirror₀ a₀ mirror a =
-    (1 ≤ a) × (a ≤ size + 1) × (size ≤ 16) × (length mirror ≡ length mirror₀) × RowsBuilding cells size mirror₀ mirror a
+    (1 ≤ a) × (a ≤ size + 1) × (size ≤ mostSize) × (length mirror ≡ length mirror₀) × RowsBuilding cells size mirror₀ mirror a
 
 abbrev μ-loop : tie.MeasureT-loop
 μ-loop cells size mirror₀ a₀ mirror a = size + 1 - a

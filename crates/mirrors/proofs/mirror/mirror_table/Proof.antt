@@ -6,6 +6,7 @@ use Rattle.mirrors.proofs.Rows.{table-done}
 use borrow.Author.Needs.{needs}
 use Rattle.mirrors.proofs.mirror.mirror_table.Statement.{statement}
 use Rattle.mirrors.proofs.mirror.mirror_table.Tie as tie
+use Rattle.cells.specs.Layout.{cellBytes}
 
 abbrev start : tie.After-copy-weights → tie.Start
 start c = c .before .before .before .before
@@ -22,7 +23,7 @@ returns c =
       same,
       table-done (s .args .cells .now) (s .args .size) (s .args .mirror .now) (w .copy-weights .last .1 .1 .0) (v .mirror-rows .last .1 .1 .0) (s .pre .1)
           (w .copy-weights .ensures)
-          (same ∙ (ap length (s .pre .1) ∙ length-replicate {A = ℕ} 4096 255)) (v .mirror-rows .result) (v .mirror-rows .ensures .1),
+          (same ∙ (ap length (s .pre .1) ∙ length-replicate {A = ℕ} cellBytes 255)) (v .mirror-rows .result) (v .mirror-rows .ensures .1),
     )
 
 pub mirror-table-spec : {M : Type 1} → statement M

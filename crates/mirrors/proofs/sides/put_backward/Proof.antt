@@ -6,10 +6,12 @@ use lib.Seq.{getD-set-same}
 use Rattle.mirrors.proofs.Backward.{Putting, put-none, put-more, put-whole}
 use Rattle.mirrors.proofs.sides.put_backward.Statement.{statement}
 use Rattle.mirrors.proofs.sides.put_backward.Tie as tie
+use Rattle.cells.specs.Layout.{cellLength}
+use Rattle.model.specs.Images.{mostLength}
 
 abbrev Inv-loop : tie.InvT-loop
 Inv-loop cells a cell mirror₀ to count next₀ k₀ mirror next k =
-    (count ≤ 15) × (to + 16 ≤ length mirror₀) × Putting cells a cell count mirror₀ to mirror next k
+    (count ≤ mostLength) × (to + cellLength ≤ length mirror₀) × Putting cells a cell count mirror₀ to mirror next k
 
 abbrev μ-loop : tie.MeasureT-loop
 μ-loop cells a cell mirror₀ to count next₀ k₀ mirror next k = count - k
@@ -33,7 +35,7 @@ loop-holds : tie.Need-loop-holds Inv-loop μ-loop
 loop-holds c =
     let s = c .before .before in
     let count = getD (s .args .cells .now) (s .args .cell) 0 in
-    let room : s .args .to + 16 ≤ length (set (s .args .mirror .now) (s .args .to) count) = simp length-set (s .pre .1) in (
+    let room : s .args .to + cellLength ≤ length (set (s .args .mirror .now) (s .args .to) count) = simp length-set (s .pre .1) in (
       s .pre .0 .few,
       room,
       put-none (s .args .cells .now) (s .args .a) (s .args .cell) count (s .pre .0 .few) (set (s .args .mirror .now) (s .args .to) count) (s .args .to) room

@@ -8,6 +8,7 @@ use borrow.Author.Needs.{needs}
 use lib.ListN.{length}
 use Rattle.model.specs.Enumeration.{triples}
 use Rattle.model.specs.Checks.{cubeCheck}
+use Rattle.model.specs.Images.{mostSize}
 use Rattle.table_checks.specs.Cube.{CubeMeans}
 use Rattle.table_checks.specs.Table.{triplesAs}
 use Rattle.table_checks.specs.declared.table.Triples.the-variants.{Hold}
@@ -21,7 +22,7 @@ use Rattle.table_checks.proofs.table.check_triples.Tie as tie
 
 abbrev Inv-loop2 : tie.InvT-loop2
 Inv-loop2 cells size bytes₀ budget found₀ a b c₀ bytes found c =
-    (1 ≤ c) × (c ≤ size + 1) × (size ≤ 16) × (found ≡ Hold) × (length bytes ≡ length bytes₀)
+    (1 ≤ c) × (c ≤ size + 1) × (size ≤ mostSize) × (found ≡ Hold) × (length bytes ≡ length bytes₀)
     × Left cells size budget (length bytes) (thirds size a b c ++ (seconds size a (b + 1) ++ firsts size (a + 1)))
 
 abbrev μ-loop2 : tie.MeasureT-loop2
@@ -29,7 +30,7 @@ abbrev μ-loop2 : tie.MeasureT-loop2
 
 abbrev Inv-loop : tie.InvT-loop
 Inv-loop cells size bytes₀ budget found₀ a b₀ bytes found b =
-    (a < b) × (b ≤ size + 1) × (size ≤ 16) × (found ≡ Hold) × (length bytes ≡ length bytes₀)
+    (a < b) × (b ≤ size + 1) × (size ≤ mostSize) × (found ≡ Hold) × (length bytes ≡ length bytes₀)
     × Left cells size budget (length bytes) (seconds size a b ++ firsts size (a + 1))
 
 abbrev μ-loop : tie.MeasureT-loop
@@ -37,7 +38,7 @@ abbrev μ-loop : tie.MeasureT-loop
 
 abbrev Inv-triples : tie.InvT-triples
 Inv-triples cells size bytes₀ budget found₀ a₀ bytes found a =
-    (1 ≤ a) × (a ≤ size + 1) × (size ≤ 16) × (found ≡ Hold) × (length bytes ≡ length bytes₀) × Left cells size budget (length bytes) (firsts size a)
+    (1 ≤ a) × (a ≤ size + 1) × (size ≤ mostSize) × (found ≡ Hold) × (length bytes ≡ length bytes₀) × Left cells size budget (length bytes) (firsts size a)
 
 abbrev μ-triples : tie.MeasureT-triples
 μ-triples cells size bytes₀ budget found₀ a₀ bytes found a = size + 1 - a

@@ -10,6 +10,7 @@ use Rattle.model.specs.Checks.{weightCheck}
 use Rattle.cells.specs.Stands.{Of}
 use Rattle.table_checks.specs.Table.{RowMeans}
 use Rattle.model.proofs.Pairs.{pairsFrom, pairs-begin, pairs-some, pairs-none}
+use Rattle.model.specs.Images.{mostSize}
 use Rattle.cells.proofs.Rules.{of-few}
 use Rattle.table_checks.proofs.Passing.{weights-append}
 use Rattle.table_checks.proofs.table.check_weights.Statement.{statement}
@@ -17,7 +18,7 @@ use Rattle.table_checks.proofs.table.check_weights.Tie as tie
 
 abbrev Inv-loop : tie.InvT-loop
 Inv-loop cells size a₀ a =
-    (1 ≤ a) × (a ≤ size + 1) × (size ≤ 16) × ((T : Presentation) → Of cells size T → weightCheck T (pairs size) ≡ weightCheck T (pairsFrom size a))
+    (1 ≤ a) × (a ≤ size + 1) × (size ≤ mostSize) × ((T : Presentation) → Of cells size T → weightCheck T (pairs size) ≡ weightCheck T (pairsFrom size a))
 
 abbrev μ-loop : tie.MeasureT-loop
 μ-loop cells size a₀ a = size + 1 - a

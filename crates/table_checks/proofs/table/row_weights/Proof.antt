@@ -8,6 +8,7 @@ use Rattle.model.specs.Checks.{weightCheck}
 use Rattle.cells.specs.Stands.{Of}
 use Rattle.model.specs.Enumeration.{row}
 use Rattle.model.proofs.Pairs.{pair, rowFrom, row-begins, row-some, row-none}
+use Rattle.model.specs.Images.{mostSize}
 use Rattle.cells.proofs.Rules.{of-few}
 use Rattle.table_checks.proofs.Passing.{pair-passes, pair-fails}
 use Rattle.table_checks.proofs.table.row_weights.Statement.{statement}
@@ -15,7 +16,7 @@ use Rattle.table_checks.proofs.table.row_weights.Tie as tie
 
 abbrev Inv-loop : tie.InvT-loop
 Inv-loop cells size a b₀ b =
-    (a < b) × (b ≤ size + 1) × (size ≤ 16) × ((T : Presentation) → Of cells size T → weightCheck T (row size a) ≡ weightCheck T (rowFrom size a b))
+    (a < b) × (b ≤ size + 1) × (size ≤ mostSize) × ((T : Presentation) → Of cells size T → weightCheck T (row size a) ≡ weightCheck T (rowFrom size a b))
 
 abbrev μ-loop : tie.MeasureT-loop
 μ-loop cells size a b₀ b =

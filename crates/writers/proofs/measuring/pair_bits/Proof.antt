@@ -6,6 +6,7 @@ use native.Mathlib.Nat.{mul-le-mul}
 use lib.ListN.{length, getD}
 use Rattle.model.specs.Word.{Positive}
 use Rattle.model.specs.Presentation.{Complement, complement}
+use Rattle.model.specs.Images.{wordLengths}
 use Rattle.cells.specs.Layout.{cellAt}
 use Rattle.cells.specs.Stands.{HoldsWord}
 use Rattle.cells.specs.Kept.{HoldsPair}
@@ -42,8 +43,8 @@ words : (c : tie.Else1) (pair : Complement) → HoldsPair (start (told c) .args 
     × (pair ≡ complement x y)
     × (getD (start (told c) .args .cells .now) (told c .before .before .cell-at .result) 0 ≡ length x)
     × (getD (start (told c) .args .cells .now) (told c .before .cell-at2 .result) 0 ≡ length y)
-    × (length x < 16)
-    × (length y < 16)
+    × (length x < wordLengths)
+    × (length y < wordLengths)
 words c pair h =
     let k = told c in
     let s = start k in

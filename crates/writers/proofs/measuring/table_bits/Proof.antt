@@ -7,6 +7,7 @@ use native.Mathlib.Nat.{mul-le-mul}
 use lib.ListN.{length, take, getD, length-append}
 use Rattle.model.specs.Presentation.{Complement}
 use Rattle.model.specs.Enumeration.{concatMap}
+use Rattle.model.specs.Images.{mostSize}
 use Rattle.images.specs.Tables.{RowsHeld}
 use Rattle.writers.specs.Forms.{pairAs}
 use Rattle.writers.proofs.Lengths.{table-length}
@@ -32,7 +33,7 @@ abbrev start : tie.At-loop Inv-loop μ-loop → tie.Start Inv-loop μ-loop
 start c = begun (c .before)
 
 weights-near : (c : tie.Start Inv-loop μ-loop) → c .args .size * c .args .form .weights ≤ 128
-weights-near c = mul-le-mul {n₂ = 16} {m₂ = 8} (c .pre .0 .few) (c .pre .1 .weights-narrow)
+weights-near c = mul-le-mul {n₂ = mostSize} {m₂ = 8} (c .pre .0 .few) (c .pre .1 .weights-narrow)
 
 cast-bits : tie.Need-cast-bits Inv-loop μ-loop
 cast-bits c = omega (arith, c .before .before .pre .1 .sizes-narrow)

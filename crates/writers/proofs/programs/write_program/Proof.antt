@@ -4,6 +4,7 @@ use Prim.Native.Nat.{_+_, _*_, _≤_}
 use native.Mathlib.Omega.{arith}
 use lib.ListN.{length}
 use Rattle.model.specs.Bits.{bytesFor}
+use Rattle.model.specs.Images.{countWidth, sizeWidth}
 use Rattle.bits.proofs.Width.{width-small}
 use Rattle.images.specs.Widths.{WidthOf}
 use Rattle.images.proofs.Letters.{near}
@@ -26,7 +27,7 @@ measured c = c .before .before
 width-of : (c : tie.After-letter-width) → WidthOf (start c .args .size) (c .letter-width .result)
 width-of c = record {
   few = start c .pre .1;
-  narrow = subst (λ n. n ≤ 4) (sym (c .letter-width .ensures)) (width-small (start c .args .size));
+  narrow = subst (λ n. n ≤ sizeWidth) (sym (c .letter-width .ensures)) (width-small (start c .args .size));
   width-is =
       c .letter-width .ensures;
 }
@@ -36,7 +37,7 @@ bound c = near (length (start c .args .plain .now)) (c .letter-width .result) (o
 
 -- the bytes that the code counts are those of the image
 counted : (c : tie.After-letter-width)
-    → bytesFor (12 + length (start c .args .plain .now) * (1 + c .letter-width .result)) ≡ bytesFor
+    → bytesFor (countWidth + length (start c .args .plain .now) * (1 + c .letter-width .result)) ≡ bytesFor
     (length (programBits (start c .args .size) (start c .args .plain .now)))
 counted c = ap bytesFor (sym (program-length (start c .args .size) (c .letter-width .result) (c .letter-width .ensures) (start c .args .plain .now)))
 
@@ -68,7 +69,7 @@ returns-2 c =
     fills-closed (s .args .area .now) (p .last .1 .1 .1 .0) (z .last .0) (p .result) (programBits (s .args .size) (s .args .plain .now))
     (program-bits (s .args .size) (s .args .plain .now))
     (λ i. c .slice-known3 .given i .fits) (p .ensures) (z .ensures) (omega (arith, a .before .if1 .left, counted m))
-    (bytesFor (12 + length (s .args .plain .now) * (1 + m .letter-width .result))) (counted m)
+    (bytesFor (countWidth + length (s .args .plain .now) * (1 + m .letter-width .result))) (counted m)
 
 pub write-program-spec : {M : Type 1} → statement M
 write-program-spec =

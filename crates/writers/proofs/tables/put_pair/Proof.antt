@@ -6,7 +6,7 @@ use lib.ListN.{length, getD}
 use Rattle.model.specs.Word.{Positive}
 use Rattle.model.specs.Presentation.{Complement, complement}
 use Rattle.cells.specs.Stands.{HoldsWord}
-use Rattle.cells.specs.Layout.{cellAt}
+use Rattle.cells.specs.Layout.{cellAt, cellLength}
 use Rattle.cells.specs.Kept.{HoldsPair}
 use Rattle.writers.specs.BitWriter.{Puts}
 use Rattle.writers.specs.Forms.{pairAs}
@@ -58,8 +58,8 @@ words c pair h =
       subst (λ i. HoldsWord (s .args .size) (s .args .cells .now) i (w .1)) (sym (k .before .cell-at2 .ensures)) (w .4),
     )
 
-inside : (c : tie.After-shared-slice-known2) → (c .before .before .cell-at .result + 16 ≤ length (start c .args .cells .now))
-    × (c .before .cell-at2 .result + 16 ≤ length (start c .args .cells .now))
+inside : (c : tie.After-shared-slice-known2) → (c .before .before .cell-at .result + cellLength ≤ length (start c .args .cells .now))
+    × (c .before .cell-at2 .result + cellLength ≤ length (start c .args .cells .now))
 inside c =
     let s = start c in (
       omega (arith, c .before .before .cell-at .ensures, s .pre .1 .0 .high, s .pre .1 .1 .high, s .pre .3),

@@ -6,6 +6,7 @@ use lib.ListN.{length, take, getD}
 use Rattle.model.specs.Word.{Positive}
 use Rattle.model.specs.Enumeration.{concatMap}
 use Rattle.model.specs.Range.{InRange}
+use Rattle.model.specs.Images.{wordLengths}
 use Rattle.cells.specs.Stands.{HoldsWord}
 use Rattle.writers.specs.BitWriter.{Puts, Writes}
 use Rattle.writers.specs.Forms.{letterAs}
@@ -36,7 +37,7 @@ turn c = c .before .before .before
 abbrev turned : tie.After-slice-known3 Inv-loop μ-loop → tie.After-struct-known Inv-loop μ-loop
 turned c = c .before .before .before
 
-few : (c : tie.Start Inv-loop μ-loop) → getD (c .args .cells .now) (c .args .cell) 0 < 16
+few : (c : tie.Start Inv-loop μ-loop) → getD (c .args .cells .now) (c .args .cell) 0 < wordLengths
 few c = omega (arith, c .pre .0 .holds .count, c .pre .0 .holds .in-range .short)
 
 letter : (c : tie.In-loop Inv-loop μ-loop) → InRange (begun c .args .size) (getD (begun c .args .cells .now) (begun c .args .cell + 1 + c .before .loop .k) 0)
