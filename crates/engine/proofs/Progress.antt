@@ -1,10 +1,11 @@
 -- The invariant of the whole loop: the reversing from the start is the run from here. What it is at the start, after a step, and at each end.
 use mathlib.Core.Path.{_≡_, refl, sym, ap, ap₂, subst, _∙_}
 use mathlib.Core.List.{List, reverse}
-use mathlib.Core.Bool.{cond}
+use mathlib.Core.Bool.{Bool, true, false, cond}
 use Prim.Native.Nat.{ℕ, suc, _+_, _-_, _≤_, _<_}
 use native.Mathlib.Omega.{arith}
 use native.Mathlib.Numerals.{add-one}
+use lib.Dec.{eqb}
 use borrow.Author.Tests.{eq-eqb, ne-eqb}
 use lib.ListN.{length, take, length-append, length-take, length-drop}
 use Rattle.model.specs.Word.{Word, forwards, backs}
@@ -64,6 +65,13 @@ count-equal a b r e = ap (λ t. cond t r (suc r)) (eq-eqb a b e)
 
 pub count-different : (a b r : ℕ) → (a ≡ b → ⊥) → count a b r ≡ r + 1
 count-different a b r e = ap (λ t. cond t r (suc r)) (ne-eqb a b e) ∙ sym (add-one r)
+
+pub count-within : (a b r : ℕ) → count a b r ≤ r + 1
+count-within a b r = go (eqb a b)
+  where
+    go : (t : Bool) → cond t r (suc r) ≤ r + 1
+    go true = omega arith
+    go false = omega arith
 
 module _ {cells : List ℕ} {word : Word} {budget room : ℕ} {bytes : List ℕ} {left right steps relations : ℕ}
     (p : Progress cells word budget room bytes left right steps relations) where

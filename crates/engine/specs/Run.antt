@@ -1,9 +1,9 @@
 -- What a whole reversing in the workspace comes to.
 use mathlib.Core.List.{List, _++_}
 use mathlib.Core.Path.{_≡_}
-use Prim.Native.Nat.{ℕ, _+_, _≤_}
+use Prim.Native.Nat.{ℕ, _+_, _-_, _≤_}
 use lib.ListN.{length, take}
-use Rattle.model.specs.Word.{Word, positive, negative}
+use Rattle.model.specs.Word.{Word, positive, negative, forwards}
 use Rattle.model.specs.Presentation.{Presentation}
 use Rattle.model.specs.Reversing.{Ending, finished, open-pair, stopped, reversing}
 use Rattle.model.specs.Stated.{endingAnswer}
@@ -12,6 +12,11 @@ use Rattle.model.specs.declared.answers.Ending.the-variants.{Finished, Undefine
 use Rattle.engine.specs.Gap.{letters}
 use Rattle.model.specs.Range.{Lettered}
 use Rattle.cells.specs.Stands.{Serves}
+
+-- the ending of a word without a site, in the first bytes of the workspace: as many letters of the numerator as are forward
+abbrev pub finishedAt : List ℕ → ℕ → ℕ → ℕ → EndingAnswer
+finishedAt bytes end steps relations =
+    Finished (length (forwards (letters (take end bytes)))) (end - length (forwards (letters (take end bytes)))) steps relations
 
 -- what the workspace begins with where a reversing finished: the numerator, then the inverse of the denominator
 abbrev pub LeavesWord : Ending → List ℕ → Type 0

@@ -1,14 +1,16 @@
 ghost use mathlib.Core.Path.{_≡_};
-ghost use Prim.Native.Nat.{_≤_};
+ghost use Prim.Native.Nat.{_≤_, _<_};
 ghost use lib.ListN.{length, take};
 ghost use Rattle.model.specs.Word.{forwards};
 ghost use Rattle.engine.specs.Gap.{letters, wordAt, Searched};
 ghost use Rattle.cells.specs.Stands.{Ready};
-ghost use Rattle.engine.specs.Run.{RunMeans};
+ghost use Rattle.model.specs.Reversing.{count};
+ghost use Rattle.engine.specs.Run.{finishedAt, RunMeans};
 use crate::gap::Gap;
 use crate::step::Turn;
 use crate::step::advance;
 use model::answers::Ending;
+use model::answers::Pair;
 use model::plain::BACK;
 
 // How many of the letters before `end` are forward.
@@ -27,6 +29,31 @@ pub fn forward_letters(bytes: &[u8], end: usize) -> usize
     count
 }
 
+// The ending of a word without a site, of which `end` letters stand at the workspace's start.
+pub fn finished(bytes: &[u8], end: usize, steps: u16, relations: u16) -> Ending
+    requires { ⌜ end ≤ length (now bytes) ⌝ }
+    ensures { λ r. ⌜ r ≡ finishedAt (now (bytes .entry)) end steps relations ⌝ }
+{
+    let numerator = forward_letters(bytes, end);
+    Ending::Finished {
+        numerator,
+        denominator: end - numerator,
+        steps,
+        relations,
+    }
+}
+
+// The steps on two different letters, with one step more.
+pub fn counted(relations: u16, pair: Pair) -> u16
+    requires { ⌜ relations < 65535 ⌝ }
+    ensures { λ r. ⌜ r ≡ count (pair .a) (pair .b) relations ⌝ }
+{
+    if pair.a == pair.b {
+        return relations;
+    }
+    relations + 1
+}
+
 // Reverses the word in the workspace until it ends. Where it finishes, the numerator and then the inverse of the denominator stand at the
 // workspace's start.
 pub fn reversing(cells: &[u8], bytes: &mut [u8], start: Gap, budget: u16) -> Ending
@@ -42,14 +69,7 @@ pub fn reversing(cells: &[u8], bytes: &mut [u8], start: Gap, budget: u16) -> End
         let turn = advance(cells, bytes, gap, budget - steps);
         match turn {
             Turn::Final(end) => {
-                let left = end.left;
-                let numerator = forward_letters(bytes, left);
-                return Ending::Finished {
-                    numerator,
-                    denominator: left - numerator,
-                    steps,
-                    relations,
-                };
+                return finished(bytes, end.left, steps, relations);
             }
             Turn::Undefined(pair) => {
                 return Ending::Undefined { pair, steps };
@@ -60,9 +80,7 @@ pub fn reversing(cells: &[u8], bytes: &mut [u8], start: Gap, budget: u16) -> End
             Turn::Stepped { gap: next, pair } => {
                 gap = next;
                 steps += 1;
-                if pair.a != pair.b {
-                    relations += 1;
-                }
+                relations = counted(relations, pair);
             }
         }
     }

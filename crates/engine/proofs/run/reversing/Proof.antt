@@ -1,13 +1,18 @@
 -- `engine::run::reversing` meets its contract. The loop's invariant is `Progress`; each way out is a law of it.
-use mathlib.Core.Path.{subst, _∙_}
-use Prim.Native.Nat.{_+_, _-_}
+use mathlib.Core.Path.{_≡_, refl, sym, subst, _∙_}
+use mathlib.Core.List.{List}
+use Prim.Native.Nat.{ℕ, _+_, _-_, _<_}
 use native.Mathlib.Omega.{arith}
 use borrow.Author.Needs.{needs}
 use lib.ListN.{length}
+use Rattle.model.specs.declared.answers.Pair.{Pair}
 use Rattle.engine.specs.Gap.{wordAt}
+use Rattle.engine.specs.Run.{RunMeans}
 use Rattle.engine.specs.Turn.{TurnMeans}
-use Rattle.engine.proofs.Counting.{counts-few}
-use Rattle.engine.proofs.Progress.{Progress, begun, serves-now, finishes, meets, stops, left-over, advances, count-equal, count-different}
+use Rattle.engine.specs.declared.gap.Gap.{Gap}
+use Rattle.engine.specs.declared.step.Turn.{Turn}
+use Rattle.engine.specs.declared.step.Turn.the-variants.{Stepped}
+use Rattle.engine.proofs.Progress.{Progress, begun, serves-now, finishes, meets, stops, left-over, advances, count-within}
 use Rattle.engine.proofs.run.reversing.Statement.{statement}
 use Rattle.engine.proofs.run.reversing.Tie as tie
 
@@ -18,20 +23,26 @@ Inv-loop cells bytes₀ budget gap₀ steps₀ relations₀ bytes gap steps rela
 abbrev μ-loop : tie.MeasureT-loop
 μ-loop cells bytes₀ budget gap₀ steps₀ relations₀ bytes gap steps relations = budget - steps
 
-abbrev start-from-at-loop : tie.At-loop Inv-loop μ-loop → tie.Start Inv-loop μ-loop
-start-from-at-loop c = c .before .before .before
+abbrev start : tie.At-loop Inv-loop μ-loop → tie.Start Inv-loop μ-loop
+start c = c .before .before .before
 
-abbrev at-loop : tie.After-advance Inv-loop μ-loop → tie.At-loop Inv-loop μ-loop
-at-loop c = c .before .before
+-- a turn of the loop: where it began, and the bytes that it left
+abbrev loop : tie.After-slice-known2 Inv-loop μ-loop → tie.At-loop Inv-loop μ-loop
+loop c = c .before .before .before .before
 
-abbrev after-advance : tie.After-slice-known2 Inv-loop μ-loop → tie.After-advance Inv-loop μ-loop
-after-advance c = c .before .before
+abbrev left : tie.After-slice-known2 Inv-loop μ-loop → List ℕ
+left c = c .before .before .advance .last .1 .0
 
-abbrev after-slice-known2-from-after-turn4 : tie.After-turn4 Inv-loop μ-loop → tie.After-slice-known2 Inv-loop μ-loop
-after-slice-known2-from-after-turn4 c = c .before .before
+kept : (c : tie.After-slice-known2 Inv-loop μ-loop) → length (left c) ≡ length (start (loop c) .args .bytes .now)
+kept c = c .before .before .advance .ensures .0 ∙ loop c .loop .inv .kept
 
-abbrev after-slice-known2 : tie.After-turn Inv-loop μ-loop → tie.After-slice-known2 Inv-loop μ-loop
-after-slice-known2 c = c .before .before
+abbrev Means : tie.After-slice-known2 Inv-loop μ-loop → Turn → Type 0
+Means c r =
+    let l = loop c .loop in
+    TurnMeans (start (loop c) .args .cells .now) (wordAt (l .bytes) (l .gap .left) (l .gap .right)) (start (loop c) .args .budget - l .steps) (left c) r
+
+means : (c : tie.After-slice-known2 Inv-loop μ-loop) (r : Turn) → c .before .before .advance .result ≡ r → Means c r
+means c r e = subst (Means c) e (c .before .before .advance .ensures .1)
 
 loop-holds : tie.Need-loop-holds Inv-loop μ-loop
 loop-holds c =
@@ -39,191 +50,91 @@ loop-holds c =
     begun (s .args .cells .now) (s .args .bytes .now) (s .args .start .left) (s .args .start .right) (s .args .budget) (s .pre .0)
 
 sub-advance : tie.Need-sub-advance Inv-loop μ-loop
-sub-advance c =
-    c .before .loop .inv .within
+sub-advance c = c .before .loop .inv .within
 
 advance-requires : tie.Need-advance-requires Inv-loop μ-loop
 advance-requires c κs =
-    let s = start-from-at-loop (c .before) in
+    let s = start (c .before) in
     let l = c .before .loop in
     (l .inv .searched, (s .pre .1 .0, serves-now (l .inv) (s .pre .1 .0) (s .pre .1 .1)))
 
-enum-known-turn : tie.Need-enum-known-turn Inv-loop μ-loop
-enum-known-turn c =
-    search needs
+-- the word has no site
+abbrev final : tie.After-turn Inv-loop μ-loop → tie.After-slice-known2 Inv-loop μ-loop
+final c = c .before .before
 
-forward-letters-requires : tie.Need-forward-letters-requires Inv-loop μ-loop
-forward-letters-requires c κs =
-    let k = after-advance (after-slice-known2 (c .before .before)) in
-    let s = start-from-at-loop (at-loop k) in
-    let l = at-loop k .loop in
-    let v = k .advance in
-    let m = subst (TurnMeans (s .args .cells .now) (wordAt (l .bytes) (l .gap .left) (l .gap .right)) (s .args .budget - l .steps) (v .last .1 .0))
-    (c .before .before .turn .given .1) (v .ensures .1) in
-    let e = m (s .pre .1 .0) (serves-now (l .inv) (s .pre .1 .0) (s .pre .1 .1)) .1 in
+abbrev end : tie.After-finished Inv-loop μ-loop → tie.After-turn Inv-loop μ-loop
+end c = c .before .before .before
+
+finished-requires : tie.Need-finished-requires Inv-loop μ-loop
+finished-requires c κs =
+    let t = c .before .before in
+    let k = final t in
+    let s = start (loop k) in
+    let e = means k _ (t .turn .given .1) (s .pre .1 .0) (serves-now (loop k .loop .inv) (s .pre .1 .0) (s .pre .1 .1)) .1 in
     omega (arith, e .ordered, e .all)
-
-sub-t21 : tie.Need-sub-t21 Inv-loop μ-loop
-sub-t21 c =
-    let v = after-advance (after-slice-known2 (c .before .before .before)) .advance in
-    omega (arith, c .forward-letters .ensures, counts-few (v .last .1 .0) (c .before .before .before .turn .given .0 .0 .left))
-
-same-length : tie.Need-same-length Inv-loop μ-loop
-same-length c =
-    let k = after-advance (after-slice-known2 (c .before .before .before)) in
-    let s = start-from-at-loop (at-loop k) in
-    let l = at-loop k .loop in
-    let v = k .advance in
-    v .ensures .0 ∙ l .inv .kept
 
 returns : tie.Need-returns Inv-loop μ-loop
 returns c =
-    let k = after-advance (after-slice-known2 (c .before .before .before)) in
-    let s = start-from-at-loop (at-loop k) in
-    let l = at-loop k .loop in
-    let v = k .advance in
-    let m = subst (TurnMeans (s .args .cells .now) (wordAt (l .bytes) (l .gap .left) (l .gap .right)) (s .args .budget - l .steps) (v .last .1 .0))
-    (c .before .before .before .turn .given .1) (v .ensures .1) in (
-      v .ensures .0 ∙ l .inv .kept,
-      finishes (l .inv) (v .last .1 .0) (v .ensures .0) (c .before .before .before .turn .given .0 .0) (c .forward-letters .result)
-          (c .forward-letters .ensures) m,
+    let t = end c in
+    let k = final t in
+    let s = start (loop k) in (
+      kept k,
+      subst (RunMeans (s .args .cells .now) (wordAt (s .args .bytes .now) (s .args .start .left) (s .args .start .right)) (s .args .budget) (left k))
+          (sym (c .finished .ensures))
+          (finishes (loop k .loop .inv) (left k) (k .before .before .advance .ensures .0) (t .turn .given .0 .0) _ refl (means k _ (t .turn .given .1))),
     )
-
-enum-known-turn-2 : tie.Need-enum-known-turn-2 Inv-loop μ-loop
-enum-known-turn-2 c =
-    search needs
-
-same-length-2 : tie.Need-same-length-2 Inv-loop μ-loop
-same-length-2 c =
-    let k = after-advance (c .before .before .before) in
-    let s = start-from-at-loop (at-loop k) in
-    let l = at-loop k .loop in
-    let v = k .advance in
-    v .ensures .0 ∙ l .inv .kept
 
 returns-2 : tie.Need-returns-2 Inv-loop μ-loop
 returns-2 c =
-    let k = after-advance (c .before .before .before) in
-    let s = start-from-at-loop (at-loop k) in
-    let l = at-loop k .loop in
-    let v = k .advance in
-    let m = subst (TurnMeans (s .args .cells .now) (wordAt (l .bytes) (l .gap .left) (l .gap .right)) (s .args .budget - l .steps) (v .last .1 .0))
-    (c .before .turn2 .given .1) (v .ensures .1) in
-    (v .ensures .0 ∙ l .inv .kept, meets (l .inv) (v .last .1 .0) (v .ensures .0) (c .before .turn2 .given .0 .0) m)
-
-enum-known-turn-3 : tie.Need-enum-known-turn-3 Inv-loop μ-loop
-enum-known-turn-3 c =
-    search needs
-
-same-length-3 : tie.Need-same-length-3 Inv-loop μ-loop
-same-length-3 c =
-    let k = after-advance (c .before .before .before) in
-    let s = start-from-at-loop (at-loop k) in
-    let l = at-loop k .loop in
-    let v = k .advance in
-    v .ensures .0 ∙ l .inv .kept
+    let k = c .before .before .before in
+    let t = c .before .turn2 .given in
+    (kept k, meets (loop k .loop .inv) (left k) (k .before .before .advance .ensures .0) (t .0 .0) (means k _ (t .1)))
 
 returns-3 : tie.Need-returns-3 Inv-loop μ-loop
 returns-3 c =
-    let k = after-advance (c .before .before .before) in
-    let s = start-from-at-loop (at-loop k) in
-    let l = at-loop k .loop in
-    let v = k .advance in
-    let m = subst (TurnMeans (s .args .cells .now) (wordAt (l .bytes) (l .gap .left) (l .gap .right)) (s .args .budget - l .steps) (v .last .1 .0))
-    (c .before .turn3 .given .1) (v .ensures .1) in
-    (v .ensures .0 ∙ l .inv .kept, stops (l .inv) (v .last .1 .0) (v .ensures .0) (c .before .turn3 .given .0 .0) m)
+    let k = c .before .before .before in
+    let t = c .before .turn3 .given in
+    (kept k, stops (loop k .loop .inv) (left k) (k .before .before .advance .ensures .0) (t .0 .0) (means k _ (t .1)))
 
-enum-known-turn-4 : tie.Need-enum-known-turn-4 Inv-loop μ-loop
-enum-known-turn-4 c =
-    search needs
+-- a step was taken
+abbrev stepped : tie.After-known-told4 Inv-loop μ-loop → tie.After-slice-known2 Inv-loop μ-loop
+stepped c = c .before .before .before
+
+abbrev gap : tie.After-known-told4 Inv-loop μ-loop → Gap
+gap c = c .before .turn4 .given .0 .0
+
+abbrev pair : tie.After-known-told4 Inv-loop μ-loop → Pair
+pair c = c .before .turn4 .given .0 .1 .0
+
+step-means : (c : tie.After-known-told4 Inv-loop μ-loop) → Means (stepped c) (Stepped (gap c) (pair c))
+step-means c = means (stepped c) _ (c .before .turn4 .given .1)
+
+some-left : (c : tie.After-known-told4 Inv-loop μ-loop) → loop (stepped c) .loop .steps < start (loop (stepped c)) .args .budget
+some-left c =
+    let k = stepped c in
+    let s = start (loop k) in
+    left-over (loop k .loop .inv) (left k) (k .before .before .advance .ensures .0) (gap c) (pair c) (step-means c) (s .pre .1 .0) (s .pre .1 .1)
 
 add-steps : tie.Need-add-steps Inv-loop μ-loop
-add-steps c =
-    let k = after-advance (after-slice-known2-from-after-turn4 (c .before)) in
-    let s = start-from-at-loop (at-loop k) in
-    let l = at-loop k .loop in
-    let v = k .advance in
-    let m = subst (TurnMeans (s .args .cells .now) (wordAt (l .bytes) (l .gap .left) (l .gap .right)) (s .args .budget - l .steps) (v .last .1 .0))
-    (c .before .turn4 .given .1) (v .ensures .1) in
-    omega (
-      arith,
-      left-over (l .inv) (v .last .1 .0) (v .ensures .0) (c .before .turn4 .given .0 .0) (c .before .turn4 .given .0 .1 .0) m (s .pre .1 .0)
-          (s .pre .1 .1),
-      s .fits .budget,
-    )
+add-steps c = omega (arith, some-left c, start (loop (stepped c)) .fits .budget)
 
-add-relations : tie.Need-add-relations Inv-loop μ-loop
-add-relations c =
-    let k = after-advance (after-slice-known2-from-after-turn4 (c .before .before .before)) in
-    let s = start-from-at-loop (at-loop k) in
-    let l = at-loop k .loop in
-    let v = k .advance in
-    let m = subst (TurnMeans (s .args .cells .now) (wordAt (l .bytes) (l .gap .left) (l .gap .right)) (s .args .budget - l .steps) (v .last .1 .0))
-    (c .before .before .before .turn4 .given .1) (v .ensures .1) in
-    omega (
-      arith,
-      left-over (l .inv) (v .last .1 .0) (v .ensures .0) (c .before .before .before .turn4 .given .0 .0)
-          (c .before .before .before .turn4 .given .0 .1 .0) m (s .pre .1 .0) (s .pre .1 .1),
-      s .fits .budget,
-      l .inv .few,
-    )
+counted-requires : tie.Need-counted-requires Inv-loop μ-loop
+counted-requires c κs = omega (arith, some-left c, start (loop (stepped c)) .fits .budget, loop (stepped c) .loop .inv .few)
 
 loop-less : tie.Need-loop-less Inv-loop μ-loop
-loop-less c =
-    let k = after-advance (after-slice-known2-from-after-turn4 (c .before .before .before)) in
-    let s = start-from-at-loop (at-loop k) in
-    let l = at-loop k .loop in
-    let v = k .advance in
-    let m = subst (TurnMeans (s .args .cells .now) (wordAt (l .bytes) (l .gap .left) (l .gap .right)) (s .args .budget - l .steps) (v .last .1 .0))
-    (c .before .before .before .turn4 .given .1) (v .ensures .1) in
-    omega (
-      arith,
-      left-over (l .inv) (v .last .1 .0) (v .ensures .0) (c .before .before .before .turn4 .given .0 .0)
-          (c .before .before .before .turn4 .given .0 .1 .0) m (s .pre .1 .0) (s .pre .1 .1),
-    )
+loop-less c = omega (arith, some-left (c .before))
 
 loop-again : tie.Need-loop-again Inv-loop μ-loop
 loop-again c =
-    let k = after-advance (after-slice-known2-from-after-turn4 (c .before .before .before)) in
-    let s = start-from-at-loop (at-loop k) in
-    let l = at-loop k .loop in
-    let v = k .advance in
-    let m = subst (TurnMeans (s .args .cells .now) (wordAt (l .bytes) (l .gap .left) (l .gap .right)) (s .args .budget - l .steps) (v .last .1 .0))
-    (c .before .before .before .turn4 .given .1) (v .ensures .1) in
-    advances (l .inv) (v .last .1 .0) (v .ensures .0) (c .before .before .before .turn4 .given .0 .0) (c .before .before .before .turn4 .given .0 .1 .0) m
-    (s .pre .1 .0) (s .pre .1 .1) (l .relations + 1)
-    (count-different ((c .before .before .before .turn4 .given .0 .1 .0) .a) ((c .before .before .before .turn4 .given .0 .1 .0) .b) (l .relations)
-    (c .if1 .taken)) (omega (arith, l .inv .few))
-
-loop-less-2 : tie.Need-loop-less-2 Inv-loop μ-loop
-loop-less-2 c =
-    let k = after-advance (after-slice-known2-from-after-turn4 (c .before .before .before)) in
-    let s = start-from-at-loop (at-loop k) in
-    let l = at-loop k .loop in
-    let v = k .advance in
-    let m = subst (TurnMeans (s .args .cells .now) (wordAt (l .bytes) (l .gap .left) (l .gap .right)) (s .args .budget - l .steps) (v .last .1 .0))
-    (c .before .before .before .turn4 .given .1) (v .ensures .1) in
-    omega (
-      arith,
-      left-over (l .inv) (v .last .1 .0) (v .ensures .0) (c .before .before .before .turn4 .given .0 .0)
-          (c .before .before .before .turn4 .given .0 .1 .0) m (s .pre .1 .0) (s .pre .1 .1),
-    )
-
-loop-again-2 : tie.Need-loop-again-2 Inv-loop μ-loop
-loop-again-2 c =
-    let k = after-advance (after-slice-known2-from-after-turn4 (c .before .before .before)) in
-    let s = start-from-at-loop (at-loop k) in
-    let l = at-loop k .loop in
-    let v = k .advance in
-    let m = subst (TurnMeans (s .args .cells .now) (wordAt (l .bytes) (l .gap .left) (l .gap .right)) (s .args .budget - l .steps) (v .last .1 .0))
-    (c .before .before .before .turn4 .given .1) (v .ensures .1) in
-    advances (l .inv) (v .last .1 .0) (v .ensures .0) (c .before .before .before .turn4 .given .0 .0) (c .before .before .before .turn4 .given .0 .1 .0) m
-    (s .pre .1 .0) (s .pre .1 .1) (l .relations)
-    (count-equal ((c .before .before .before .turn4 .given .0 .1 .0) .a) ((c .before .before .before .turn4 .given .0 .1 .0) .b) (l .relations)
-    (c .if1 .left)) (omega (arith, l .inv .few))
+    let k = stepped (c .before) in
+    let s = start (loop k) in
+    let l = loop k .loop in
+    advances (l .inv) (left k) (k .before .before .advance .ensures .0) (gap (c .before)) (pair (c .before)) (step-means (c .before)) (s .pre .1 .0)
+    (s .pre .1 .1) (c .counted .result) (sym (c .counted .ensures))
+    (omega (arith, c .counted .ensures, count-within (pair (c .before) .a) (pair (c .before) .b) (l .relations), l .inv .few))
 
 pub reversing-spec : {M : Type 1} → statement M
 reversing-spec =
-    tie.close (tie.spec Inv-loop μ-loop loop-holds sub-advance advance-requires enum-known-turn forward-letters-requires sub-t21 same-length returns
-    enum-known-turn-2 same-length-2 returns-2 enum-known-turn-3 same-length-3 returns-3 enum-known-turn-4 add-steps add-relations loop-less loop-again
-    loop-less-2 loop-again-2)
+    tie.close (tie.spec Inv-loop μ-loop loop-holds sub-advance advance-requires (λ c. search needs) finished-requires
+    (λ c. kept (final (end c))) returns (λ c. search needs) (λ c. kept (c .before .before .before)) returns-2 (λ c. search needs)
+    (λ c. kept (c .before .before .before)) returns-3 (λ c. search needs) add-steps counted-requires loop-less loop-again)

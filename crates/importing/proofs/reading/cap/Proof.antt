@@ -1,6 +1,7 @@
 -- `importing::reading::cap` meets its contract.
 use mathlib.Core.Path.{sym, ap}
 use mathlib.Core.Bool.{cond}
+use Prim.Native.Nat.{_+_}
 use borrow.Author.Tests.{lt-ltb, le-ltb}
 use borrow.Author.Needs.{needs}
 use Rattle.model.specs.Plain.{mostLetters}
