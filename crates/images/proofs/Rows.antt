@@ -331,7 +331,7 @@ module _ (kind : Kind) (input : List ℕ) where
   sized o = o >>= λ n. partsIn (formOf kind (n .value + 1)) (n .value + 1) (n .rest)
 
   abbrev pub sizeRead : Outcome (Read ℕ)
-  sizeRead = numberIn (formOf kind 1 .sizes) (formOf kind 1 .more) mostSize (bitsOf input)
+  sizeRead = numberIn (formOf kind 1 .sizes) (formOf kind 1 .low) mostSize (bitsOf input)
 
   pub size-refused : (n : ℕ) → sizeRead ≡ refused n unplaced → tableIn kind input ≡ refused n unplaced
   unfolding tableIn sized

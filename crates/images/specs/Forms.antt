@@ -25,14 +25,13 @@ imageForm size =
       heads = 1;
       lengths = lengthWidth;
       letters = letterWidth size;
-      less = 1;
-      more = 0;
+      low = 0;
       mark = 0;
       head = 1;
     }
 
 abbrev pub plainForm : Form
-plainForm = record { sizes = 8; weights = 8; opens = 8; heads = 0; lengths = 8; letters = 8; less = 0; more = 1; mark = openByte; head = 0 }
+plainForm = record { sizes = 8; weights = 8; opens = 8; heads = 0; lengths = 8; letters = 8; low = 1; mark = openByte; head = 0 }
 
 abbrev pub formOf : Kind → ℕ → Form
 formOf Image size = imageForm size
@@ -54,10 +53,10 @@ numberIn width low many bits =
     unless (ltb (r .value) low || leb many (r .value - low)) 2 (record { value = r .value - low; rest = r .rest })
 
 abbrev pub weightIn : Form → List ℕ → Outcome (Read ℕ)
-weightIn f bits = numberIn (f .weights) (f .more) mostWeight bits
+weightIn f bits = numberIn (f .weights) (f .low) mostWeight bits
 
 abbrev pub letterIn : Form → ℕ → List ℕ → Outcome (Read ℕ)
-letterIn f size bits = numberIn (f .letters) (f .more) size bits >>= λ r. answered (record { value = r .value + 1; rest = r .rest })
+letterIn f size bits = numberIn (f .letters) (f .low) size bits >>= λ r. answered (record { value = r .value + 1; rest = r .rest })
 
 abbrev pub wordIn : Form → ℕ → List ℕ → Outcome (Read Positive)
 wordIn f size bits = numberIn (f .lengths) 0 wordLengths bits >>= λ k. several (letterIn f size) (k .value) (k .rest)
@@ -85,5 +84,5 @@ partsIn f size bits = several (weightIn f) size bits >>= λ ws. rowsIn f size (w
 
 unfoldable pub tableIn : Kind → List ℕ → Outcome Presentation
 tableIn kind input =
-    numberIn (formOf kind 1 .sizes) (formOf kind 1 .more) mostSize (bitsOf input) >>= λ n.
+    numberIn (formOf kind 1 .sizes) (formOf kind 1 .low) mostSize (bitsOf input) >>= λ n.
     partsIn (formOf kind (n .value + 1)) (n .value + 1) (n .rest)

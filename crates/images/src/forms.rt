@@ -24,8 +24,8 @@ pub enum Kind {
     Plain,
 }
 
-// The widths of the fields, and what is written in them: the number of letters less `less`, a weight above 1 with `more`, `mark` for an undefined
-// pair, `head` before the two words of any other pair, the length of a word, and a letter less `less`.
+// The widths of the fields, and what is written in them: a number of letters, a weight and a letter, of which `low` says the first, `mark` for an
+// undefined pair, `head` before the two words of any other pair, and the length of a word.
 pub struct Form {
     pub sizes: u32,
     pub weights: u32,
@@ -33,8 +33,7 @@ pub struct Form {
     pub heads: u32,
     pub lengths: u32,
     pub letters: u32,
-    pub less: u8,
-    pub more: u8,
+    pub low: u8,
     pub mark: u8,
     pub head: u8,
 }
@@ -51,8 +50,7 @@ pub fn image_form(size: u8) -> Form
         heads: DEFINED_BITS,
         lengths: LENGTH_BITS,
         letters: bits::letter_width(size) as u32,
-        less: 1,
-        more: 0,
+        low: 0,
         mark: 0,
         head: 1,
     }
@@ -69,8 +67,7 @@ pub fn plain_form() -> Form
         heads: 0,
         lengths: BYTE_BITS,
         letters: BYTE_BITS,
-        less: 0,
-        more: 1,
+        low: 1,
         mark: UNDEFINED,
         head: 0,
     }

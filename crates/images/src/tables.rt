@@ -68,7 +68,7 @@ pub fn read_word(
             let mut reader = behind;
             let mut k: usize = 0;
             while k < count {
-                match take_number(input, reader, form.letters, form.more, size) {
+                match take_number(input, reader, form.letters, form.low, size) {
                     TakenNumber::Ends => return TablePart::Ends,
                     TakenNumber::Wrong => return TablePart::Wrong,
                     TakenNumber::Number {
@@ -191,7 +191,7 @@ pub fn read_weights(
     let mut reader = begin;
     let mut a: u8 = 1;
     while a <= size {
-        match take_number(input, reader, form.weights, form.more, MOST_WEIGHT) {
+        match take_number(input, reader, form.weights, form.low, MOST_WEIGHT) {
             TakenNumber::Ends => return TablePart::Ends,
             TakenNumber::Wrong => return TablePart::Wrong,
             TakenNumber::Number {
@@ -250,7 +250,7 @@ pub fn read_form(input: &[u8], kind: Kind, cells: &mut [u8]) -> TableRead
         input,
         reader_at(input, 0),
         least.sizes,
-        least.more,
+        least.low,
         MOST_SIZE,
     ) {
         TakenNumber::Ends => TableRead::Refused(Refusal::TableEnds),

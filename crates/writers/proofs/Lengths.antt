@@ -23,7 +23,7 @@ module _ (f : Form) where
   word-length : (x : Positive) → length (wordAs f x) ≡ f .lengths + length x * f .letters
   word-length x =
       length-append (digits (f .lengths) (length x)) (concatMap (letterAs f) x)
-      ∙ omega (arith, length-digits (f .lengths) (length x), length-concat (letterAs f) (f .letters) (λ a. length-digits (f .letters) (a - f .less)) x)
+      ∙ omega (arith, length-digits (f .lengths) (length x), length-concat (letterAs f) (f .letters) (λ a. length-digits (f .letters) (a - (1 - f .low))) x)
 
   pub pair-length : (x y : Positive) → f .heads + 2 * f .lengths + (length x + length y) * f .letters ≡ length (pairAs f (complement x y))
   pair-length x y =
@@ -42,10 +42,10 @@ module _ (f : Form) where
   table-length size excess rows many =
       omega (
         arith,
-        length-append (digits (f .sizes) (size - f .less)) (concatMap (weightAs f) excess ++ concatMap (concatMap (pairAs f)) rows),
-        length-digits (f .sizes) (size - f .less),
+        length-append (digits (f .sizes) (size - (1 - f .low))) (concatMap (weightAs f) excess ++ concatMap (concatMap (pairAs f)) rows),
+        length-digits (f .sizes) (size - (1 - f .low)),
         length-append (concatMap (weightAs f) excess) (concatMap (concatMap (pairAs f)) rows),
-        length-concat (weightAs f) (f .weights) (λ e. length-digits (f .weights) (e + f .more)) excess,
+        length-concat (weightAs f) (f .weights) (λ e. length-digits (f .weights) (e + f .low)) excess,
         ap (λ n. n * f .weights) many,
       )
 
@@ -54,7 +54,7 @@ module _ (f : Form) where
   word-bits : (x : Positive) → AreBits (wordAs f x)
   word-bits x =
       bits-append (digits (f .lengths) (length x)) (concatMap (letterAs f) x) (digits-are-bits (f .lengths) (length x))
-      (concat-bits (letterAs f) (λ a. digits-are-bits (f .letters) (a - f .less)) x)
+      (concat-bits (letterAs f) (λ a. digits-are-bits (f .letters) (a - (1 - f .low))) x)
 
   pair-bits : (pair : Complement) → AreBits (pairAs f pair)
   pair-bits undefined = digits-are-bits (f .opens) (f .mark)
@@ -64,8 +64,8 @@ module _ (f : Form) where
 
   pub table-are-bits : (size : ℕ) (excess : List ℕ) (rows : List (List Complement)) → AreBits (tableAs f size excess rows)
   table-are-bits size excess rows =
-      bits-append (digits (f .sizes) (size - f .less)) (concatMap (weightAs f) excess ++ concatMap (concatMap (pairAs f)) rows)
-      (digits-are-bits (f .sizes) (size - f .less))
+      bits-append (digits (f .sizes) (size - (1 - f .low))) (concatMap (weightAs f) excess ++ concatMap (concatMap (pairAs f)) rows)
+      (digits-are-bits (f .sizes) (size - (1 - f .low)))
       (bits-append (concatMap (weightAs f) excess) (concatMap (concatMap (pairAs f)) rows)
-      (concat-bits (weightAs f) (λ e. digits-are-bits (f .weights) (e + f .more)) excess)
+      (concat-bits (weightAs f) (λ e. digits-are-bits (f .weights) (e + f .low)) excess)
       (concat-bits (concatMap (pairAs f)) (concat-bits (pairAs f) pair-bits) rows))

@@ -11,7 +11,7 @@ use Rattle.model.specs.Range.{InRange}
 use Rattle.images.specs.declared.forms.Form.{Form}
 
 abbrev pub letterAs : Form → ℕ → List ℕ
-letterAs f a = digits (f .letters) (a - f .less)
+letterAs f a = digits (f .letters) (a - (1 - f .low))
 
 abbrev pub wordAs : Form → Positive → List ℕ
 wordAs f x = digits (f .lengths) (length x) ++ concatMap (letterAs f) x
@@ -22,10 +22,10 @@ pairAs f (complement x y) = digits (f .heads) (f .head) ++ (wordAs f x ++ wordAs
 
 -- a weight, of which the table has what it is above 1
 abbrev pub weightAs : Form → ℕ → List ℕ
-weightAs f e = digits (f .weights) (e + f .more)
+weightAs f e = digits (f .weights) (e + f .low)
 
 abbrev pub tableAs : Form → ℕ → List ℕ → List (List Complement) → List ℕ
-tableAs f size excess rows = digits (f .sizes) (size - f .less) ++ (concatMap (weightAs f) excess ++ concatMap (concatMap (pairAs f)) rows)
+tableAs f size excess rows = digits (f .sizes) (size - (1 - f .low)) ++ (concatMap (weightAs f) excess ++ concatMap (concatMap (pairAs f)) rows)
 
 -- of a table of so many letters every number fits its field, and no field is wider than a byte
 pub record FormFor (size : ℕ) (f : Form) : Type 0 where
@@ -35,11 +35,10 @@ pub record FormFor (size : ℕ) (f : Form) : Type 0 where
   pub heads-narrow : f .heads ≤ 8
   pub lengths-narrow : f .lengths ≤ 8
   pub letters-narrow : f .letters ≤ 8
-  pub less-small : f .less ≤ 1
-  pub more-small : f .more ≤ 1
-  pub size-fits : size - f .less < 2 ^ f .sizes
-  pub weight-fits : (e : ℕ) → e < 2 ^ weightWidth → e + f .more < 2 ^ f .weights
+  pub low-small : f .low ≤ 1
+  pub size-fits : size - (1 - f .low) < 2 ^ f .sizes
+  pub weight-fits : (e : ℕ) → e < 2 ^ weightWidth → e + f .low < 2 ^ f .weights
   pub mark-fits : f .mark < 2 ^ f .opens
   pub head-fits : f .head < 2 ^ f .heads
   pub length-fits : mostLength < 2 ^ f .lengths
-  pub letter-fits : (a : ℕ) → InRange size a → a - f .less < 2 ^ f .letters
+  pub letter-fits : (a : ℕ) → InRange size a → a - (1 - f .low) < 2 ^ f .letters

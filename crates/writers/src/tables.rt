@@ -45,7 +45,7 @@ pub fn put_word(
     let mut k: usize = 0;
     while k < count {
         let a = cells[cell + 1 + k];
-        writer = put(area, writer, form.letters, (a - form.less) as u32);
+        writer = put(area, writer, form.letters, (a - (1 - form.low)) as u32);
         k += 1;
     }
     writer
@@ -113,12 +113,7 @@ pub fn put_weights(
     let mut a: u8 = 1;
     while a <= size {
         let place = weight_at(a);
-        writer = put(
-            area,
-            writer,
-            form.weights,
-            (cells[place] + form.more) as u32,
-        );
+        writer = put(area, writer, form.weights, (cells[place] + form.low) as u32);
         a += 1;
     }
     writer
@@ -151,7 +146,7 @@ pub fn put_table(cells: &[u8], size: u8, form: Form, area: &mut [u8]) -> BitWrit
         held: 0,
         bits: 0,
     };
-    let sized = put(area, none, form.sizes, (size - form.less) as u32);
+    let sized = put(area, none, form.sizes, (size - (1 - form.low)) as u32);
     let weighed = put_weights(cells, size, form, area, sized);
     put_rows(cells, size, form, area, weighed)
 }

@@ -10,7 +10,7 @@ use Rattle.images.proofs.forms.image_form.Tie as tie
 -- the form with letters of so many bits
 abbrev imageLetters : ℕ → Form
 imageLetters letters =
-    record { sizes = sizeWidth; weights = weightWidth; opens = 1; heads = 1; lengths = lengthWidth; letters = letters; less = 1; more = 0; mark = 0; head = 1 }
+    record { sizes = sizeWidth; weights = weightWidth; opens = 1; heads = 1; lengths = lengthWidth; letters = letters; low = 0; mark = 0; head = 1 }
 
 returns : tie.Need-returns
 returns c = ap imageLetters (c .letter-width .ensures)

@@ -26,14 +26,14 @@ start c = c .before .before .before .before .before
 
 -- the field of the number of letters
 size-told : (c : tie.After-take-number) (r : TakenNumber) → c .take-number .result ≡ r
-    → NumberDone (start c .args .input .now) 0 (formOf (start c .args .kind) 1 .sizes) (formOf (start c .args .kind) 1 .more) mostSize r
+    → NumberDone (start c .args .input .now) 0 (formOf (start c .args .kind) 1 .sizes) (formOf (start c .args .kind) 1 .low) mostSize r
 size-told c r e =
     let s = start c in
     let at = c .before .reader-at .ensures .place-is in
     let f = c .before .before .form-of .ensures in
-    subst (NumberDone (s .args .input .now) 0 (formOf (s .args .kind) 1 .sizes) (formOf (s .args .kind) 1 .more) mostSize) e
-    (subst (λ (f : Form). NumberDone (s .args .input .now) 0 (f .sizes) (f .more) mostSize (c .take-number .result)) f
-    (subst (λ n. NumberDone (s .args .input .now) n (c .before .before .form-of .result .sizes) (c .before .before .form-of .result .more) mostSize
+    subst (NumberDone (s .args .input .now) 0 (formOf (s .args .kind) 1 .sizes) (formOf (s .args .kind) 1 .low) mostSize) e
+    (subst (λ (f : Form). NumberDone (s .args .input .now) 0 (f .sizes) (f .low) mostSize (c .take-number .result)) f
+    (subst (λ n. NumberDone (s .args .input .now) n (c .before .before .form-of .result .sizes) (c .before .before .form-of .result .low) mostSize
     (c .take-number .result)) at
     (c .take-number .ensures)))
 
@@ -54,7 +54,7 @@ abbrev bits : tie.After-known-told → BitReader → List ℕ
 bits c r = from (began c .args .input .now) (place r)
 
 sized : (c : tie.After-known-told)
-    → NumberAt (began c .args .input .now) 0 (formOf (began c .args .kind) 1 .sizes) (formOf (began c .args .kind) 1 .more) mostSize (number c) (behind c)
+    → NumberAt (began c .args .input .now) 0 (formOf (began c .args .kind) 1 .sizes) (formOf (began c .args .kind) 1 .low) mostSize (number c) (behind c)
 sized c = size-told (took c) _ (c .before .number .given .1)
 
 narrow : (c : tie.After-form-of2) → Narrow (c .form-of2 .result)

@@ -36,10 +36,10 @@ loop c = c .before .before
 
 told : (c : tie.After-take-number Inv-loop μ-loop) (r : TakenNumber) → c .take-number .result ≡ r
     → NumberDone (start (loop c) .args .input .now) (place (loop c .loop .reader)) (start (loop c) .args .form .weights)
-    (start (loop c) .args .form .more) mostWeight r
+    (start (loop c) .args .form .low) mostWeight r
 told c r e =
     let s = start (loop c) in
-    subst (NumberDone (s .args .input .now) (place (loop c .loop .reader)) (s .args .form .weights) (s .args .form .more) mostWeight) e
+    subst (NumberDone (s .args .input .now) (place (loop c .loop .reader)) (s .args .form .weights) (s .args .form .low) mostWeight) e
     (c .take-number .ensures)
 
 refused-by : (c : tie.After-take-number Inv-loop μ-loop) (n : ℕ)
@@ -86,7 +86,7 @@ behind c = c .before .number .given .0 .1 .0
 
 taken : (c : tie.After-known-told Inv-loop μ-loop)
     → NumberAt (start (loop (turn c)) .args .input .now) (place (loop (turn c) .loop .reader)) (start (loop (turn c)) .args .form .weights)
-    (start (loop (turn c)) .args .form .more) mostWeight (number c) (behind c)
+    (start (loop (turn c)) .args .form .low) mostWeight (number c) (behind c)
 taken c = told (turn c) _ (c .before .number .given .1)
 
 weight-at-requires : tie.Need-weight-at-requires Inv-loop μ-loop

@@ -32,7 +32,7 @@ counted-as : (f : Form) (size : ℕ) (bits : List ℕ) (o : Outcome (Read ℕ)) 
 unfolding counted
 counted-as f size bits o e = ap (counted f size) e
 
-numbered-as : (f : Form) (size : ℕ) (bits : List ℕ) (o : Outcome (Read ℕ)) → numberIn (f .letters) (f .more) size bits ≡ o
+numbered-as : (f : Form) (size : ℕ) (bits : List ℕ) (o : Outcome (Read ℕ)) → numberIn (f .letters) (f .low) size bits ≡ o
     → letterIn f size bits ≡ (o >>= λ r. answered (record { value = r .value + 1; rest = r .rest }))
 unfolding numbered
 numbered-as f size bits o e = ap numbered e
@@ -92,14 +92,14 @@ room c =
 -- what stands at the next letter's place
 told : (c : tie.After-take-number2 Inv-loop μ-loop) (r : TakenNumber) → c .take-number2 .result ≡ r
     → NumberDone (began (read (loop c)) .args .input .now) (place (loop c .loop .reader)) (began (read (loop c)) .args .form .letters)
-    (began (read (loop c)) .args .form .more) (began (read (loop c)) .args .size) r
+    (began (read (loop c)) .args .form .low) (began (read (loop c)) .args .size) r
 told c r e =
     let s = began (read (loop c)) in
-    subst (NumberDone (s .args .input .now) (place (loop c .loop .reader)) (s .args .form .letters) (s .args .form .more) (s .args .size)) e
+    subst (NumberDone (s .args .input .now) (place (loop c .loop .reader)) (s .args .form .letters) (s .args .form .low) (s .args .size)) e
     (c .take-number2 .ensures)
 
 refused-by : (c : tie.After-take-number2 Inv-loop μ-loop) (n : ℕ)
-    → numberIn (began (read (loop c)) .args .form .letters) (began (read (loop c)) .args .form .more) (began (read (loop c)) .args .size)
+    → numberIn (began (read (loop c)) .args .form .letters) (began (read (loop c)) .args .form .low) (began (read (loop c)) .args .size)
     (bits (read (loop c)) (loop c .loop .reader)) ≡ refused n unplaced
     → wordIn (began (read (loop c)) .args .form) (began (read (loop c)) .args .size) (bits (read (loop c)) (began (read (loop c)) .args .begin))
     ≡ refused n unplaced
@@ -159,7 +159,7 @@ abbrev from-start : tie.After-known-told2 Inv-loop μ-loop → tie.Start Inv-loo
 from-start c = began (read (loop (turn c)))
 
 taken : (c : tie.After-known-told2 Inv-loop μ-loop)
-    → NumberAt (from-start c .args .input .now) (place (loop (turn c) .loop .reader)) (from-start c .args .form .letters) (from-start c .args .form .more)
+    → NumberAt (from-start c .args .input .now) (place (loop (turn c) .loop .reader)) (from-start c .args .form .letters) (from-start c .args .form .low)
     (from-start c .args .size) (number c) (behind c)
 taken c = told (turn c) _ (c .before .number .given .1)
 

@@ -61,10 +61,10 @@ shared-slice-read-put c =
     omega (arith, placed c, start (n .before) .pre .2, n .before .loop .inv .0, n .loop-test .taken, start (n .before) .pre .0 .few)
 
 add-put : tie.Need-add-put Inv-loop μ-loop
-add-put c = omega (arith, light (c .before), start (turn (c .before) .before) .pre .1 .more-small)
+add-put c = omega (arith, light (c .before), start (turn (c .before) .before) .pre .1 .low-small)
 
 cast-put : tie.Need-cast-put Inv-loop μ-loop
-cast-put c = omega (arith, light (c .before), start (turn (c .before) .before) .pre .1 .more-small)
+cast-put c = omega (arith, light (c .before), start (turn (c .before) .before) .pre .1 .low-small)
 
 put-requires : tie.Need-put-requires Inv-loop μ-loop
 put-requires c κs =

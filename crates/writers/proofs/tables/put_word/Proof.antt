@@ -78,7 +78,10 @@ shared-slice-read-a : tie.Need-shared-slice-read-a Inv-loop μ-loop
 shared-slice-read-a c = omega (arith, begun (c .before) .pre .2, few (begun (c .before)), c .before .loop-test .taken)
 
 sub-put : tie.Need-sub-put Inv-loop μ-loop
-sub-put c = omega (arith, begun (turn c) .pre .1 .less-small, letter (turn c) .low)
+sub-put c = omega (arith, begun (turn c) .pre .1 .low-small)
+
+sub-put-2 : tie.Need-sub-put-2 Inv-loop μ-loop
+sub-put-2 c = omega (arith, begun (turn c) .pre .1 .low-small, letter (turn c) .low)
 
 cast-put-2 : tie.Need-cast-put-2 Inv-loop μ-loop
 cast-put-2 c = omega (arith, letter (turn c) .high, begun (turn c) .good)
@@ -130,5 +133,5 @@ returns c x h =
 
 pub put-word-spec : {M : Type 1} → statement M
 put-word-spec =
-    tie.close (tie.spec Inv-loop μ-loop shared-slice-read-first cast-count cast-put put-requires loop-holds add-a add-a-2 shared-slice-read-a sub-put
+    tie.close (tie.spec Inv-loop μ-loop shared-slice-read-first cast-count cast-put put-requires loop-holds add-a add-a-2 shared-slice-read-a sub-put sub-put-2
     cast-put-2 put-requires-2 add-k loop-less loop-again same-length returns)
