@@ -9,14 +9,15 @@ use Rattle.model.specs.Outcome.{unplaced, Outcome, answered, refused}
 use Rattle.model.specs.Bits.{letterWidth}
 use Rattle.model.specs.Images.{signedField, readProgram, mostSize, sizeWidth}
 use Rattle.model.specs.Services.{isForward, readForward}
-use Rattle.model.specs.Range.{numberOf, LetterInRange}
+use Rattle.model.specs.Range.{InRange, numberOf, LetterInRange}
 use Rattle.model.specs.Stated.{refusal}
-use Rattle.cells.specs.Layout.{weightAt}
+use Rattle.cells.specs.Layout.{cellBytes, weightAt}
 use Rattle.images.specs.Fields.{from}
 use Rattle.images.specs.BitReader.{ReadsFrom}
 use Rattle.images.specs.declared.bit_reader.BitReader.{BitReader}
 use Rattle.images.specs.declared.programs.SignedField.{SignedField}
 use Rattle.images.specs.declared.programs.SignedField.the-variants.{Letter as SignedLetter, Ends, Wrong}
+use Rattle.images.specs.declared.programs.Tally.{Tally}
 use Rattle.images.specs.declared.programs.Signs.{Signs}
 use Rattle.images.specs.declared.programs.Signs.the-variants.{Any, Forward}
 use Rattle.images.specs.declared.programs.ProgramRead.{ProgramRead}
@@ -45,6 +46,18 @@ abbrev pub SignedDone : List ℕ → ℕ → ℕ → ℕ → SignedField → Typ
 SignedDone image at size width (SignedLetter sign number r) = LetterTaken image at size width sign number r
 SignedDone image at size width Ends = signedField size (from image at) ≡ refused 4 unplaced
 SignedDone image at size width Wrong = signedField size (from image at) ≡ refused 5 unplaced
+
+-- the tally with one letter more
+abbrev pub withLetter : List ℕ → Tally → ℕ → ℕ → Tally
+withLetter cells tally sign number =
+    record { backs = tally .backs + sign; weight = tally .weight + suc (getD cells (weightAt number) 0) }
+
+-- .. where its numbers have room for it
+pub record Tallies (cells : List ℕ) (tally : Tally) (sign number : ℕ) : Type 0 where
+  pub full : length cells ≡ cellBytes
+  pub named : InRange mostSize number
+  pub backs-fit : tally .backs + sign < 65536
+  pub weight-fits : tally .weight + suc (getD cells (weightAt number) 0) < 65536
 
 -- the image of a program of so many letters
 pub record ProgramOf (image : List ℕ) (size count : ℕ) : Type 0 where

@@ -21,7 +21,7 @@ ghost use Rattle.model.specs.Areas.{written};
 ghost use Rattle.cells.specs.Stands.{Sized};
 ghost use Rattle.images.specs.BitReader.{place, Reads};
 ghost use Rattle.images.specs.Widths.{WidthOf};
-ghost use Rattle.images.specs.Programs.{SignedDone, ProgramDone, Accepted, HasLetter, ReadDone};
+ghost use Rattle.images.specs.Programs.{SignedDone, Tallies, withLetter, ProgramDone, Accepted, HasLetter, ReadDone};
 
 // The bits of a program's count, and of a letter's sign.
 pub const COUNT_BITS: usize = 12;
@@ -75,6 +75,23 @@ pub fn next_signed(image: &[u8], reader: BitReader, size: u8, width: u32) -> Sig
     }
 }
 
+// Of the letters that were passed: how many are back, and what all weigh.
+pub struct Tally {
+    pub backs: u16,
+    pub weight: u16,
+}
+
+// With one letter more.
+pub fn tallied(tally: Tally, cells: &[u8], sign: u8, number: u8) -> Tally
+    requires { ⌜ Tallies (now cells) tally sign number ⌝ }
+    ensures { λ r. ⌜ r ≡ withLetter (now (cells .entry)) tally sign number ⌝ }
+{
+    Tally {
+        backs: tally.backs + sign as u16,
+        weight: tally.weight + letter_weight(cells, number),
+    }
+}
+
 // Refusal 4 or 5, whichever is come to first, then 6 (specification 5.3); nothing is written.
 pub fn read_program(image: &[u8], cells: &[u8], size: u8) -> ProgramRead
     requires { ⌜ Sized (now cells) size ⌝ }
@@ -85,8 +102,10 @@ pub fn read_program(image: &[u8], cells: &[u8], size: u8) -> ProgramRead
     };
     let width = bits::letter_width(size) as u32;
     let mut reader = reader_at(image, COUNT_BITS);
-    let mut backs: u16 = 0;
-    let mut weight: u16 = 0;
+    let mut tally = Tally {
+        backs: 0,
+        weight: 0,
+    };
     let mut i: u16 = 0;
     while i < count {
         match next_signed(image, reader, size, width) {
@@ -98,8 +117,7 @@ pub fn read_program(image: &[u8], cells: &[u8], size: u8) -> ProgramRead
                 reader: after,
             } => {
                 reader = after;
-                backs += sign as u16;
-                weight += letter_weight(cells, number);
+                tally = tallied(tally, cells, sign, number);
                 i += 1;
             }
         }
@@ -107,8 +125,8 @@ pub fn read_program(image: &[u8], cells: &[u8], size: u8) -> ProgramRead
     if is_end(image, reader) {
         ProgramRead::Program {
             count,
-            forward: backs == 0,
-            weight,
+            forward: tally.backs == 0,
+            weight: tally.weight,
         }
     } else {
         ProgramRead::Refused(Refusal::ImageTail)

@@ -16,6 +16,7 @@ use Rattle.model.specs.Range.{InRange}
 use Rattle.images.specs.Programs.{SignedDone, SignedTaken, LetterTaken}
 use Rattle.images.specs.declared.bit_reader.BitReader.{BitReader}
 use Rattle.images.specs.declared.programs.SignedField.{SignedField}
+use Rattle.images.specs.declared.programs.Tally.{Tally}
 use Rattle.images.proofs.Validating.{program, count-ends, value-refused, whole-held, whole-tail}
 use Rattle.images.proofs.Measuring.{Passed, passed-none, passed-named, passed-light, passed-more, no-back}
 use borrow.Author.Needs.{needs}
@@ -24,10 +25,10 @@ use Rattle.images.proofs.programs.read_program.Statement.{statement}
 use Rattle.images.proofs.programs.read_program.Tie as tie
 
 abbrev Inv-loop : tie.InvT-loop
-Inv-loop image cells size count width reader₀ backs₀ weight₀ i₀ reader backs weight i = Passed image cells size count reader backs weight i
+Inv-loop image cells size count width reader₀ tally₀ i₀ reader tally i = Passed image cells size count reader (tally .backs) (tally .weight) i
 
 abbrev μ-loop : tie.MeasureT-loop
-μ-loop image cells size count width reader₀ backs₀ weight₀ i₀ reader backs weight i = count - i
+μ-loop image cells size count width reader₀ tally₀ i₀ reader tally i = count - i
 
 abbrev start-from-after-next-field : tie.After-next-field Inv-loop μ-loop → tie.Start Inv-loop μ-loop
 start-from-after-next-field c = c .before .before .before
@@ -152,33 +153,20 @@ light c =
 few : (c : tie.After-known-told2 Inv-loop μ-loop) → loop (turn c) .loop .i < mostLetters
 few c = omega (arith, turn c .before .loop-test .taken, count-at (wide (loop (turn c)) .before) .small)
 
-cast-backs : tie.Need-cast-backs Inv-loop μ-loop
-cast-backs c = omega (arith, letter c .sign-small)
-
-add-backs : tie.Need-add-backs Inv-loop μ-loop
-add-backs c = omega (arith, letter c .sign-small, few c, loop (turn c) .loop .inv .some)
-
-letter-weight-requires : tie.Need-letter-weight-requires Inv-loop μ-loop
-letter-weight-requires c κs =
+tallied-requires : tie.Need-tallied-requires Inv-loop μ-loop
+tallied-requires c κs =
     let s = began c in
-    let l = loop (turn c) in (
-      s .pre .1 .stands .full,
-      subst (InRange mostSize) (number-is c)
+    let l = loop (turn c) in
+    record {
+      full = s .pre .1 .stands .full;
+      named =
+          subst (InRange mostSize) (number-is c)
           (passed-named (s .args .image .now) (s .args .cells .now) (s .args .size) (s .pre .0) (s .pre .1) (wide l .letter-width .result) (byte c)
-          (place (l .loop .reader)) (behind c) (taken c)),
-    )
-
-add-weight : tie.Need-add-weight Inv-loop μ-loop
-add-weight c =
-    omega (
-      arith,
-      light (c .before),
-      few (c .before),
-      c .letter-weight .ensures,
-      ap (λ n. getD (began (c .before) .args .cells .now) (weightAt n) 0)
-          (number-is (c .before)),
-      loop (turn (c .before)) .loop .inv .light,
-    )
+          (place (l .loop .reader)) (behind c) (taken c));
+      backs-fit = omega (arith, letter c .sign-small, few c, l .loop .inv .some);
+      weight-fits =
+          omega (arith, light c, few c, ap (λ n. getD (s .args .cells .now) (weightAt n) 0) (number-is c), l .loop .inv .light);
+    }
 
 add-i : tie.Need-add-i Inv-loop μ-loop
 add-i c = omega (arith, few (c .before))
@@ -191,28 +179,31 @@ loop-again c =
     let k = c .before in
     let s = began k in
     let l = loop (turn k) in
-    let r = behind k in
-    subst (λ n. Passed (s .args .image .now) (s .args .cells .now) (s .args .size) (count l) r (l .loop .backs + n) (l .loop .weight + c .letter-weight .result)
+    let backs = l .loop .tally .backs in
+    let weight = l .loop .tally .weight in
+    let cells = s .args .cells .now in
+    subst (λ (t : Tally). Passed (s .args .image .now) cells (s .args .size) (count l) (behind k) (t .backs) (t .weight) (l .loop .i + 1))
+    (sym (c .tallied .ensures))
+    (subst (λ n. Passed (s .args .image .now) cells (s .args .size) (count l) (behind k) (backs + n) (weight + suc (getD cells (weightAt (number k)) 0))
     (l .loop .i + 1)) (sign-is k)
-    (subst (λ n. Passed (s .args .image .now) (s .args .cells .now) (s .args .size) (count l) r (l .loop .backs + byte k / 128) (l .loop .weight + n)
-    (l .loop .i + 1))
-    (sym (c .letter-weight .ensures ∙ ap (λ n. suc (getD (s .args .cells .now) (weightAt n) 0)) (sym (number-is k))))
-    (passed-more (s .args .image .now) (s .args .cells .now) (s .args .size) (s .pre .0) (s .pre .1) (wide l .letter-width .result) (byte k)
-    (place (l .loop .reader)) r (taken k)
-    (count l) (count-at (wide l .before)) (l .loop .reader) refl (width-of (wide l) .narrow) (l .loop .backs) (l .loop .weight) (l .loop .i) (l .loop .inv)
-    (turn k .before .loop-test .taken)))
+    (subst (λ n. Passed (s .args .image .now) cells (s .args .size) (count l) (behind k) (backs + byte k / 128) (weight + suc (getD cells (weightAt n) 0))
+    (l .loop .i + 1)) (number-is k)
+    (passed-more (s .args .image .now) cells (s .args .size) (s .pre .0) (s .pre .1) (wide l .letter-width .result) (byte k) (place (l .loop .reader))
+    (behind k) (taken k) (count l) (count-at (wide l .before)) (l .loop .reader) refl (width-of (wide l) .narrow) backs weight (l .loop .i) (l .loop .inv)
+    (turn k .before .loop-test .taken))))
 
 is-end-requires : tie.Need-is-end-requires Inv-loop μ-loop
 is-end-requires c κs = c .before .loop .inv .reads
 
 returns-4 : tie.Need-returns-4 Inv-loop μ-loop
 returns-4 c =
-    let l = c .before .before .before in
+    let e = c .before in
+    let l = e .before .before .before in
     let s = start (wide l .before) in
     let v = l .loop .inv .validated in
     let h =
     whole-held (program (s .args .size)) (s .args .image .now) (count l) (count-at (wide l .before)) (place (l .loop .reader)) (l .loop .i) v
-    (c .before .before .loop-test .left) (sym (c .before .is-end .ensures) ∙ c .if1 .taken) in
+    (e .before .before .loop-test .left) (sym (e .before .is-end .ensures) ∙ e .if1 .taken) in
     record {
       program = record { word = v .done; read = h .read; count-is = h .count-is };
       forward-is = ap (λ n. eqb n 0) (l .loop .inv .signs) ∙ no-back (v .done);
@@ -230,5 +221,5 @@ returns-5 c =
 pub read-program-spec : {M : Type 1} → statement M
 read-program-spec =
     tie.close (tie.spec Inv-loop μ-loop next-field-requires (λ c. search needs) (λ c. search needs) returns letter-width-requires (λ c. search needs)
-    reader-at-requires loop-holds next-signed-requires (λ c. search needs) returns-2 (λ c. search needs) returns-3 (λ c. search needs) cast-backs add-backs
-    letter-weight-requires add-weight add-i loop-less loop-again is-end-requires returns-4 returns-5)
+    reader-at-requires loop-holds next-signed-requires (λ c. search needs) returns-2 (λ c. search needs) returns-3 (λ c. search needs) tallied-requires
+    add-i loop-less loop-again is-end-requires returns-4 returns-5)
