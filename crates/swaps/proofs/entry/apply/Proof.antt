@@ -84,7 +84,7 @@ stands-at-requires c κs =
     let q = side-fits T (heldAt (s .args .bytes .now) (s .args .gap .left) (s .args .gap .right)) (entryOf (s .args .entry)) (j .before .before .if1 .left)
     (s .args .cells .now) (o .stands) (subst (λ n. InRange n (s .args .entry .a)) (sym (o .sized)) (s .pre .a-names))
     (subst (λ n. InRange n (s .args .entry .b)) (sym (o .sized)) (s .pre .b-names)) (t .result) (t .ensures) (else2 (after-slice-known2 c) .if2 .left) in
-    (v .ensures .placed .inside, q .0, q .1)
+    (v .ensures .placed .inside, q .0, omega (arith, q .1))
 
 same-length : tie.Need-same-length
 same-length c = after-slice-known2 (c .before .before) .before .before .carry .kept .0
@@ -128,7 +128,7 @@ replace-requires c κs =
     (else2 (after-slice-known2 (after-stands-at-arg c)) .if2 .left) in
     let f = fit-inside (v .last .0) (v .result) (s .args .entry .a) _ _ (word-length (s .args .cells .now) (t .result + 1) _ (p .0))
     (v .ensures .placed .inside) (sym (c .before .before .stands-at .ensures) ∙ not-false (c .before .before .stands-at .result) (c .before .if4 .left)) in
-    (v .ensures .placed, f, q .0, q .1)
+    (v .ensures .placed, f, q .0, omega (arith, q .1))
 
 same-length-2 : tie.Need-same-length-2
 same-length-2 c = c .before .before .replace .kept .0
