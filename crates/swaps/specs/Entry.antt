@@ -46,14 +46,14 @@ AppliedAs T word e after (Word g) = Leads-to T word e after (g .left) (g .right)
 AppliedAs T word e after Breaks = applied T word e ≡ none
 AppliedAs T word e after Short = Outgrows T word e (length after)
 
--- the word behind the gap may begin with a side of the relation of two letters, which is there
+-- a word in the area, and two letters of a table in the cells that have a relation
 pub record Exchanges (cells bytes : List ℕ) (left right a b : ℕ) : Type 0 where
   pub placed : Placed bytes left right
   pub filled : Filled cells a b
   pub apart : a ≡ b → ⊥
   pub defined : getD cells (cellAt a b) 0 ≡ undefinedLength → ⊥
 
--- .. which comes to what the entry at the gap makes of the word
+-- for every such table the outcome is that of the entry of the letters at the gap
 abbrev pub ExchangeMeans : List ℕ → List ℕ → ℕ → ℕ → ℕ → ℕ → List ℕ → Applied → Type 0
 ExchangeMeans cells before left right a b after r =
     (T : Presentation) → Stands cells T → InRange (T .size) a → InRange (T .size) b

@@ -9,8 +9,8 @@ use Rattle.model.specs.Areas.{begins}
 use Rattle.model.specs.Ways.{listing, listingBytes}
 use Rattle.theory.specs.Ways.{Weighed}
 use Rattle.cells.specs.Stands.{Of}
-use Rattle.ways.specs.declared.listing.Grown.{Grown}
-use Rattle.ways.specs.declared.listing.Grown.the-variants.{To, Full}
+use Rattle.ways.specs.declared.listing.NextTried.{NextTried}
+use Rattle.ways.specs.declared.listing.NextTried.the-variants.{Used, Full}
 use Rattle.ways.specs.declared.listing.Listing.{Listing}
 use Rattle.ways.specs.declared.listing.Listing.the-variants.{Whole, Long}
 use Rattle.ways.specs.Area.{Marked}
@@ -33,7 +33,7 @@ abbrev pub Begun : List ℕ → ℕ → List ℕ → ℕ → Type 0
 Begun cells size area used = (k : Task cells size) × State k area used 0
 
 -- words were found, and the first of them that was not tried ends at `end`
-pub record Untested (cells : List ℕ) (size : ℕ) (area : List ℕ) (used end : ℕ) : Type 0 where
+pub record NextUntried (cells : List ℕ) (size : ℕ) (area : List ℕ) (used end : ℕ) : Type 0 where
   pub task : Task cells size
   pub count : ℕ
   pub state : State task area used count
@@ -45,12 +45,13 @@ abbrev pub Longer : {cells : List ℕ} {size : ℕ} → Task cells size → Type
 Longer k = length (k .before) < length (listingBytes (listing (k .table) (k .program)))
 
 -- one word more was tried
-abbrev pub GrownMeans : {cells : List ℕ} {size : ℕ} → Task cells size → ℕ → List ℕ → Grown → Type 0
-GrownMeans k count area (To used) = State k area used (count + 1)
-GrownMeans k count area Full = Longer k
+abbrev pub NextTriedMeans : {cells : List ℕ} {size : ℕ} → Task cells size → ℕ → List ℕ → NextTried → Type 0
+NextTriedMeans k count area (Used used) = State k area used (count + 1)
+NextTriedMeans k count area Full = Longer k
 
-abbrev pub NextMeans : List ℕ → ℕ → List ℕ → ℕ → List ℕ → Grown → Type 0
-NextMeans cells size area used after r = (k : Task cells size) (count : ℕ) → State k area used count → GrownMeans k count after r
+-- .. in every task that has come so far
+abbrev pub NextMeans : List ℕ → ℕ → List ℕ → ℕ → List ℕ → NextTried → Type 0
+NextMeans cells size area used after r = (k : Task cells size) (count : ℕ) → State k area used count → NextTriedMeans k count after r
 
 -- the area begins with the listing, and is as it was from there on
 pub record ListedAll {cells : List ℕ} {size : ℕ} (k : Task cells size) (area : List ℕ) (words bytes : ℕ) : Type 0 where

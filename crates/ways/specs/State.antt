@@ -111,6 +111,7 @@ pub record Letter (cells area : List ℕ) (h : Held) (offset b : ℕ) : Type 0 w
   pub inside : offset < h .letters
   pub named : InRange size b
 
+-- the entry with an offset and two letters
 abbrev pub entryAt : ℕ → ℕ → ℕ → Entry
 entryAt offset a b = record { offset = offset; a = a; b = b }
 

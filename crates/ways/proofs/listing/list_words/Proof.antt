@@ -5,7 +5,7 @@ use native.Mathlib.Omega.{arith}
 use borrow.Author.Needs.{needs}
 use lib.ListN.{length}
 use Rattle.ways.specs.Marks.{UntriedFound}
-use Rattle.ways.specs.Listing.{Task, State, GrownMeans}
+use Rattle.ways.specs.Listing.{Task, State, NextTriedMeans}
 use Rattle.ways.proofs.Tasks.{next-count, all-listed}
 use Rattle.ways.proofs.listing.list_words.Statement.{statement}
 use Rattle.ways.proofs.listing.list_words.Tie as tie
@@ -60,18 +60,18 @@ returns c =
     let l = in-loop d .before .loop in (
       d .try-next .ensures .0 ∙ l .inv .1,
       λ k t.
-          subst (GrownMeans k (l .words) (d .try-next .last .0)) (c .enum-told .given .1) (d .try-next .ensures .1 k (l .words) (l .inv .3 k t)),
+          subst (NextTriedMeans k (l .words) (d .try-next .last .0)) (c .enum-told .given .1) (d .try-next .ensures .1 k (l .words) (l .inv .3 k t)),
     )
 
 -- one word more is tried
 further : (c : tie.After-known-told Inv-loop μ-loop)
     (k : Task (start-of (in-loop (grew c)) .args .cells .now) (start-of (in-loop (grew c)) .args .size))
     → State k (start-of (in-loop (grew c)) .args .area .now) (start-of (in-loop (grew c)) .args .first) 0
-    → State k (grew c .try-next .last .0) (c .before .grown .given .0 .0) (in-loop (grew c) .before .loop .words + 1)
+    → State k (grew c .try-next .last .0) (c .before .tried .given .0 .0) (in-loop (grew c) .before .loop .words + 1)
 further c k t =
     let d = grew c in
     let l = in-loop d .before .loop in
-    subst (GrownMeans k (l .words) (d .try-next .last .0)) (c .before .grown .given .1) (d .try-next .ensures .1 k (l .words) (l .inv .3 k t))
+    subst (NextTriedMeans k (l .words) (d .try-next .last .0)) (c .before .tried .given .1) (d .try-next .ensures .1 k (l .words) (l .inv .3 k t))
 
 add-words : tie.Need-add-words Inv-loop μ-loop
 add-words c =
