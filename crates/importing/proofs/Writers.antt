@@ -12,7 +12,7 @@ use borrow.Author.Tests.{leb-true}
 use Rattle.model.specs.Word.{forward, Word}
 use Rattle.model.specs.Outcome.{Outcome, answered, refused, _>>=_, unless}
 use Rattle.model.specs.Bits.{Read}
-use Rattle.model.specs.Notation.{Pattern, Item, item, Body, move, bracket, repeated, times, undone, meaning, itemMeaning, bodyMeaning, moves, itemMoves}
+use Rattle.model.specs.Notation.{Pattern, Item, item, Body, move, bracket, repeated, times, undone, itemMeaning, bodyMeaning, moves, itemMoves}
 use Rattle.model.specs.Notation.{bodyMoves, bodyHighest, itemHighest, zeroByte, openingByte, closingByte, minusByte, noPattern, isDigit, secondDigit}
 use Rattle.model.specs.Notation.{readNumber, readMinus, readCount, readClose, readBody, readItem, readPattern}
 use Rattle.model.proofs.Impossible.{impossible}
