@@ -53,8 +53,8 @@ module _ {cells old : List ℕ} {start : Held} {later : Span} {T : Presentation}
   sided-few Second = omega (arith, w .placed .inside)
   sided-few First = w .placed .inside
 
-  module _ {steps width : ℕ} {area : List ℕ} {h : Held} {at : ℕ} where
-    pub sided-all : (side : Side) (k : Taking T steps width vs (sidedPair side m) (sidedCount side m) area h at)
+  module _ {budget room : ℕ} {area : List ℕ} {h : Held} {at : ℕ} where
+    pub sided-all : (side : Side) (k : Taking T budget room vs (sidedPair side m) (sidedCount side m) area h at)
         → isTaken side at (later .at) ≡ false → sidedCount side m ≤ k .passed
     sided-all Second k l = go (decLt (k .passed) (length vs))
       where
@@ -63,14 +63,14 @@ module _ {cells old : List ℕ} {start : Held} {later : Span} {T : Presentation}
         go (no p) = omega (arith, w .placed .inside)
     sided-all First k l = place-below vs m (k .passed) (omega (arith, leb-false at (later .at) l, k .at-is, w .placed .at-is))
 
-    pub sided-on : (side : Side) (k : Taking T steps width vs (sidedPair side m) (sidedCount side m) area h at)
+    pub sided-on : (side : Side) (k : Taking T budget room vs (sidedPair side m) (sidedCount side m) area h at)
         → isTaken side at (later .at) ≡ true → k .passed < sidedCount side m
     sided-on Second k l = place-below vs (k .passed) m (omega (arith, ltb-true at (later .at) l, k .at-is, w .placed .at-is))
     sided-on First k l =
         let r : k .passed ≤ m = place-above vs m (k .passed) (w .placed .inside) (omega (arith, leb-true at (later .at) l, k .at-is, w .placed .at-is)) in
         omega arith
 
-    pub sided-paired : (side : Side) (k : Taking T steps width vs (sidedPair side m) (sidedCount side m) area h at)
+    pub sided-paired : (side : Side) (k : Taking T budget room vs (sidedPair side m) (sidedCount side m) area h at)
         → isTaken side at (later .at) ≡ true → {end : ℕ} → EndFound area at end
         → Paired cells area h (chosenOf side later (record { at = at; letters = end - at })) (chosenOf side (record { at = at; letters = end - at }) later) T
         (k .words) (sidedPair side m (k .passed))
@@ -84,21 +84,21 @@ module _ {cells old : List ℕ} {start : Held} {later : Span} {T : Presentation}
         both First l o = (l, o)
 
 -- all pairs of a place, where those with the later word second were taken
-module _ (cells area : List ℕ) (start : Held) (later : Span) (steps : ℕ) (mid : List ℕ) (first : Step) (same : length mid ≡ length area)
-    (means : PlacesMean (sided Second) cells area start later steps mid first) where
+module _ (cells area : List ℕ) (start : Held) (later : Span) (budget : ℕ) (mid : List ℕ) (first : Step) (same : length mid ≡ length area)
+    (means : PlacesMean (sided Second) cells area start later budget mid first) where
   abbrev taken : Presentation → List Two → List Positive → Outcome (List Positive)
-  taken T = takenPairs T steps (length area)
+  taken T = takenPairs T budget (length area)
 
   both-parts : (T : Presentation) (m : ℕ) (vs : List Positive) → taken T (placesAt m) vs ≡ (taken T (sided Second m) vs >>= taken T (sided First m))
-  both-parts T m vs = taken-both T steps (length area) (sided Second m) (sided First m) vs
+  both-parts T m vs = taken-both T budget (length area) (sided Second m) (sided First m) vs
 
-  pub place-ended : {g : Grown} → first ≡ Ended g → PlacesMean placesAt cells area start later steps mid (Ended g)
+  pub place-ended : {g : Grown} → first ≡ Ended g → PlacesMean placesAt cells area start later budget mid (Ended g)
   place-ended {g} e T vs m w go stops =
       let ended : StepMeans (T .size) mid vs (taken T (sided Second m) vs) (Ended g) =
       subst (StepMeans (T .size) mid vs (taken T (sided Second m) vs)) e (means T vs m w) in
       let long : StopsLong (length mid) vs (λ ws. taken T (sided First m) ws >>= go) =
       subst (λ i. StopsLong i vs (λ ws. taken T (sided First m) ws >>= go)) (sym same)
-      (stops-before T steps (length area) vs vs (sided First m) go (omega arith) (subst (λ i. StopsLong i vs go) same stops)) in
+      (stops-before T budget (length area) vs vs (sided First m) go (omega arith) (subst (λ i. StopsLong i vs go) same stops)) in
       ended (λ ws. taken T (sided First m) ws >>= go) long
       ∙ (sym (then-assoc (taken T (sided Second m) vs) (taken T (sided First m)) go) ∙ ap (λ o. o >>= go) (sym (both-parts T m vs)))
 
@@ -110,10 +110,10 @@ module _ (cells area : List ℕ) (start : Held) (later : Span) (steps : ℕ) (mi
     pub place-half : Later cells area start later → Later cells mid h later
     place-half (T, vs, m, w) = (T, half w .words, m, still-later w (half w))
 
-    pub place-taken : (after : List ℕ) (r : Step) → PlacesMean (sided First) cells mid h later steps after r
-        → PlacesMean placesAt cells area start later steps after r
+    pub place-taken : (after : List ℕ) (r : Step) → PlacesMean (sided First) cells mid h later budget after r
+        → PlacesMean placesAt cells area start later budget after r
     place-taken after r next T vs m w =
         let g = half w in
         subst (λ o. StepMeans (T .size) after vs o r) (sym (both-parts T m vs))
         (step-then g after (taken T (sided First m)) r
-        (subst (λ i. StepMeans (T .size) after (g .words) (takenPairs T steps i (sided First m) (g .words)) r) same (next T (g .words) m (still-later w g))))
+        (subst (λ i. StepMeans (T .size) after (g .words) (takenPairs T budget i (sided First m) (g .words)) r) same (next T (g .words) m (still-later w g))))

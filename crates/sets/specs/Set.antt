@@ -23,4 +23,4 @@ GrownMeans cells area h budget r =
     → grownAs r ≡ mapped (λ ws. tt) (grownFrom T budget (length area) mostWords 0 vs)
 
 abbrev pub SetMeans : List ℕ → ℕ → ℕ → ℕ → Grown → Type 0
-SetMeans cells size width budget r = (T : Presentation) → Of cells size T → grownAs r ≡ mapped (λ vs. tt) (grownSet T budget width)
+SetMeans cells size room budget r = (T : Presentation) → Of cells size T → grownAs r ≡ mapped (λ vs. tt) (grownSet T budget room)

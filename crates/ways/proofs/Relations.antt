@@ -14,8 +14,9 @@ use Rattle.model.specs.Range.{InRange, All}
 use Rattle.model.proofs.Impossible.{impossible}
 use Rattle.model.proofs.Lists.{all-at}
 use Rattle.model.proofs.Entries.{applied-applies}
+use Rattle.model.specs.Images.{mostSize, mostLength}
 use Rattle.theory.proofs.Ways.{joined-letters}
-use Rattle.cells.specs.Layout.{cellAt}
+use Rattle.cells.specs.Layout.{cellAt, cellBytes}
 use Rattle.swaps.specs.Held.{heldAt, Placed}
 use Rattle.swaps.proofs.Comparing.{lengths-differ}
 use Rattle.swaps.proofs.Applying.{side-fits, other-fits, no-fit-breaks, fit-makes, fit-inside}
@@ -127,7 +128,7 @@ module _ {cells : List ℕ} {size : ℕ} (g : Work cells size) (area : List ℕ)
       abbrev Stood : Bool
       Stood = equal (take (1 + getD cells to 0) (drop o (heldWord area h))) (a ∷ take (getD cells to 0) (drop (to + 1) cells))
 
-      pub side-held : (to + 1 + getD cells to 0 ≤ length cells) × (getD cells to 0 ≤ 15)
+      pub side-held : (to + 1 + getD cells to 0 ≤ length cells) × (getD cells to 0 ≤ mostLength)
       side-held = side-fits (g .table) (heldWord area h) (entryAt o a b) apart cells (g .of .stands) ra rb to et defined
 
       placed : Placed (heldWord area h) o o
@@ -200,11 +201,11 @@ module _ {cells : List ℕ} {size : ℕ} (g : Work cells size) (area : List ℕ)
             placed whole there ∙ ap some new-is)
 
 -- letters of a table are letters that a table can have, and their cells are there
-pub sixteen : {cells : List ℕ} {size : ℕ} (g : Work cells size) (a : ℕ) → InRange (g .table .size) a → InRange 16 a
+pub sixteen : {cells : List ℕ} {size : ℕ} (g : Work cells size) (a : ℕ) → InRange (g .table .size) a → InRange mostSize a
 sixteen g a r = record { low = r .low; high = omega (arith, r .high, g .of .stands .few) }
 
 pub in-table : {cells : List ℕ} {size : ℕ} (g : Work cells size) (b : ℕ) → InRange size b → InRange (g .table .size) b
 in-table g b r = subst (λ n. InRange n b) (sym (g .of .sized)) r
 
-pub cell-inside : (cells : List ℕ) (a b to : ℕ) → length cells ≡ 4096 → InRange 16 a → InRange 16 b → to ≡ cellAt a b → to < length cells
+pub cell-inside : (cells : List ℕ) (a b to : ℕ) → length cells ≡ cellBytes → InRange mostSize a → InRange mostSize b → to ≡ cellAt a b → to < length cells
 cell-inside cells a b to full ra rb e = omega (arith, full, ra .low, ra .high, rb .low, rb .high, e)

@@ -6,6 +6,7 @@ use borrow.Author.Needs.{needs}
 use borrow.Author.Tests.{not-true, not-false}
 use lib.ListN.{length, getD}
 use Rattle.model.specs.Range.{InRange}
+use Rattle.model.specs.Images.{mostSize, mostLength}
 use Rattle.swaps.proofs.Applying.{same-breaks, open-breaks}
 use Rattle.ways.specs.State.{entryAt}
 use Rattle.ways.proofs.Relations.{letter-named, word-inside, side-held, absent-fits-not, long, swap-fits, swap-applied, sixteen, in-table, cell-inside}
@@ -37,10 +38,10 @@ letter-in s = letter-named (s .pre .work) _ _ (s .pre .busy) _ (s .pre .inside)
 other-in : (s : tie.Start) → InRange (s .pre .work .table .size) (s .args .b)
 other-in s = in-table (s .pre .work) _ (s .pre .named)
 
-letter-16 : (s : tie.Start) → InRange 16 (letter s)
+letter-16 : (s : tie.Start) → InRange mostSize (letter s)
 letter-16 s = sixteen (s .pre .work) _ (letter-in s)
 
-other-16 : (s : tie.Start) → InRange 16 (s .args .b)
+other-16 : (s : tie.Start) → InRange mostSize (s .args .b)
 other-16 s = sixteen (s .pre .work) _ (other-in s)
 
 add-a : tie.Need-add-a
@@ -79,7 +80,7 @@ returns-2 c =
 -- the side in the cells
 side : (k : tie.Else2)
     → (k .before .before .cell-at .result + 1 + getD (start-of (else1 k) .args .cells .now) (k .before .before .cell-at .result) 0
-    ≤ length (start-of (else1 k) .args .cells .now)) × (getD (start-of (else1 k) .args .cells .now) (k .before .before .cell-at .result) 0 ≤ 15)
+    ≤ length (start-of (else1 k) .args .cells .now)) × (getD (start-of (else1 k) .args .cells .now) (k .before .before .cell-at .result) 0 ≤ mostLength)
 side k =
     let s = start-of (else1 k) in
     side-held (s .pre .work) _ _ (s .pre .busy) _ (s .pre .inside) (letter s) _ (else1 k .if1 .left) (letter-in s) (other-in s) _
