@@ -1,4 +1,4 @@
--- What the two writers meet on their way: the parts of an item that is read, and the items of a pattern that are still to come.
+-- What the writers of items and bodies meet on their way: the parts of an item that is read, and its body laid out once.
 use mathlib.Core.Path.{_≡_, refl, sym, ap, subst, _∙_}
 use mathlib.Core.List.{List, [], _∷_}
 use mathlib.Core.Bool.{Bool, true, false, cond}
@@ -7,12 +7,12 @@ use Prim.Native.Nat.{ℕ, zero, suc, _+_, _-_, _*_, _≤_, _<_}
 use native.Mathlib.Nat.{zero-mul, mul-zero, suc-mul}
 use native.Mathlib.Omega.{arith}
 use lib.Dec.{leb, eqb}
-use lib.ListN.{length, take, drop}
+use lib.ListN.{length, take, drop, set}
 use borrow.Author.Tests.{leb-true}
 use Rattle.model.specs.Word.{forward, Word}
 use Rattle.model.specs.Outcome.{Outcome, answered, refused, _>>=_, unless}
 use Rattle.model.specs.Bits.{Read}
-use Rattle.model.specs.Notation.{Pattern, Item, item, Body, move, bracket, repeated, times, undone, meaning, itemMeaning, bodyMeaning, moves, itemMoves}
+use Rattle.model.specs.Notation.{Pattern, Item, item, Body, move, bracket, repeated, times, undone, itemMeaning, bodyMeaning, moves, itemMoves}
 use Rattle.model.specs.Notation.{bodyMoves, bodyHighest, itemHighest, zeroByte, openingByte, closingByte, minusByte, noPattern, isDigit, secondDigit}
 use Rattle.model.specs.Notation.{readNumber, readMinus, readCount, readClose, readBody, readItem, readPattern}
 use Rattle.model.proofs.Impossible.{impossible}
@@ -22,12 +22,12 @@ use Rattle.engine.specs.Gap.{letters}
 use Rattle.model.specs.Plain.{mostLetters}
 use Rattle.importing.specs.declared.writing.Laid.{Laid}
 use Rattle.importing.specs.Reading.{standsFirst, Kept, keptItem, within}
-use Rattle.importing.specs.Laying.{WordPut, Repeatable, Finishes, ItemFits, ItemLaid, PatternFits, PatternLaid}
+use Rattle.importing.specs.Laying.{WordPut, Repeatable, Finishes, ItemFits, ItemLaid, BodyFits, BodyLaid, PatternFits, PatternLaid}
 use Rattle.importing.proofs.Texts.{tail-at}
 use Rattle.importing.proofs.Readers.{closeAfter, body-bracket, body-move, minus-there, minus-none}
 use Rattle.importing.proofs.Keeping.{Answered, kept-answered, capped-low}
 use Rattle.importing.proofs.Items.{within-less}
-use Rattle.importing.proofs.Laying.{put-nothing, put-over, put-word}
+use Rattle.importing.proofs.Laying.{put-nothing, put-move, put-kept, put-over, put-word}
 
 -- A NUMBER
 
@@ -63,7 +63,7 @@ number-low (x ∷ xs) = test (isDigit x) refl
 
 -- THE PARTS OF AN ITEM
 
-pub record Parts (inner : List ℕ → Outcome (Read Pattern)) (t : List ℕ) (i : Item) : Type 0 where
+record Parts (inner : List ℕ → Outcome (Read Pattern)) (t : List ℕ) (i : Item) : Type 0 where
   pub body : Body
   pub count : Option ℕ
   pub item-is : i ≡ item (readMinus t .value) body count
@@ -89,7 +89,7 @@ item-parts inner t r e = from-body (readBody inner (readMinus t .rest)) refl e
     from-body (answered b) p q = from-count b p (readCount (b .rest)) q
 
 -- a body that begins with a bracket, and one that does not
-pub record Held (inner : List ℕ → Outcome (Read Pattern)) (t : List ℕ) (b : Body) : Type 0 where
+record Held (inner : List ℕ → Outcome (Read Pattern)) (t : List ℕ) (b : Body) : Type 0 where
   pub pattern : Read Pattern
   pub inner-read : inner (drop 1 t) ≡ answered pattern
   pub body-is : b ≡ bracket (pattern .value)
@@ -113,7 +113,7 @@ body-held inner t b opens e = from-inner (inner (drop 1 t)) refl (sym (body-brac
     from-inner (refused n place) p q = impossible (cc)
     from-inner (answered r) p q = record { pattern = r; inner-read = p; body-is = closed (r .value) (r .rest) q }
 
-pub record Moved (b : Body) : Type 0 where
+record Moved (b : Body) : Type 0 where
   pub number : ℕ
   pub low : number ≤ 99
   pub body-is : b ≡ move number
@@ -134,22 +134,95 @@ body-moved inner t b plain e = from-number (readNumber t) (number-low t) (sym (b
             same : record { value = move (a .value); rest = a .rest } ≡ b → Moved (b .value)
             same s = record { number = a .value; low = low; body-is = ap (λ (y : Read Body). y .value) (sym s) }
 
+-- A BODY THAT IS WRITTEN
+
+-- the body that is read, whose moves have room
+record BodyRead (o : Outcome (Read Body)) (number from room : ℕ) : Type 0 where
+  body : Read Body
+  read : o ≡ answered body
+  fits : BodyFits (answered body) number from room
+
+body-there : (o : Outcome (Read Body)) (number from room : ℕ) → BodyFits o number from room → BodyRead o number from room
+body-there (answered b) number from room h = record { body = b; read = refl; fits = h }
+body-there (refused n place) number from room h = absurd h
+
+module _ (text : List ℕ) (at depth number from : ℕ) (a : List ℕ) (fits : BodyFits (readBody (within depth) (drop at text)) number from (length a)) where
+  the-body : BodyRead (readBody (within depth) (drop at text)) number from (length a)
+  the-body = body-there (readBody (within depth) (drop at text)) number from (length a) fits
+
+  lays-body : (after : List ℕ) (end : ℕ) → BodyLaid (answered (the-body .body)) a from after end
+      → BodyLaid (readBody (within depth) (drop at text)) a from after end
+  lays-body after end = subst (λ o. BodyLaid o a from after end) (sym (the-body .read))
+
+  -- a bracket's pattern is read one level deeper, and has room
+  module _ (opens : standsFirst openingByte (drop at text) ≡ true) where
+    held : Held (within depth) (drop at text) (the-body .body .value)
+    held = body-held (within depth) (drop at text) (the-body .body) opens (the-body .read)
+
+    held-read : within depth (drop (at + 1) text) ≡ answered (held .pattern)
+    held-read = ap (within depth) (sym (tail-at text at)) ∙ held .inner-read
+
+    pub deep : depth ≡ 0 → ⊥
+    deep none = not-read (ap (λ d. within d (drop (at + 1) text)) (sym none) ∙ held-read)
+      where
+        not-read : noPattern ≡ answered (held .pattern) → ⊥
+        not-read p = impossible (cc)
+
+    pattern-read : readPattern (depth - 1) (drop (at + 1) text) ≡ answered (held .pattern)
+    pattern-read = sym (within-less depth (drop (at + 1) text) deep) ∙ held-read
+
+    moves-held : bodyMoves (the-body .body .value) ≡ moves (held .pattern .value)
+    moves-held = ap bodyMoves (held .body-is)
+
+    pub pattern-fits : PatternFits (readPattern (depth - 1) (drop (at + 1) text)) from (length a)
+    pattern-fits =
+        subst (λ o. PatternFits o from (length a)) (sym pattern-read)
+        (omega (arith, moves-held, the-body .fits .1), omega (arith, moves-held, the-body .fits .2))
+
+    pub pattern-laid : (mid : List ℕ) (end : ℕ) → PatternLaid (readPattern (depth - 1) (drop (at + 1) text)) a from mid end
+        → BodyLaid (readBody (within depth) (drop at text)) a from mid end
+    pattern-laid mid end done =
+        let told = subst (λ o. PatternLaid o a from mid end) pattern-read done in
+        lays-body mid end (subst (λ b. WordPut a from (bodyMeaning b) mid) (sym (held .body-is)) (told .0), omega (arith, told .1, moves-held))
+
+  -- a move is the highest number in its body
+  module _ (plain : standsFirst openingByte (drop at text) ≡ false) where
+    moved : Moved (the-body .body .value)
+    moved = body-moved (within depth) (drop at text) (the-body .body) plain (the-body .read)
+
+    number-is : number ≡ moved .number
+    number-is = sym (the-body .fits .0) ∙ ap bodyHighest (moved .body-is)
+
+    one-move : bodyMoves (the-body .body .value) ≡ 1
+    one-move = ap bodyMoves (moved .body-is)
+
+    pub move-room : from < length a
+    move-room = omega (arith, one-move, the-body .fits .2)
+
+    pub move-laid : BodyLaid (readBody (within depth) (drop at text)) a from (set a from number) (from + 1)
+    move-laid =
+        lays-body (set a from number) (from + 1) (
+          subst (λ w. WordPut a from w (set a from number)) (ap (λ n. forward n ∷ []) number-is ∙ sym (ap bodyMeaning (moved .body-is)))
+              (put-move a from number move-room (omega (arith, number-is, moved .low))),
+          omega (arith, one-move),
+        )
+
 -- AN ITEM THAT IS WRITTEN
 
 -- `k` was kept of the item at `at`, whose moves have room from `from` on
 module _ (text : List ℕ) (at depth from : ℕ) (a : List ℕ) (k : Kept) (e : answered k ≡ keptItem (readItem (within depth) (drop at text)))
     (fits : ItemFits (readItem (within depth) (drop at text)) from (length a)) where
-  pub was-read : Answered itemMoves itemHighest (readItem (within depth) (drop at text)) k
+  was-read : Answered itemMoves itemHighest (readItem (within depth) (drop at text)) k
   was-read = kept-answered itemMoves itemHighest (readItem (within depth) (drop at text)) k e
 
-  abbrev pub the-item : Item
+  abbrev the-item : Item
   the-item = was-read .value
 
   few : (itemMoves the-item ≤ mostLetters) × (from + itemMoves the-item ≤ length a)
   few = subst (λ o. ItemFits o from (length a)) (was-read .read) fits
 
   -- none of its moves was left uncounted
-  pub moves-exact : k .moves ≡ itemMoves the-item
+  moves-exact : k .moves ≡ itemMoves the-item
   moves-exact = was-read .moves-is ∙ capped-low (itemMoves the-item) (few .0)
 
   pub end-inside : from + k .moves ≤ length a
@@ -171,7 +244,7 @@ module _ (text : List ℕ) (at depth from : ℕ) (a : List ℕ) (k : Kept) (e : 
       empty [] h = refl
       empty (x ∷ w) h = absurd (omega (arith, h))
 
-  pub parts : Parts (within depth) (drop at text) the-item
+  parts : Parts (within depth) (drop at text) the-item
   parts = item-parts (within depth) (drop at text) (record { value = the-item; rest = k .rest }) (was-read .read)
 
   meaning-is : itemMeaning the-item ≡ undone (readMinus (drop at text) .value) (repeated (times (parts .count)) (bodyMeaning (parts .body)))
@@ -202,93 +275,62 @@ module _ (text : List ℕ) (at depth from : ℕ) (a : List ℕ) (k : Kept) (e : 
         less zero h p = absurd (omega (arith, h))
         less (suc c) h p = omega (arith, p, suc-mul c (bodyMoves (parts .body)))
 
-    -- its body, once it stands, can be repeated
-    pub body-repeats : (count room : ℕ) → count ≡ bodyMoves (parts .body) → room ≡ length a → Repeatable from count (from + k .moves) room
-    body-repeats count room c r = record {
-      some = omega (arith, c, body-some);
-      times = times (parts .count);
-      once = counted-once;
-      ends = ap (λ m. from + m) (moves-are ∙ ap (λ m. times (parts .count) * m) (sym c));
-      inside = omega (arith, r, end-inside);
-    }
+    -- `start` is where its body begins
+    module _ (start : ℕ) (begins : drop start text ≡ readMinus (drop at text) .rest) where
+      body-is : readBody (within depth) (drop start text) ≡ answered (record { value = parts .body; rest = parts .behind })
+      body-is = ap (readBody (within depth)) begins ∙ parts .body-read
 
-    -- and then the whole item stands
-    pub item-stands : (count : ℕ) (mid after : List ℕ) (minus : Bool) (laid : Laid) → count ≡ bodyMoves (parts .body)
-        → WordPut a from (bodyMeaning (parts .body)) mid
-        → Finishes mid from count (from + k .moves) minus after → minus ≡ readMinus (drop at text) .value → drop (laid .next) text ≡ k .rest
-        → laid .end ≡ from + k .moves
-        → ItemLaid (readItem (within depth) (drop at text)) text a from after laid
-    item-stands count mid after minus laid c body finishes m next end = laid-out after laid whole next end
-      where
-        word : letters (take count (drop from mid)) ≡ bodyMeaning (parts .body)
-        word = put-word a from (bodyMeaning (parts .body)) mid body count (c ∙ sym (body-counted (parts .body)))
-
-        over : WordPut mid from (itemMeaning the-item) after
-        over =
-            subst (λ w. WordPut mid from w after)
-            (ap (λ w. undone minus (repeated (times (parts .count)) w)) word
-            ∙ ap (λ s. undone s (repeated (times (parts .count)) (bodyMeaning (parts .body)))) m ∙ sym meaning-is)
-            (finishes (times (parts .count)) (ap (λ n. from + n) (moves-are ∙ ap (λ n. times (parts .count) * n) (sym c))))
-
-        whole : WordPut a from (itemMeaning the-item) after
-        whole = put-over a mid after from (bodyMeaning (parts .body)) (itemMeaning the-item) body over
-            (omega (arith, body-counted (parts .body), item-counted the-item, body-fewer, moves-exact))
-
-    -- a bracket's pattern is read one level deeper, and has room
-    module _ (start : ℕ) (begins : drop start text ≡ readMinus (drop at text) .rest) (opens : standsFirst openingByte (drop start text) ≡ true) where
-      held : Held (within depth) (drop start text) (parts .body)
-      held = body-held (within depth) (drop start text) (record { value = parts .body; rest = parts .behind }) opens
-          (ap (readBody (within depth)) begins ∙ parts .body-read)
-
-      held-read : within depth (drop (start + 1) text) ≡ answered (held .pattern)
-      held-read = ap (within depth) (sym (tail-at text start)) ∙ held .inner-read
-
-      pub deep : depth ≡ 0 → ⊥
-      deep none = not-read (ap (λ d. within d (drop (start + 1) text)) (sym none) ∙ held-read)
-        where
-          not-read : noPattern ≡ answered (held .pattern) → ⊥
-          not-read p = impossible (cc)
-
-      pattern-read : readPattern (depth - 1) (drop (start + 1) text) ≡ answered (held .pattern)
-      pattern-read = sym (within-less depth (drop (start + 1) text) deep) ∙ held-read
-
-      moves-held : bodyMoves (parts .body) ≡ moves (held .pattern .value)
-      moves-held = ap bodyMoves (held .body-is)
-
-      pub pattern-fits : PatternFits (readPattern (depth - 1) (drop (start + 1) text)) from (length a)
-      pattern-fits =
-          subst (λ o. PatternFits o from (length a)) (sym pattern-read) (
-            omega (arith, moves-held, body-fewer, moves-exact, few .0),
-            omega (arith, moves-held, body-fewer, end-inside),
+      pub body-fits : BodyFits (readBody (within depth) (drop start text)) (k .highest) from (length a)
+      body-fits =
+          subst (λ o. BodyFits o (k .highest) from (length a)) (sym body-is) (
+            sym (was-read .highest-is ∙ ap itemHighest (parts .item-is)),
+            omega (arith, body-fewer, moves-exact, few .0),
+            omega (arith, body-fewer, end-inside),
           )
 
-      module _ (mid : List ℕ) (end : ℕ) (done : PatternLaid (readPattern (depth - 1) (drop (start + 1) text)) a from mid end) where
-        told : WordPut a from (meaning (held .pattern .value)) mid × (end ≡ from + moves (held .pattern .value))
-        told = subst (λ o. PatternLaid o a from mid end) pattern-read done
+      -- the body stands once
+      module _ (mid : List ℕ) (once : ℕ) (done : BodyLaid (readBody (within depth) (drop start text)) a from mid once) where
+        told : WordPut a from (bodyMeaning (parts .body)) mid × (once ≡ from + bodyMoves (parts .body))
+        told = subst (λ o. BodyLaid o a from mid once) body-is done
 
-        pub body-laid : WordPut a from (bodyMeaning (parts .body)) mid
-        body-laid = subst (λ b. WordPut a from (bodyMeaning b) mid) (sym (held .body-is)) (told .0)
+        pub once-after : from ≤ once
+        once-after = omega (arith, told .1)
 
-        pub body-end : end ≡ from + bodyMoves (parts .body)
-        body-end = omega (arith, told .1, moves-held)
+        count-is : once - from ≡ bodyMoves (parts .body)
+        count-is = omega (arith, told .1)
 
-    -- a move is the highest number in its item
-    module _ (start : ℕ) (begins : drop start text ≡ readMinus (drop at text) .rest) (plain : standsFirst openingByte (drop start text) ≡ false) where
-      moved : Moved (parts .body)
-      moved = body-moved (within depth) (drop start text) (record { value = parts .body; rest = parts .behind }) plain
-          (ap (readBody (within depth)) begins ∙ parts .body-read)
+        all-moves : from + k .moves ≡ from + times (parts .count) * (once - from)
+        all-moves = ap (λ m. from + m) (moves-are ∙ ap (λ m. times (parts .count) * m) (sym count-is))
 
-      number-is : k .highest ≡ moved .number
-      number-is = was-read .highest-is ∙ ap itemHighest (parts .item-is) ∙ ap bodyHighest (moved .body-is)
+        -- it can be repeated
+        pub body-repeats : Repeatable from (once - from) (from + k .moves) (length mid)
+        body-repeats = record {
+          some = omega (arith, count-is, body-some);
+          times = times (parts .count);
+          once = counted-once;
+          ends = all-moves;
+          inside = omega (arith, put-kept a from (bodyMeaning (parts .body)) mid (told .0), end-inside);
+        }
 
-      pub move-low : k .highest < 128
-      move-low = omega (arith, number-is, moved .low)
+        -- and then the whole item stands
+        pub item-stands : (after : List ℕ) (minus : Bool) (laid : Laid) → Finishes mid from (once - from) (from + k .moves) minus after
+            → minus ≡ readMinus (drop at text) .value → drop (laid .next) text ≡ k .rest → laid .end ≡ from + k .moves
+            → ItemLaid (readItem (within depth) (drop at text)) text a from after laid
+        item-stands after minus laid finishes m next end = laid-out after laid whole next end
+          where
+            word : letters (take (once - from) (drop from mid)) ≡ bodyMeaning (parts .body)
+            word = put-word a from (bodyMeaning (parts .body)) mid (told .0) (once - from) (count-is ∙ sym (body-counted (parts .body)))
 
-      pub move-is : bodyMeaning (parts .body) ≡ forward (k .highest) ∷ []
-      move-is = ap bodyMeaning (moved .body-is) ∙ ap (λ n. forward n ∷ []) (sym number-is)
+            over : WordPut mid from (itemMeaning the-item) after
+            over =
+                subst (λ w. WordPut mid from w after)
+                (ap (λ w. undone minus (repeated (times (parts .count)) w)) word
+                ∙ ap (λ s. undone s (repeated (times (parts .count)) (bodyMeaning (parts .body)))) m ∙ sym meaning-is)
+                (finishes (times (parts .count)) all-moves)
 
-      pub move-one : 1 ≡ bodyMoves (parts .body)
-      move-one = sym (ap bodyMoves (moved .body-is))
+            whole : WordPut a from (itemMeaning the-item) after
+            whole = put-over a mid after from (bodyMeaning (parts .body)) (itemMeaning the-item) (told .0) over
+                (omega (arith, body-counted (parts .body), item-counted the-item, body-fewer, moves-exact))
 
 -- whether there is a minus
 pub minus-is : (t : List ℕ) (b : Bool) → b ≡ standsFirst minusByte t → b ≡ readMinus t .value

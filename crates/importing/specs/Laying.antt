@@ -9,7 +9,8 @@ use Rattle.model.specs.Outcome.{Outcome, answered, refused}
 use Rattle.model.specs.Areas.{written}
 use Rattle.model.specs.Bits.{Read}
 use Rattle.model.specs.Plain.{mostLetters}
-use Rattle.model.specs.Notation.{Pattern, Item, repeated, undone, meaning, itemMeaning, moves, itemMoves}
+use Rattle.model.specs.Notation.{Pattern, Item, Body, repeated, undone, meaning, itemMeaning, bodyMeaning, moves, itemMoves, bodyMoves}
+use Rattle.model.specs.Notation.{bodyHighest}
 use Rattle.engine.specs.Gap.{letters}
 use Rattle.importing.specs.declared.writing.Laid.{Laid}
 
@@ -52,6 +53,17 @@ abbrev pub ItemLaid : Outcome (Read Item) → List ℕ → List ℕ → ℕ → 
 ItemLaid (answered i) text before from after laid =
     WordPut before from (itemMeaning (i .value)) after × (drop (laid .next) text ≡ i .rest) × (laid .end ≡ from + itemMoves (i .value))
 ItemLaid (refused n place) text before from after laid = Unit {0}
+
+-- a body that is read, with this highest number, and with no more moves than a program has and than there is room for
+abbrev pub BodyFits : Outcome (Read Body) → ℕ → ℕ → ℕ → Type 0
+BodyFits (answered b) number from room =
+    (bodyHighest (b .value) ≡ number) × (bodyMoves (b .value) ≤ mostLetters) × (from + bodyMoves (b .value) ≤ room)
+BodyFits (refused n place) number from room = ⊥
+
+-- its moves stand once, up to `end`
+abbrev pub BodyLaid : Outcome (Read Body) → List ℕ → ℕ → List ℕ → ℕ → Type 0
+BodyLaid (answered b) before from after end = WordPut before from (bodyMeaning (b .value)) after × (end ≡ from + bodyMoves (b .value))
+BodyLaid (refused n place) before from after end = Unit {0}
 
 -- the same of a pattern
 abbrev pub PatternFits : Outcome (Read Pattern) → ℕ → ℕ → Type 0

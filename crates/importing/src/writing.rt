@@ -1,12 +1,11 @@
-// The moves of patterns and items, laid out in an area. As when they are read, the two writers call each other, and only a bracket goes deeper. An item that
-// means
-// no move is passed over: its text is read, and nothing of it is laid out.
+// The moves of patterns, items and bodies, laid out in an area. As when they are read, the writers call each other, and only a bracket goes deeper. An item
+// that means no move is passed over: its text is read, and nothing of it is laid out.
 ghost use mathlib.Core.Path.{_≡_};
 ghost use Prim.Native.Nat.{_+_};
 ghost use lib.ListN.{length, drop};
-ghost use Rattle.model.specs.Notation.{readItem, readPattern};
+ghost use Rattle.model.specs.Notation.{readBody, readItem, readPattern};
 ghost use Rattle.importing.specs.Reading.{within};
-ghost use Rattle.importing.specs.Laying.{Repeatable, Repeats, Finishes, ItemFits, ItemLaid, PatternFits, PatternLaid};
+ghost use Rattle.importing.specs.Laying.{Repeatable, Repeats, Finishes, ItemFits, ItemLaid, BodyFits, BodyLaid, PatternFits, PatternLaid};
 use crate::bytes::MINUS;
 use crate::bytes::OPENING;
 use crate::bytes::SPACE;
@@ -71,16 +70,31 @@ pub fn write_item(text: &[u8], at: usize, depth: u8, area: &mut [u8], from: usiz
             }
             let minus = stands(text, at, MINUS);
             let start = after_minus(text, at);
-            if stands(text, start, OPENING) {
-                let once = write_pattern(text, start + 1, depth - 1, area, from);
-                finish(area, from, once - from, end, minus);
-                return laid;
-            }
-            area[from] = item.highest;
-            finish(area, from, 1, end, minus);
+            let once = write_body(text, start, depth, item.highest, area, from);
+            finish(area, from, once - from, end, minus);
             laid
         }
     }
+}
+
+// The moves of the body at a place of the text, once, from a place of the area on; where they end. Without a bracket it is the move of its highest number.
+pub fn write_body(
+    text: &[u8],
+    at: usize,
+    depth: u8,
+    highest: u8,
+    area: &mut [u8],
+    from: usize,
+) -> usize
+    requires { ⌜ BodyFits (readBody (within depth) (drop at (now text))) highest from (length (now area)) ⌝ }
+    ensures length { λ r. ⌜ length (now (area .exit)) ≡ length (now (area .entry)) ⌝ }
+    ensures body { λ r. ⌜ BodyLaid (readBody (within depth) (drop at (now (text .entry)))) (now (area .entry)) from (now (area .exit)) r ⌝ }
+{
+    if stands(text, at, OPENING) {
+        return write_pattern(text, at + 1, depth - 1, area, from);
+    }
+    area[from] = highest;
+    from + 1
 }
 
 // The moves of the pattern at a place of the text, from a place of the area on; where they end.

@@ -73,8 +73,28 @@ module _ (T : Presentation) (budget room : ℕ) where
   first-stops h =
       sym (long-stops mostWords 0 (firstWords (T .size)) (omega arith) (omega (arith, firsts (T .size))) (omega (arith, first-bytes (T .size))))
 
--- so many places were gone through; the next word begins at a byte
-pub record Closing (T : Presentation) (budget room : ℕ) (area : List ℕ) (h : Held) (at : ℕ) : Type 0 where
+pub set-is : (T : Presentation) (budget room : ℕ) → grownSet T budget room ≡ grownFrom T budget room mostWords 0 (firstWords (T .size))
+unfolding grownSet
+set-is T budget room = refl
+
+-- the first words are listed
+pub first-growing : (n size : ℕ) (area : List ℕ) → n ≡ size → size ≤ mostSize → 1 + 2 * size ≤ length area
+    → take (1 + 2 * size) area ≡ listingBytes (firstWords size) → Growing n area (record { used = 1 + 2 * size; words = 1 + size }) (firstWords n)
+first-growing n size area e small inside bytes =
+    record {
+      lists =
+          record {
+            inside = inside;
+            bytes = bytes ∙ ap (λ k. listingBytes (firstWords k)) (sym e);
+            few = omega (arith, e, small);
+            named = first-named n;
+          };
+      counted = omega (arith, firsts n, e);
+      few = omega (arith, firsts n, e, small);
+    }
+
+-- so many places were gone through from those of vs on; the next word begins at a byte
+pub record Closing (T : Presentation) (budget room : ℕ) (vs : List Positive) (area : List ℕ) (h : Held) (at : ℕ) : Type 0 where
   pub place : ℕ
   pub rounds : ℕ
   pub all : place + rounds ≡ mostWords
@@ -82,40 +102,22 @@ pub record Closing (T : Presentation) (budget room : ℕ) (area : List ℕ) (h :
   pub growing : Growing (T .size) area h words
   pub within : place ≤ length words
   pub at-is : at ≡ setBytes (take place words)
-  pub left : grownSet T budget room ≡ grownFrom T budget room rounds place words
+  pub left : grownFrom T budget room mostWords 0 vs ≡ grownFrom T budget room rounds place words
 
-pub closing-begun : (T : Presentation) (budget room size : ℕ) (area : List ℕ) → T .size ≡ size → size ≤ mostSize → 1 + 2 * size ≤ length area
-    → take (1 + 2 * size) area ≡ listingBytes (firstWords size) → Closing T budget room area (record { used = 1 + 2 * size; words = 1 + size }) 0
-unfolding grownSet
-closing-begun T budget room size area e small inside bytes =
-    let n = firsts (T .size) in
-    record {
-      place = 0;
-      rounds = mostWords;
-      all = omega arith;
-      words = firstWords (T .size);
-      growing =
-          record {
-            lists =
-                record {
-                  inside = inside;
-                  bytes = bytes ∙ ap (λ k. listingBytes (firstWords k)) (sym e);
-                  few = omega (arith, e, small);
-                  named = first-named (T .size);
-                };
-            counted = omega (arith, n, e);
-            few = omega (arith, n, e, small);
-          };
-      within = omega arith;
-      at-is = refl;
-      left = refl;
-    }
+pub closing-begun : (T : Presentation) (budget room : ℕ) (vs : List Positive) (area : List ℕ) (h : Held) → Growing (T .size) area h vs
+    → Closing T budget room vs area h 0
+closing-begun T budget room vs area h g =
+    record { place = 0; rounds = mostWords; all = omega arith; words = vs; growing = g; within = omega arith; at-is = refl; left = refl }
 
-module _ {T : Presentation} {budget room : ℕ} {area : List ℕ} {h : Held} {at : ℕ} (k : Closing T budget room area h at) where
+module _ {T : Presentation} {budget room : ℕ} {vs : List Positive} {area : List ℕ} {h : Held} {at : ℕ} (k : Closing T budget room vs area h at) where
+  -- what all comes to
+  abbrev whole : Outcome (List Positive)
+  whole = grownFrom T budget room mostWords 0 vs
+
   used-all : h .used ≡ setBytes (take (length (k .words)) (k .words))
   used-all = used-is (T .size) area (h .used) (k .words) (k .growing .lists) ∙ ap setBytes (sym (take-length (k .words)))
 
-  pub closing-closed : h .used ≤ at → answered tt ≡ told (grownSet T budget room)
+  pub closing-closed : h .used ≤ at → answered tt ≡ told whole
   closing-closed l = sym (ap told (k .left ∙ past-places T budget room (k .rounds) (k .place) (k .words) (gone (decLt (k .place) (length (k .words))))))
     where
       gone : Dec (k .place < length (k .words)) → length (k .words) ≤ k .place
@@ -129,7 +131,7 @@ module _ {T : Presentation} {budget room : ℕ} {area : List ℕ} {h : Held} {at
     pub closing-end : HasEnd area at
     closing-end = word-has-end (T .size) area (h .used) (k .words) (k .growing .lists) (k .place) here at (k .at-is)
 
-    step : grownSet T budget room ≡ (takenPairs T budget room (placesAt (k .place)) (k .words) >>= grownFrom T budget room (k .rounds - 1) (suc (k .place)))
+    step : whole ≡ (takenPairs T budget room (placesAt (k .place)) (k .words) >>= grownFrom T budget room (k .rounds - 1) (suc (k .place)))
     step =
         let e : k .rounds ≡ suc (k .rounds - 1) = omega (arith, k .all, here, k .growing .few) in
         k .left
@@ -150,7 +152,7 @@ module _ {T : Presentation} {budget room : ℕ} {area : List ℕ} {h : Held} {at
         at-room : StepMeans (T .size) after (k .words) (takenPairs T budget room (placesAt (k .place)) (k .words)) r
         at-room = subst (λ i. StepMeans (T .size) after (k .words) (takenPairs T budget i (placesAt (k .place)) (k .words)) r) same means
 
-        pub closing-ended : (g : Grown) → r ≡ Ended g → grownAs g ≡ told (grownSet T budget room)
+        pub closing-ended : (g : Grown) → r ≡ Ended g → grownAs g ≡ told whole
         closing-ended g e =
             let ended : StepMeans (T .size) after (k .words) (takenPairs T budget room (placesAt (k .place)) (k .words)) (Ended g) =
             subst (StepMeans (T .size) after (k .words) (takenPairs T budget room (placesAt (k .place)) (k .words))) e at-room in
@@ -161,7 +163,7 @@ module _ {T : Presentation} {budget room : ℕ} {area : List ℕ} {h : Held} {at
             ∙ (sym (told-then (takenPairs T budget room (placesAt (k .place)) (k .words)) (grownFrom T budget room (k .rounds - 1) (suc (k .place))))
             ∙ ap told (sym step))
 
-        pub closing-more : (h′ : Held) → r ≡ Going h′ → Closing T budget room after h′ (end + 1)
+        pub closing-more : (h′ : Held) → r ≡ Going h′ → Closing T budget room vs after h′ (end + 1)
         closing-more h′ e =
             let g : Grew (T .size) after (k .words) (takenPairs T budget room (placesAt (k .place)) (k .words)) h′ =
             subst (StepMeans (T .size) after (k .words) (takenPairs T budget room (placesAt (k .place)) (k .words))) e at-room in

@@ -71,17 +71,12 @@ module _ {cells old : List ℕ} {start : Held} {later : Span} {T : Presentation}
         omega arith
 
     pub sided-paired : (side : Side) (k : Taking T budget room vs (sidedPair side m) (sidedCount side m) area h at)
-        → isTaken side at (later .at) ≡ true → {end : ℕ} → EndFound area at end → {u v : Span}
-        → u ≡ chosenOf side later (record { at = at; letters = end - at }) → v ≡ chosenOf side (record { at = at; letters = end - at }) later
-        → Paired cells area h u v T (k .words) (sidedPair side m (k .passed))
-    sided-paired side k l {end} f eu ev =
+        → isTaken side at (later .at) ≡ true → {end : ℕ} → EndFound area at end
+        → Paired cells area h (chosenOf side later (record { at = at; letters = end - at })) (chosenOf side (record { at = at; letters = end - at }) later) T
+        (k .words) (sidedPair side m (k .passed))
+    sided-paired side k l {end} f =
         let placed = both side (still-placed (k .added) (k .extends)) (taking-placed k (sided-few side) (sided-on side k l) end f) in
-        record {
-          stands = w .stands;
-          growing = k .growing;
-          first = subst (Placed (k .words) (sidedPair side m (k .passed) .a)) (sym eu) (placed .0);
-          second = subst (Placed (k .words) (sidedPair side m (k .passed) .b)) (sym ev) (placed .1);
-        }
+        record { stands = w .stands; growing = k .growing; first = placed .0; second = placed .1 }
       where
         both : {words : List Positive} {i : ℕ} {other : Span} (s : Side) → Placed words m later → Placed words i other
             → Placed words (sidedPair s m i .a) (chosenOf s later other) × Placed words (sidedPair s m i .b) (chosenOf s other later)

@@ -1,6 +1,7 @@
 // The pairs of a listed word with itself and with those before it.
 ghost use mathlib.Core.Path.{_≡_};
 ghost use lib.ListN.{length};
+ghost use Rattle.sets.specs.Growing.{Pairs, PairMeans};
 ghost use Rattle.sets.specs.Places.{isTaken, chosenOf, sided, Later, PlacesMean};
 ghost use Rattle.model.specs.Signed.{placesAt};
 use crate::growing::Held;
@@ -25,13 +26,24 @@ pub fn is_taken(side: Side, at: usize, last: usize) -> bool
     }
 }
 
-// Of two words, the one where the later word is first, and the other where it is second.
-pub fn chosen(side: Side, one: Span, other: Span) -> Span
-    ensures { λ r. ⌜ r ≡ chosenOf side one other ⌝ }
+// Takes the pair of the later word, on its side, and another one.
+pub fn take_with(
+    cells: &[u8],
+    area: &mut [u8],
+    held: Held,
+    later: Span,
+    other: Span,
+    side: Side,
+    budget: u16,
+) -> Step
+    requires { ⌜ Pairs (now cells) (now area) held (chosenOf side later other) (chosenOf side other later) ⌝ }
+    ensures length { λ r. ⌜ length (now (area .exit)) ≡ length (now (area .entry)) ⌝ }
+    ensures taken { λ r. ⌜ PairMeans (now (cells .entry)) (now (area .entry)) held (chosenOf side later other) (chosenOf side other later) budget
+        (now (area .exit)) r ⌝ }
 {
     match side {
-        Side::Second => other,
-        Side::First => one,
+        Side::Second => take_pair(cells, area, held, other, later, budget),
+        Side::First => take_pair(cells, area, held, later, other, budget),
     }
 }
 
@@ -57,9 +69,7 @@ pub fn take_side(
             at,
             letters: end - at,
         };
-        let u = chosen(side, later, other);
-        let v = chosen(side, other, later);
-        let step = take_pair(cells, area, current, u, v, budget);
+        let step = take_with(cells, area, current, later, other, side, budget);
         match step {
             Step::Ended(answer) => return Step::Ended(answer),
             Step::Going(next) => {

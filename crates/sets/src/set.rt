@@ -2,7 +2,7 @@
 ghost use mathlib.Core.Path.{_≡_};
 ghost use lib.ListN.{length};
 ghost use Rattle.cells.specs.Stands.{Sized};
-ghost use Rattle.sets.specs.Set.{SetMeans};
+ghost use Rattle.sets.specs.Set.{Growable, GrownMeans, SetMeans};
 use crate::growing::Grown;
 use crate::growing::Held;
 use crate::growing::Step;
@@ -11,6 +11,32 @@ use crate::places::take_place;
 use crate::words::Span;
 use model::answers::Stop;
 use spans::ends::word_end;
+
+// Takes each pair of listed words by the later one's place, until no place is left.
+pub fn take_places(cells: &[u8], area: &mut [u8], first: Held, budget: u16) -> Grown
+    requires { ⌜ Growable (now cells) (now area) first ⌝ }
+    ensures length { λ r. ⌜ length (now (area .exit)) ≡ length (now (area .entry)) ⌝ }
+    ensures grown { λ r. ⌜ GrownMeans (now (cells .entry)) (now (area .entry)) first budget r ⌝ }
+{
+    let mut held = first;
+    let mut at: usize = 0;
+    while at < held.used {
+        let end = word_end(area, at);
+        let later = Span {
+            at,
+            letters: end - at,
+        };
+        let step = take_place(cells, area, held, later, budget);
+        match step {
+            Step::Ended(answer) => return answer,
+            Step::Going(next) => {
+                held = next;
+                at = end + 1;
+            }
+        }
+    }
+    Grown::Closed
+}
 
 // Grows the set in the workspace, whose content afterwards is of no use.
 pub fn grow_set(cells: &[u8], size: u8, workspace: &mut [u8], budget: u16) -> Grown
@@ -23,25 +49,13 @@ pub fn grow_set(cells: &[u8], size: u8, workspace: &mut [u8], budget: u16) -> Gr
         return Grown::Stopped(Stop::Room);
     }
     write_first(workspace, size);
-    let mut held = Held {
-        used: first,
-        words: 1 + (size as usize),
-    };
-    let mut at: usize = 0;
-    while at < held.used {
-        let end = word_end(workspace, at);
-        let later = Span {
-            at,
-            letters: end - at,
-        };
-        let step = take_place(cells, workspace, held, later, budget);
-        match step {
-            Step::Ended(answer) => return answer,
-            Step::Going(next) => {
-                held = next;
-                at = end + 1;
-            }
-        }
-    }
-    Grown::Closed
+    take_places(
+        cells,
+        workspace,
+        Held {
+            used: first,
+            words: 1 + (size as usize),
+        },
+        budget,
+    )
 }

@@ -17,6 +17,7 @@ use Rattle.model.specs.Range.{InRange}
 use Rattle.cells.specs.Stands.{Stands}
 use Rattle.cells.proofs.Rules.{Rule, open-cell, word-cell}
 use Rattle.model.proofs.Impossible.{impossible}
+use Rattle.model.specs.Images.{mostLength}
 use Rattle.swaps.proofs.Comparing.{lengths-differ}
 use Rattle.swaps.specs.Held.{heldAt, Placed}
 use Rattle.swaps.specs.Entry.{ReplaceMeans, AppliedAs}
@@ -73,7 +74,7 @@ module _ (T : Presentation) (u : Positive) (e : Entry) where
           to-count : getD cells to 0 ≡ length x
           to-count = ap (λ i. getD cells i 0) et ∙ rule .to .count
 
-          pub side-fits : (to + 1 + getD cells to 0 ≤ length cells) × (getD cells to 0 ≤ 255)
+          pub side-fits : (to + 1 + getD cells to 0 ≤ length cells) × (getD cells to 0 ≤ mostLength)
           side-fits = (
             omega (arith, to-count, rule .to .short, et, s .full, s .few, ra .high, rb .high, ra .low, rb .low),
             omega (arith, to-count, rule .to .short),
@@ -83,7 +84,7 @@ module _ (T : Presentation) (u : Positive) (e : Entry) where
             back-count : getD cells back 0 ≡ length y
             back-count = ap (λ i. getD cells i 0) eb ∙ rule .from .count
 
-            pub other-fits : (back + 1 + getD cells back 0 ≤ length cells) × (getD cells back 0 ≤ 255)
+            pub other-fits : (back + 1 + getD cells back 0 ≤ length cells) × (getD cells back 0 ≤ mostLength)
             other-fits = (
               omega (arith, back-count, rule .from .short, eb, s .full, s .few, ra .high, rb .high, ra .low, rb .low),
               omega (arith, back-count, rule .from .short),
@@ -136,14 +137,16 @@ module _ (T : Presentation) (u : Positive) (e : Entry) where
               pub no-fit-breaks : Fits ≡ false → applied T u e ≡ none
               no-fit-breaks f = applied-there ∙ ap (λ t. cond t (some made) none) f
 
+              pub fit-makes : Fits ≡ true → applied T u e ≡ some made
+              fit-makes f = applied-there ∙ ap (λ t. cond t (some made) none) f
+
               pub fit-leads : Fits ≡ true → (after : List ℕ) → length after ≡ length bytes → (r : Applied)
                   → ReplaceMeans bytes (e .offset) (right + (1 + getD cells to 0)) (e .b) (take (getD cells back 0) (drop (back + 1) cells)) after r
                   → AppliedAs T u e after r
               fit-leads f after n (Word g) q =
-                  record { placed = q .placed; leads = applied-there ∙ (ap (λ t. cond t (some made) none) f ∙ ap some (sym (q .word-is))) }
+                  record { placed = q .placed; leads = fit-makes f ∙ ap some (sym (q .word-is)) }
               fit-leads f after n Breaks q = absurd q
-              fit-leads f after n Short q =
-                  record { longer = made; leads = applied-there ∙ ap (λ t. cond t (some made) none) f; long = omega (arith, n, q) }
+              fit-leads f after n Short q = record { longer = made; leads = fit-makes f; long = omega (arith, n, q) }
 
 -- a side that fits stands whole in the area
 pub fitting : (xs ys : List ℕ) → equal xs ys ≡ true → length xs ≡ length ys

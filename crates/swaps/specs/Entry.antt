@@ -3,12 +3,13 @@ use mathlib.Core.List.{List, _∷_, _++_}
 use mathlib.Core.Option.{none, some}
 use mathlib.Core.Path.{_≡_}
 use Prim.Native.Nat.{ℕ, _<_}
-use lib.ListN.{length, take, drop}
+use lib.ListN.{length, take, drop, getD}
 use Rattle.model.specs.Word.{Positive}
 use Rattle.model.specs.Presentation.{Presentation}
 use Rattle.model.specs.Equivalence.{Entry, applied}
 use Rattle.model.specs.Range.{InRange}
-use Rattle.cells.specs.Stands.{Of, Sized}
+use Rattle.cells.specs.Layout.{cellAt}
+use Rattle.cells.specs.Stands.{undefinedLength, Stands, Of, Sized, Filled}
 use Rattle.swaps.specs.Held.{heldAt, Placed}
 use Rattle.swaps.specs.declared.entry.Applied.{Applied}
 use Rattle.swaps.specs.declared.entry.Applied.the-variants.{Word, Breaks, Short}
@@ -44,6 +45,19 @@ abbrev pub AppliedAs : Presentation → Positive → Entry → List ℕ → Appl
 AppliedAs T word e after (Word g) = Leads-to T word e after (g .left) (g .right)
 AppliedAs T word e after Breaks = applied T word e ≡ none
 AppliedAs T word e after Short = Outgrows T word e (length after)
+
+-- a word in the area, and two letters of a table in the cells that have a relation
+pub record Exchanges (cells bytes : List ℕ) (left right a b : ℕ) : Type 0 where
+  pub placed : Placed bytes left right
+  pub filled : Filled cells a b
+  pub apart : a ≡ b → ⊥
+  pub defined : getD cells (cellAt a b) 0 ≡ undefinedLength → ⊥
+
+-- for every such table the outcome is that of the entry of the letters at the gap
+abbrev pub ExchangeMeans : List ℕ → List ℕ → ℕ → ℕ → ℕ → ℕ → List ℕ → Applied → Type 0
+ExchangeMeans cells before left right a b after r =
+    (T : Presentation) → Stands cells T → InRange (T .size) a → InRange (T .size) b
+    → AppliedAs T (heldAt before left right) (record { offset = left; a = a; b = b }) after r
 
 abbrev pub ApplyMeans : List ℕ → ℕ → List ℕ → ℕ → ℕ → Entry → List ℕ → Applied → Type 0
 ApplyMeans cells size before left right e after r = (T : Presentation) → Of cells size T → AppliedAs T (heldAt before left right) e after r

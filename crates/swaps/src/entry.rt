@@ -4,11 +4,11 @@ ghost use Prim.Native.Nat.{_+_, _≤_};
 ghost use lib.ListN.{length, take, drop};
 ghost use Rattle.images.specs.Chains.{entryOf};
 ghost use Rattle.swaps.specs.Held.{Placed};
-ghost use Rattle.swaps.specs.Entry.{Applies, ReplaceMeans, ApplyMeans};
+ghost use Rattle.swaps.specs.Entry.{Applies, ReplaceMeans, Exchanges, ExchangeMeans, ApplyMeans};
 use crate::held::carry;
 use crate::side::put_side;
 use crate::side::stands_at;
-use cells::layout::UNDEFINED_LENGTH;
+use cells::layout::UNDEFINED;
 use cells::layout::cell_at;
 use engine::gap::Gap;
 use entries::entry::ChainEntry;
@@ -48,6 +48,24 @@ pub fn replace(
     })
 }
 
+// Where the side of the relation of two letters that begins with `a` stands behind the gap, it gives way to the side that begins with `b`.
+pub fn exchange(cells: &[u8], bytes: &mut [u8], gap: Gap, a: u8, b: u8) -> Applied
+    requires { ⌜ Exchanges (now cells) (now bytes) (gap .left) (gap .right) a b ⌝ }
+    ensures length { λ r. ⌜ length (now (bytes .exit)) ≡ length (now (bytes .entry)) ⌝ }
+    ensures exchanged { λ r. ⌜ ExchangeMeans (now (cells .entry)) (now (bytes .entry)) (gap .left) (gap .right) a b (now (bytes .exit)) r ⌝ }
+{
+    let to = cell_at(a, b);
+    let from = cell_at(b, a);
+    let x = cells[to] as usize;
+    let y = cells[from] as usize;
+    let stands = stands_at(bytes, gap.right, a, cells, to + 1, x);
+    if !stands {
+        return Applied::Breaks;
+    }
+    replace(bytes, gap, 1 + x, b, cells, from + 1, y)
+}
+
+// Applies an entry: the gap goes to its offset, where the side is looked for.
 pub fn apply(cells: &[u8], size: u8, bytes: &mut [u8], gap: Gap, entry: ChainEntry) -> Applied
     requires { ⌜ Applies (now cells) size (now bytes) (gap .left) (gap .right) (entryOf entry) ⌝ }
     ensures length { λ r. ⌜ length (now (bytes .exit)) ≡ length (now (bytes .entry)) ⌝ }
@@ -60,30 +78,21 @@ pub fn apply(cells: &[u8], size: u8, bytes: &mut [u8], gap: Gap, entry: ChainEnt
         return Applied::Breaks;
     }
     let to = cell_at(a, b);
-    let from = cell_at(b, a);
-    let x = cells[to] as usize;
-    let y = cells[from] as usize;
-    if x == UNDEFINED_LENGTH {
+    if cells[to] == UNDEFINED {
         return Applied::Breaks;
     }
     if gap.left + (bytes.len() - gap.right) < offset {
         return Applied::Breaks;
     }
     let right = carry(bytes, gap, offset);
-    let stands = stands_at(bytes, right, a, cells, to + 1, x);
-    if !stands {
-        return Applied::Breaks;
-    }
-    replace(
+    exchange(
+        cells,
         bytes,
         Gap {
             left: offset,
             right,
         },
-        1 + x,
+        a,
         b,
-        cells,
-        from + 1,
-        y,
     )
 }

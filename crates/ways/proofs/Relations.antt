@@ -1,16 +1,15 @@
 -- One relation tried at one place of a word: why no entry fits, and what the one that fits makes of the word.
 use mathlib.Core.Path.{_≡_, refl, sym, ap, ap₂, subst, _∙_}
 use mathlib.Core.List.{List, _∷_, _++_}
-use mathlib.Core.Bool.{true, false, cond}
+use mathlib.Core.Bool.{Bool, true, false}
 use mathlib.Core.Option.{none, some}
-use Prim.Native.Nat.{ℕ, suc, _+_, _-_, _≤_, _<_}
+use Prim.Native.Nat.{ℕ, _+_, _-_, _≤_, _<_}
 use native.Mathlib.Omega.{arith}
-use lib.ListN.{length, take, drop, getD, length-take, length-drop}
-use lib.Seq.{getD-at, take-all}
-use borrow.Author.Tests.{ne-eqb}
+use lib.ListN.{length, take, drop, getD, length-take, length-drop, take-append-drop}
+use lib.Seq.{getD-at, take-all, take-take, ext-getD}
 use Rattle.model.specs.Word.{Positive}
-use Rattle.model.specs.Presentation.{Presentation, complete}
-use Rattle.model.specs.Equivalence.{Entry, equal, related, applied}
+use Rattle.model.specs.Presentation.{Presentation}
+use Rattle.model.specs.Equivalence.{Entry, equal, applied}
 use Rattle.model.specs.Range.{InRange, All}
 use Rattle.model.proofs.Impossible.{impossible}
 use Rattle.model.proofs.Lists.{all-at}
@@ -18,22 +17,21 @@ use Rattle.model.proofs.Entries.{applied-applies}
 use Rattle.model.specs.Images.{mostSize, mostLength}
 use Rattle.theory.proofs.Ways.{joined-letters}
 use Rattle.cells.specs.Layout.{cellAt, cellBytes}
-use Rattle.cells.specs.Stands.{Stands}
-use Rattle.cells.proofs.Rules.{Rule, word-cell}
+use Rattle.swaps.specs.Held.{heldAt, Placed}
 use Rattle.swaps.proofs.Comparing.{lengths-differ}
+use Rattle.swaps.proofs.Applying.{side-fits, other-fits, no-fit-breaks, fit-makes, fit-inside}
+use Rattle.areas.proofs.Parts.{taken-length}
 use Rattle.ways.specs.declared.swap.Swap.{Swap}
 use Rattle.ways.specs.declared.trying.Held.{Held}
 use Rattle.ways.specs.declared.trying.Tried.{Tried}
 use Rattle.ways.specs.declared.trying.Tried.the-variants.{Going, Full}
 use Rattle.ways.specs.Swap.{newWord}
-use Rattle.ways.specs.State.{Work, current, Busy, listOf, Progress, TriedMeans, Toward, Swaps}
+use Rattle.ways.specs.State.{Work, current, Busy, listOf, heldWord, entryAt, Progress, TriedMeans, Toward, Swaps}
 use Rattle.spans.proofs.Runs.{WordAt}
 use Rattle.ways.proofs.Spelling.{word-at}
+use Rattle.ways.proofs.NewWords.{part-at}
 use Rattle.ways.proofs.Inserting.{part-same}
 use Rattle.ways.proofs.Adding.{word-joined}
-
-abbrev pub entryAt : ℕ → ℕ → ℕ → Entry
-entryAt o a b = record { offset = o; a = a; b = b }
 
 -- an entry that fits begins with the letter there
 entry-letter : (T : Presentation) (w : Positive) (d : Entry) (v : Positive) → applied T w d ≡ some v → d .a ≡ getD w (d .offset) 0
@@ -52,11 +50,37 @@ only-entry T w o b d v p h =
 
 -- THE WORD UNDER TRIAL
 
+-- a part of it stands in the area
+pub word-part : (area : List ℕ) (h : Held) → h .word + h .letters ≤ length area → (o n : ℕ) → o + n ≤ h .letters
+    → take n (drop (h .word + o) area) ≡ take n (drop o (heldWord area h))
+word-part area h fits o n few =
+    part-same (heldWord area h) area o (h .word + o) n (omega (arith, taken-length area (h .word) (h .letters) fits)) (omega arith)
+    (λ i k. let place : h .word + o + i ≡ h .word + (o + i) = omega arith in
+    ap (λ j. getD area j 0) place ∙ sym (part-at area (h .word) (h .letters) (o + i) (omega arith)))
+
+-- what is longer than the rest of it does not stand there
+pub short-stands-not : (area : List ℕ) (h : Held) → h .word + h .letters ≤ length area → (o n : ℕ) (side : Positive) → length side ≡ n → o ≤ h .letters
+    → h .letters < o + n → equal (take n (drop o (heldWord area h))) side ≡ false
+short-stands-not area h fits o n side e inside l =
+    let few : length (take n (drop o (heldWord area h))) ≤ length (heldWord area h) - o = simp (length-take, length-drop) (omega arith) in
+    lengths-differ (take n (drop o (heldWord area h))) side (λ q. omega (arith, few, taken-length area (h .word) (h .letters) fits))
+
 module _ {cells : List ℕ} {size : ℕ} (g : Work cells size) (area : List ℕ) (h : Held) (t : Busy g area h) where
   pub busy-word : WordAt area (h .word) (g .word)
   busy-word =
       subst (λ k. WordAt area k (g .word)) (sym (t .word-is))
       (word-at area (h .used) (t .earlier-words) (current (g .word)) (t .later-words) (t .sound .spells))
+
+  pub word-inside : h .word + h .letters ≤ length area
+  word-inside = omega (arith, busy-word .inside, t .letters-is)
+
+  held-long : length (heldWord area h) ≡ h .letters
+  held-long = taken-length area (h .word) (h .letters) word-inside
+
+  held-is : heldWord area h ≡ g .word
+  held-is =
+      ext-getD 0 (heldWord area h) (g .word) (held-long ∙ t .letters-is)
+      (λ i k. part-at area (h .word) (h .letters) i (omega (arith, held-long)) ∙ busy-word .letters i (omega (arith, held-long, t .letters-is)))
 
   letters : All (InRange (g .table .size)) (g .word)
   letters = joined-letters (g .table) (g .weighed .in-range) (g .program) (g .word) (word-joined g area h t) (g .weighed .letters)
@@ -98,69 +122,37 @@ module _ {cells : List ℕ} {size : ℕ} (g : Work cells size) (area : List ℕ)
 
     -- THE RELATION IN THE CELLS
 
-    module _ (st : Stands cells (g .table)) (a b : ℕ) (apart : a ≡ b → ⊥) (ra : InRange (g .table .size) a) (rb : InRange (g .table .size) b)
-        (to : ℕ) (et : to ≡ cellAt a b) (from : ℕ) (ef : from ≡ cellAt b a) (defined : getD cells to 0 ≡ 255 → ⊥) where
-      rule : Rule cells (g .table) a b
-      rule = word-cell cells (g .table) st a b ra rb (λ q. defined (ap (λ i. getD cells i 0) et ∙ q))
-
-      to-count : getD cells to 0 ≡ length (rule .x)
-      to-count = ap (λ i. getD cells i 0) et ∙ rule .to .count
-
-      from-count : getD cells from 0 ≡ length (rule .y)
-      from-count = ap (λ i. getD cells i 0) ef ∙ rule .from .count
+    module _ (a b : ℕ) (apart : a ≡ b → ⊥) (ra : InRange (g .table .size) a) (rb : InRange (g .table .size) b)
+        (to : ℕ) (et : to ≡ cellAt a b) (defined : getD cells to 0 ≡ 255 → ⊥) where
+      -- the side that begins with a stands in the word
+      abbrev Stood : Bool
+      Stood = equal (take (1 + getD cells to 0) (drop o (heldWord area h))) (a ∷ take (getD cells to 0) (drop (to + 1) cells))
 
       pub side-held : (to + 1 + getD cells to 0 ≤ length cells) × (getD cells to 0 ≤ mostLength)
-      side-held = (
-        omega (arith, to-count, rule .to .short, et, st .full, st .few, ra .high, rb .high, ra .low, rb .low),
-        omega (arith, to-count, rule .to .short),
-      )
+      side-held = side-fits (g .table) (heldWord area h) (entryAt o a b) apart cells (g .of .stands) ra rb to et defined
 
-      pub other-held : (from + (1 + getD cells from 0) ≤ length cells) × (getD cells from 0 ≤ mostLength)
-      other-held = (
-        omega (arith, from-count, rule .from .short, ef, st .full, st .few, ra .high, rb .high, ra .low, rb .low),
-        omega (arith, from-count, rule .from .short),
-      )
+      placed : Placed (heldWord area h) o o
+      placed = record { ordered = omega arith; inside = omega (arith, held-long) }
 
-      side-is : take (getD cells to 0) (drop (to + 1) cells) ≡ rule .x
-      side-is = ap (λ i. take (getD cells i 0) (drop (i + 1) cells)) et ∙ (ap (λ n. take n (drop (cellAt a b + 1) cells)) (rule .to .count) ∙ rule .to .word)
+      whole : heldAt (heldWord area h) o o ≡ heldWord area h
+      unfolding heldAt
+      whole = take-append-drop o (heldWord area h)
 
-      other-is : take (getD cells from 0) (drop (from + 1) cells) ≡ rule .y
-      other-is = ap (λ i. take (getD cells i 0) (drop (i + 1) cells)) ef
-          ∙ (ap (λ n. take n (drop (cellAt b a + 1) cells)) (rule .from .count) ∙ rule .from .word)
+      pub absent-fits-not : Stood ≡ false → applied (g .table) (g .word) (entryAt o a b) ≡ none
+      absent-fits-not f =
+          ap (λ w. applied (g .table) w (entryAt o a b)) (sym held-is)
+          ∙ no-fit-breaks (g .table) (heldWord area h) (entryAt o a b) apart cells (g .of .stands) ra rb to et defined (cellAt b a) refl (heldWord area h) o
+          placed whole f
 
-      tested : applied (g .table) (g .word) (entryAt o a b)
-          ≡ cond (equal (take (suc (length (rule .x))) (drop o (g .word))) (a ∷ rule .x))
-          (some (take o (g .word) ++ ((b ∷ rule .y) ++ drop (o + suc (length (rule .x))) (g .word)))) none
-      unfolding applied
-      tested =
-          ap (λ s. cond s none (related (g .word) (entryAt o a b) (complete (g .table) a b))) (ne-eqb a b apart)
-          ∙ ap (related (g .word) (entryAt o a b)) (rule .rule)
-
-      -- too few letters are left
-      pub short-fits-not : h .letters < o + (1 + getD cells to 0) → applied (g .table) (g .word) (entryAt o a b) ≡ none
-      short-fits-not l =
-          let short : length (take (suc (length (rule .x))) (drop o (g .word))) ≤ length (g .word) - o = simp (length-take, length-drop) (omega arith) in
-          tested
-          ∙ ap (λ s. cond s (some (take o (g .word) ++ ((b ∷ rule .y) ++ drop (o + suc (length (rule .x))) (g .word)))) none)
-          (lengths-differ (take (suc (length (rule .x))) (drop o (g .word))) (a ∷ rule .x) (λ q. omega (arith, short, q, l, to-count, t .letters-is, inside)))
-
-      module _ (long : o + (1 + getD cells to 0) ≤ h .letters) where
-        stands-is : equal (take (1 + getD cells to 0) (drop (h .word + o) area)) (a ∷ take (getD cells to 0) (drop (to + 1) cells))
-            ≡ equal (take (suc (length (rule .x))) (drop o (g .word))) (a ∷ rule .x)
-        stands-is =
-            let many : 1 + getD cells to 0 ≡ suc (length (rule .x)) = omega (arith, to-count) in
-            let window : take (1 + getD cells to 0) (drop (h .word + o) area) ≡ take (1 + getD cells to 0) (drop o (g .word)) =
-            part-same (g .word) area o (h .word + o) (1 + getD cells to 0) (omega (arith, t .letters-is)) (omega (arith, t .letters-is, busy-word .inside))
-            (λ i k. let place : h .word + o + i ≡ h .word + (o + i) = omega arith in
-            ap (λ j. getD area j 0) place ∙ busy-word .letters (o + i) (omega (arith, t .letters-is))) in
-            ap₂ (λ l x. equal l (a ∷ x)) (window ∙ ap (λ k. take k (drop o (g .word))) many) side-is
-
-        -- the side is not there
-        pub absent-fits-not : equal (take (1 + getD cells to 0) (drop (h .word + o) area)) (a ∷ take (getD cells to 0) (drop (to + 1) cells)) ≡ false
-            → applied (g .table) (g .word) (entryAt o a b) ≡ none
-        absent-fits-not f =
-            tested
-            ∙ ap (λ s. cond s (some (take o (g .word) ++ ((b ∷ rule .y) ++ drop (o + suc (length (rule .x))) (g .word)))) none) (sym stands-is ∙ f)
+      module _ (there : Stood ≡ true) (from : ℕ) (ef : from ≡ cellAt b a) where
+        pub long : o + (1 + getD cells to 0) ≤ h .letters
+        long =
+            omega (
+              arith,
+              held-long,
+              fit-inside (heldWord area h) o a _ _ (taken-length cells (to + 1) (getD cells to 0) (side-held .0))
+                  (omega (arith, held-long)) there,
+            )
 
         abbrev pub swap : Swap
         swap =
@@ -176,44 +168,37 @@ module _ {cells : List ℕ} {size : ℕ} (g : Work cells size) (area : List ℕ)
 
         pub swap-fits : Swaps area cells h swap
         swap-fits =
+            let q = other-fits (g .table) (heldWord area h) (entryAt o a b) apart cells (g .of .stands) ra rb to et defined from ef in
             record {
               readable = record {
-                inside = omega (arith, busy-word .inside, t .letters-is);
+                inside = omega (arith, long, word-inside);
                 some = omega arith;
-                few = omega (arith, other-held .1);
-                held = other-held .0;
+                few = omega (arith, q .1);
+                held = omega (arith, q .0);
               };
               word-is = refl;
-              letters-is = omega arith;
+              letters-is = omega (arith, long);
             }
 
-        new-is : newWord area cells swap ≡ take o (g .word) ++ ((b ∷ rule .y) ++ drop (o + suc (length (rule .x))) (g .word))
+        new-is : take o (heldWord area h) ++ ((b ∷ take (getD cells from 0) (drop (from + 1) cells)) ++ drop (o + (1 + getD cells to 0)) (heldWord area h))
+            ≡ newWord area cells swap
         unfolding newWord
         new-is =
-            let front : take o (drop (h .word) area) ≡ take o (g .word) =
-            part-same (g .word) area 0 (h .word) o (omega (arith, t .letters-is)) (omega (arith, t .letters-is, busy-word .inside))
-            (λ i k. let place : i ≡ 0 + i = omega arith in busy-word .letters i (omega (arith, t .letters-is)) ∙ ap (λ j. getD (g .word) j 0) place) in
-            let few : (1 + getD cells from 0) - 1 ≡ getD cells from 0 = omega arith in
-            let put : take ((1 + getD cells from 0) - 1) (drop (from + 1) cells) ≡ rule .y = ap (λ k. take k (drop (from + 1) cells)) few ∙ other-is in
-            let many : o + (1 + getD cells to 0) ≡ o + suc (length (rule .x)) = omega (arith, to-count) in
-            let back : take (h .letters - (o + (1 + getD cells to 0))) (drop (h .word + (o + (1 + getD cells to 0))) area) ≡ drop (o + suc (length (rule .x)))
-            (g .word) =
-            part-same (g .word) area (o + (1 + getD cells to 0)) (h .word + (o + (1 + getD cells to 0))) (h .letters - (o + (1 + getD cells to 0)))
-            (omega (arith, t .letters-is)) (omega (arith, t .letters-is, busy-word .inside))
-            (λ i k. let place : h .word + (o + (1 + getD cells to 0)) + i ≡ h .word + (o + (1 + getD cells to 0) + i) = omega arith in
-            ap (λ j. getD area j 0) place ∙ busy-word .letters (o + (1 + getD cells to 0) + i) (omega (arith, t .letters-is)))
-            ∙ (take-all (h .letters - (o + (1 + getD cells to 0))) (drop (o + (1 + getD cells to 0)) (g .word))
-            (omega (arith, length-drop (o + (1 + getD cells to 0)) (g .word), t .letters-is))
-            ∙ ap (λ k. drop k (g .word)) many) in
-            ap₂ (λ l r. l ++ r) front (ap₂ (λ y r. (b ∷ y) ++ r) put back)
+            let few : getD cells from 0 ≡ (1 + getD cells from 0) - 1 = omega arith in
+            let after : drop (o + (1 + getD cells to 0)) (heldWord area h)
+            ≡ take (h .letters - (o + (1 + getD cells to 0))) (drop (h .word + (o + (1 + getD cells to 0))) area) =
+            sym (take-all (h .letters - (o + (1 + getD cells to 0))) (drop (o + (1 + getD cells to 0)) (heldWord area h))
+            (omega (arith, length-drop (o + (1 + getD cells to 0)) (heldWord area h), held-long)))
+            ∙ sym (word-part area h word-inside (o + (1 + getD cells to 0)) (h .letters - (o + (1 + getD cells to 0))) (omega (arith, long))) in
+            ap₂ (λ l r. l ++ r) (take-take o (h .letters) (drop (h .word) area) (omega arith))
+            (ap₂ (λ n r. (b ∷ take n (drop (from + 1) cells)) ++ r) few after)
 
         -- what the entry makes of the word
-        pub swap-applied : equal (take (1 + getD cells to 0) (drop (h .word + o) area)) (a ∷ take (getD cells to 0) (drop (to + 1) cells)) ≡ true
-            → applied (g .table) (g .word) (entryAt o a b) ≡ some (newWord area cells swap)
-        swap-applied f =
-            tested
-            ∙ (ap (λ s. cond s (some (take o (g .word) ++ ((b ∷ rule .y) ++ drop (o + suc (length (rule .x))) (g .word)))) none) (sym stands-is ∙ f)
-            ∙ ap some (sym new-is))
+        pub swap-applied : applied (g .table) (g .word) (entryAt o a b) ≡ some (newWord area cells swap)
+        swap-applied =
+            ap (λ w. applied (g .table) w (entryAt o a b)) (sym held-is)
+            ∙ (fit-makes (g .table) (heldWord area h) (entryAt o a b) apart cells (g .of .stands) ra rb to et defined from ef (heldWord area h) o
+            placed whole there ∙ ap some new-is)
 
 -- letters of a table are letters that a table can have, and their cells are there
 pub sixteen : {cells : List ℕ} {size : ℕ} (g : Work cells size) (a : ℕ) → InRange (g .table .size) a → InRange mostSize a

@@ -2,11 +2,11 @@
 use mathlib.Core.List.{List, [], _∷_, _++_, List·Memᴰ}
 use mathlib.Core.Bool.{cond}
 use mathlib.Core.Logic.{_⊎_}
-use mathlib.Core.Option.{some}
+use mathlib.Core.Option.{Option, none, some}
 use mathlib.Core.Path.{_≡_}
-use Prim.Native.Nat.{ℕ, suc, _<_}
+use Prim.Native.Nat.{ℕ, suc, _+_, _<_}
 use lib.Dec.{eqb}
-use lib.ListN.{length, drop}
+use lib.ListN.{length, take, drop, getD}
 use Rattle.model.specs.Word.{Positive}
 use Rattle.model.specs.Presentation.{Presentation}
 use Rattle.model.specs.Equivalence.{Entry, applied, Joined}
@@ -15,6 +15,8 @@ use Rattle.model.specs.Ways.{listing, listingBytes}
 use Rattle.theory.specs.Ways.{Weighed}
 use Rattle.cells.specs.Stands.{Of}
 use Rattle.ways.specs.declared.trying.Held.{Held}
+use Rattle.ways.specs.declared.trying.Fitting.{Fitting}
+use Rattle.ways.specs.declared.trying.Fitting.the-variants.{One, None}
 use Rattle.ways.specs.declared.trying.Tried.{Tried}
 use Rattle.ways.specs.declared.trying.Tried.the-variants.{Going, Full}
 use Rattle.ways.specs.Marks.{untried}
@@ -93,6 +95,10 @@ AddMeans cells area h s after r =
     (size : ℕ) (g : Work cells size) (b : Busy g area h) → (e : Entry) → applied (g .table) (g .word) e ≡ some (newWord area cells s)
     → TriedMeans g (listOf b) (λ d. d ≡ e) after r
 
+-- the letters of the word under trial
+abbrev pub heldWord : List ℕ → Held → Positive
+heldWord area h = take (h .letters) (drop (h .word) area)
+
 -- the entries with an offset and a second letter
 abbrev pub Toward : ℕ → ℕ → Entry → Type 0
 Toward offset b e = (e .offset ≡ offset) × (e .b ≡ b)
@@ -104,6 +110,21 @@ pub record Letter (cells area : List ℕ) (h : Held) (offset b : ℕ) : Type 0 w
   pub busy : Busy work area h
   pub inside : offset < h .letters
   pub named : InRange size b
+
+-- the entry with an offset and two letters
+abbrev pub entryAt : ℕ → ℕ → ℕ → Entry
+entryAt offset a b = record { offset = offset; a = a; b = b }
+
+-- the swap is one of the word under trial and makes this of it; where there is none, nothing can be made
+abbrev pub Makes : List ℕ → List ℕ → Held → Fitting → Option Positive → Type 0
+Makes cells area h (One s) v = Swaps area cells h s × (v ≡ some (newWord area cells s))
+Makes cells area h None v = v ≡ none
+
+-- it makes of the word what the entry at the letter, toward the other, makes of it
+abbrev pub FittingMeans : List ℕ → List ℕ → Held → ℕ → ℕ → Fitting → Type 0
+FittingMeans cells area h offset b r =
+    (size : ℕ) (g : Work cells size) → Busy g area h → InRange size b
+    → Makes cells area h r (applied (g .table) (g .word) (entryAt offset (getD area (h .word + offset) 0) b))
 
 abbrev pub LetterMeans : List ℕ → List ℕ → Held → ℕ → ℕ → List ℕ → Tried → Type 0
 LetterMeans cells area h offset b after r =

@@ -1,8 +1,10 @@
 // The swaps of one word tried: what is new is put among the listed words.
 ghost use mathlib.Core.Path.{_≡_};
-ghost use Prim.Native.Nat.{_<_};
-ghost use lib.ListN.{length};
-ghost use Rattle.ways.specs.State.{Swaps, Works, AddMeans, Letter, LetterMeans, Trial, At, Any, TrialMeans};
+ghost use mathlib.Core.List.{_∷_};
+ghost use Prim.Native.Nat.{_+_, _≤_, _<_};
+ghost use lib.ListN.{length, take, drop};
+ghost use Rattle.model.specs.Equivalence.{equal};
+ghost use Rattle.ways.specs.State.{Swaps, Works, AddMeans, heldWord, Letter, FittingMeans, LetterMeans, Trial, At, Any, TrialMeans};
 use crate::insert::insert;
 use crate::insert::moved_on;
 use crate::search::Place;
@@ -23,6 +25,12 @@ pub struct Held {
 pub enum Tried {
     Going(Held),
     Full,
+}
+
+// The swap that a relation allows at a place of the word, or that it allows none.
+pub enum Fitting {
+    One(Swap),
+    None,
 }
 
 // Lists the new word of a swap, where it is not listed yet.
@@ -51,33 +59,47 @@ pub fn add(area: &mut [u8], cells: &[u8], held: Held, swap: Swap) -> Tried
     }
 }
 
-// Tries the relation of a letter of the word and another letter: the side that begins with the one, where it stands there, gives way to the side
-// that begins with the other.
-pub fn try_letter(area: &mut [u8], cells: &[u8], held: Held, offset: usize, b: u8) -> Tried
-    requires { ⌜ Letter (now cells) (now area) held offset b ⌝ }
-    ensures length { λ r. ⌜ length (now (area .exit)) ≡ length (now (area .entry)) ⌝ }
-    ensures tried { λ r. ⌜ LetterMeans (now (cells .entry)) (now (area .entry)) held offset b (now (area .exit)) r ⌝ }
+// Whether `a`, then `count` letters of the cells, stand in the word under trial after `offset` letters.
+pub fn stands_in_word(
+    area: &[u8],
+    held: Held,
+    offset: usize,
+    a: u8,
+    cells: &[u8],
+    from: usize,
+    count: usize,
+) -> bool
+    requires { ⌜ (held .word + held .letters ≤ length (now area)) × (offset ≤ held .letters) × (from + count ≤ length (now cells)) × (count ≤ 255) ⌝ }
+    ensures { λ r. ⌜ r ≡ equal (take (1 + count) (drop offset (heldWord (now (area .entry)) held))) (a ∷ take count (drop from (now (cells .entry)))) ⌝ }
 {
-    let at = held.word + offset;
-    let a = area[at];
+    if held.letters < offset + (1 + count) {
+        return false;
+    }
+    stands_at(area, held.word + offset, a, cells, from, count)
+}
+
+// The swap that the relation of a letter of the word and another letter allows there: the side that begins with the one, where it stands, gives way
+// to the side that begins with the other.
+pub fn fitting_swap(area: &[u8], cells: &[u8], held: Held, offset: usize, b: u8) -> Fitting
+    requires { ⌜ Letter (now cells) (now area) held offset b ⌝ }
+    ensures { λ r. ⌜ FittingMeans (now (cells .entry)) (now (area .entry)) held offset b r ⌝ }
+{
+    let a = area[held.word + offset];
     if a == b {
-        return Tried::Going(held);
+        return Fitting::None;
     }
     let to = cell_at(a, b);
-    let from = cell_at(b, a);
     let x = cells[to] as usize;
-    let y = cells[from] as usize;
     if x == UNDEFINED_LENGTH {
-        return Tried::Going(held);
+        return Fitting::None;
     }
-    if held.letters < offset + (1 + x) {
-        return Tried::Going(held);
-    }
-    let stands = stands_at(area, at, a, cells, to + 1, x);
+    let stands = stands_in_word(area, held, offset, a, cells, to + 1, x);
     if !stands {
-        return Tried::Going(held);
+        return Fitting::None;
     }
-    let swap = Swap {
+    let from = cell_at(b, a);
+    let y = cells[from] as usize;
+    Fitting::One(Swap {
         word: held.word,
         offset,
         taken: 1 + x,
@@ -85,8 +107,20 @@ pub fn try_letter(area: &mut [u8], cells: &[u8], held: Held, offset: usize, b: u
         first: b,
         cell: from,
         put: 1 + y,
-    };
-    add(area, cells, held, swap)
+    })
+}
+
+// Tries the relation of a letter of the word and another letter.
+pub fn try_letter(area: &mut [u8], cells: &[u8], held: Held, offset: usize, b: u8) -> Tried
+    requires { ⌜ Letter (now cells) (now area) held offset b ⌝ }
+    ensures length { λ r. ⌜ length (now (area .exit)) ≡ length (now (area .entry)) ⌝ }
+    ensures tried { λ r. ⌜ LetterMeans (now (cells .entry)) (now (area .entry)) held offset b (now (area .exit)) r ⌝ }
+{
+    let fitting = fitting_swap(area, cells, held, offset, b);
+    match fitting {
+        Fitting::None => Tried::Going(held),
+        Fitting::One(swap) => add(area, cells, held, swap),
+    }
 }
 
 // Tries every relation of a letter of the word.

@@ -26,13 +26,13 @@ abbrev μ-loop : tie.MeasureT-loop
 abbrev start : tie.After-is-taken Inv-loop μ-loop → tie.Start Inv-loop μ-loop
 start c = c .before .before .before .before
 
-abbrev found : tie.After-take-pair Inv-loop μ-loop → tie.After-word-end Inv-loop μ-loop
-found c = c .before .before .before .before
+abbrev found : tie.After-take-with Inv-loop μ-loop → tie.After-word-end Inv-loop μ-loop
+found c = c .before .before
 
-abbrev ended : tie.After-known-told Inv-loop μ-loop → tie.After-take-pair Inv-loop μ-loop
+abbrev ended : tie.After-known-told Inv-loop μ-loop → tie.After-take-with Inv-loop μ-loop
 ended c = c .before .before .before .before .before
 
-abbrev went : tie.After-known-told2 Inv-loop μ-loop → tie.After-take-pair Inv-loop μ-loop
+abbrev went : tie.After-known-told2 Inv-loop μ-loop → tie.After-take-with Inv-loop μ-loop
 went c = c .before .before .before .before .before
 
 -- the round goes on
@@ -45,9 +45,6 @@ loop-holds c =
     let n = length (a .area .now) in
     (refl, λ T vs m w. taking-begun T (a .budget) n vs (sidedPair (a .side) m) (sidedCount (a .side) m) (a .area .now) (a .held) (w .growing))
 
-is-taken-requires : tie.Need-is-taken-requires Inv-loop μ-loop
-is-taken-requires c κs = tt
-
 word-end-requires : tie.Need-word-end-requires Inv-loop μ-loop
 word-end-requires c κs =
     let b = c .before in
@@ -55,42 +52,33 @@ word-end-requires c κs =
     let k = b .before .before .loop .inv .1 (p .0) (p .1) (p .2) (p .3) in
     taking-end k (sided-few (p .3) (start (b .before) .args .side)) (sided-on (p .3) (start (b .before) .args .side) k (on b))
 
-sub-t20 : tie.Need-sub-t20 Inv-loop μ-loop
-sub-t20 c = omega (arith, c .word-end .ensures .after)
+sub-letters : tie.Need-sub-t18 Inv-loop μ-loop
+sub-letters c = omega (arith, c .word-end .ensures .after)
 
-chosen-requires : tie.Need-chosen-requires Inv-loop μ-loop
-chosen-requires c κs = tt
-
-chosen-requires-2 : tie.Need-chosen-requires-2 Inv-loop μ-loop
-chosen-requires-2 c κs = tt
-
-take-pair-requires : tie.Need-take-pair-requires Inv-loop μ-loop
-take-pair-requires c κs =
-    let o = c .before in
-    let f = o .before .before in
+take-with-requires : tie.Need-take-with-requires Inv-loop μ-loop
+take-with-requires c κs =
+    let f = c .before in
     let b = f .before .before in
     let p = start (b .before) .pre in
     let side = start (b .before) .args .side in
     let k = b .before .before .loop .inv .1 (p .0) (p .1) (p .2) (p .3) in
-    let placed = sided-paired (p .3) side k (on b) (f .word-end .ensures) (o .before .chosen .ensures) (o .chosen2 .ensures) in
-    (p .0, k .words, sidedPair side (p .2) (k .passed), placed)
+    (p .0, k .words, sidedPair side (p .2) (k .passed), sided-paired (p .3) side k (on b) (f .word-end .ensures))
 
 same-length : tie.Need-same-length Inv-loop μ-loop
-same-length c = let b = found (ended c) .before .before in ended c .take-pair .ensures .0 ∙ b .before .before .loop .inv .0
+same-length c = let b = found (ended c) .before .before in ended c .take-with .ensures .0 ∙ b .before .before .loop .inv .0
 
 returns : tie.Need-returns Inv-loop μ-loop
 returns c =
-    let o = ended c .before .before in
     let f = found (ended c) in
     let b = f .before .before in
     let l = b .before .before .loop in
     let side = start (b .before) .args .side in
-    let t = ended c .take-pair in
+    let t = ended c .take-with in
     let e = c .before .step .given in (
       t .ensures .0 ∙ l .inv .0,
       λ T vs m w.
           let k = l .inv .1 T vs m w in
-          let p = sided-paired w side k (on b) (f .word-end .ensures) (o .before .chosen .ensures) (o .chosen2 .ensures) in
+          let p = sided-paired w side k (on b) (f .word-end .ensures) in
           taking-ended k (sided-few w side) (sided-on w side k (on b)) (t .last .1 .0) (t .result) (l .inv .0) (t .ensures .0)
           (t .ensures .1 T (k .words) (sidedPair side m (k .passed)) p) (e .0 .0) (e .1),
     )
@@ -99,21 +87,20 @@ add-at : tie.Need-add-at Inv-loop μ-loop
 add-at c = omega (arith, found (went c) .word-end .ensures .inside)
 
 loop-less : tie.Need-loop-less Inv-loop μ-loop
-loop-less c = let f = found (went c) .word-end .ensures in omega (arith, f .inside, f .after, went c .take-pair .ensures .0)
+loop-less c = let f = found (went c) .word-end .ensures in omega (arith, f .inside, f .after, went c .take-with .ensures .0)
 
 loop-again : tie.Need-loop-again Inv-loop μ-loop
 loop-again c =
-    let o = went c .before .before in
     let f = found (went c) in
     let b = f .before .before in
     let l = b .before .before .loop in
     let side = start (b .before) .args .side in
-    let t = went c .take-pair in
+    let t = went c .take-with in
     let e = c .before .step2 .given in (
       t .ensures .0 ∙ l .inv .0,
       λ T vs m w.
           let k = l .inv .1 T vs m w in
-          let p = sided-paired w side k (on b) (f .word-end .ensures) (o .before .chosen .ensures) (o .chosen2 .ensures) in
+          let p = sided-paired w side k (on b) (f .word-end .ensures) in
           taking-more k (sided-few w side) (sided-on w side k (on b)) (t .last .1 .0) (t .result) (l .inv .0) (t .ensures .0)
           (t .ensures .1 T (k .words) (sidedPair side m (k .passed)) p) (e .0 .0) (e .1) (f .word-end .result) (f .word-end .ensures),
     )
@@ -130,5 +117,5 @@ returns-2 c =
 
 pub take-side-spec : {M : Type 1} → statement M
 take-side-spec =
-    tie.close (tie.spec Inv-loop μ-loop loop-holds is-taken-requires word-end-requires sub-t20 chosen-requires chosen-requires-2 take-pair-requires
-    (λ c. search needs) same-length returns (λ c. search needs) add-at loop-less loop-again same-length-2 returns-2)
+    tie.close (tie.spec Inv-loop μ-loop loop-holds (λ c κs. search needs) word-end-requires sub-letters take-with-requires (λ c. search needs) same-length
+    returns (λ c. search needs) add-at loop-less loop-again same-length-2 returns-2)

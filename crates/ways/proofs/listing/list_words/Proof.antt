@@ -1,14 +1,12 @@
 -- `ways::listing::list_words` meets its contract.
 use mathlib.Core.Path.{_≡_, refl, subst, _∙_}
-use Prim.Native.Nat.{_-_, _≤_}
+use Prim.Native.Nat.{_+_, _-_, _≤_}
 use native.Mathlib.Omega.{arith}
 use borrow.Author.Needs.{needs}
-use lib.ListN.{length, length-set}
+use lib.ListN.{length}
 use Rattle.ways.specs.Marks.{UntriedFound}
-use Rattle.ways.specs.State.{listOf, TriedMeans, Any}
-use Rattle.ways.specs.Listing.{Task, State}
-use Rattle.ways.proofs.Adding.{busy-inside}
-use Rattle.ways.proofs.Tasks.{workOn, next-word, next-busy, next-count, next-state, all-listed}
+use Rattle.ways.specs.Listing.{Task, State, NextTriedMeans}
+use Rattle.ways.proofs.Tasks.{next-count, all-listed}
 use Rattle.ways.proofs.listing.list_words.Statement.{statement}
 use Rattle.ways.proofs.listing.list_words.Tie as tie
 
@@ -22,23 +20,17 @@ abbrev μ-loop : tie.MeasureT-loop
 abbrev start : tie.After-first-untried Inv-loop μ-loop → tie.Start Inv-loop μ-loop
 start c = c .before .before .before .before
 
-abbrev after-first-untried : tie.In-loop Inv-loop μ-loop → tie.After-first-untried Inv-loop μ-loop
-after-first-untried c = c .before .before
+abbrev start-of : tie.In-loop Inv-loop μ-loop → tie.Start Inv-loop μ-loop
+start-of c = start (c .before .before)
 
-abbrev in-loop : tie.After-word-start Inv-loop μ-loop → tie.In-loop Inv-loop μ-loop
+abbrev after-try-next : tie.After-slice-known2 Inv-loop μ-loop → tie.After-try-next Inv-loop μ-loop
+after-try-next c = c .before .before
+
+abbrev in-loop : tie.After-try-next Inv-loop μ-loop → tie.In-loop Inv-loop μ-loop
 in-loop c = c .before .before
 
-abbrev after-word-start : tie.After-area Inv-loop μ-loop → tie.After-word-start Inv-loop μ-loop
-after-word-start c = c .before .before .before
-
-abbrev after-area : tie.At-match-keys1 Inv-loop μ-loop → tie.After-area Inv-loop μ-loop
-after-area c = c .before .before
-
-abbrev after-area-from-after-known-told : tie.After-known-told Inv-loop μ-loop → tie.After-area Inv-loop μ-loop
-after-area-from-after-known-told c = c .before .before .before .before
-
-abbrev after-known-told : tie.After-struct-known Inv-loop μ-loop → tie.After-known-told Inv-loop μ-loop
-after-known-told c = c .before
+abbrev grew : tie.After-known-told Inv-loop μ-loop → tie.After-try-next Inv-loop μ-loop
+grew c = after-try-next (c .before .before .before)
 
 first-untried-requires : tie.Need-first-untried-requires Inv-loop μ-loop
 first-untried-requires c κs =
@@ -50,136 +42,66 @@ loop-holds c =
     let s = start c in
     (s .pre .1 .1 .spells .fits, refl, c .first-untried .ensures, λ k t. t)
 
-word-start-requires : tie.Need-word-start-requires Inv-loop μ-loop
-word-start-requires c κs =
-    let l = c .before .before .loop in
-    (omega arith, omega (arith, l .inv .0, c .before .loop-test .taken))
-
-sub-letters : tie.Need-sub-letters Inv-loop μ-loop
-sub-letters c = omega (arith, c .word-start .ensures .before)
-
-try-word-requires : tie.Need-try-word-requires Inv-loop μ-loop
-try-word-requires c κs =
-    let j = in-loop (c .before) in
-    let s = start (after-first-untried j) in
+try-next-requires : tie.Need-try-next-requires Inv-loop μ-loop
+try-next-requires c κs =
+    let j = c .before in
+    let s = start-of j in
     let l = j .before .loop in
-    let k = s .pre .0 in
-    let t = l .inv .3 k (s .pre .1) in (
-      workOn k (next-word k (l .area) (l .used) (l .words) t (l .end) (c .before .before .before .loop-test .taken) (l .inv .2)) (l .words),
-      next-busy k (l .area) (l .used) (l .words) t (l .end) (c .before .before .before .loop-test .taken) (l .inv .2) (c .before .word-start .result)
-          (c .before .word-start .ensures),
-    )
-
-enum-told : tie.Need-enum-told Inv-loop μ-loop
-enum-told c = search needs
+    record { task = s .pre .0; count = l .words; state = l .inv .3 (s .pre .0) (s .pre .1); found = l .inv .2; inside = j .loop-test .taken }
 
 same-length : tie.Need-same-length Inv-loop μ-loop
 same-length c =
-    let k = after-area (c .before) in
-    let l = in-loop (after-word-start k) .before .loop in
-    k .before .try-word .ensures .0 ∙ l .inv .1
+    let d = after-try-next (c .before .before) in
+    d .try-next .ensures .0 ∙ in-loop d .before .loop .inv .1
 
 returns : tie.Need-returns Inv-loop μ-loop
 returns c =
-    let j = after-word-start (after-area (c .before)) in
-    let l = in-loop j .before .loop in (
-      after-area (c .before) .before .try-word .ensures .0 ∙ l .inv .1,
-      λ k t₀.
-          let t = l .inv .3 k t₀ in
-          let g = workOn k (next-word k (l .area) (l .used) (l .words) t (l .end) (in-loop j .loop-test .taken) (l .inv .2)) (l .words) in
-          let b = next-busy k (l .area) (l .used) (l .words) t (l .end) (in-loop j .loop-test .taken) (l .inv .2) (j .word-start .result)
-          (j .word-start .ensures) in
-          subst (TriedMeans g (listOf b) Any (after-area (c .before) .before .try-word .last .0)) (c .enum-told .given .1)
-          (after-area (c .before) .before .try-word .ensures .1 g b),
+    let d = after-try-next (c .before .before) in
+    let l = in-loop d .before .loop in (
+      d .try-next .ensures .0 ∙ l .inv .1,
+      λ k t.
+          subst (NextTriedMeans k (l .words) (d .try-next .last .0)) (c .enum-told .given .1) (d .try-next .ensures .1 k (l .words) (l .inv .3 k t)),
     )
 
-add-mark : tie.Need-add-mark Inv-loop μ-loop
-add-mark c =
-    let j = after-area-from-after-known-told (after-known-told c) in
-    let s = start (after-first-untried (in-loop (after-word-start j))) in
-    let l = in-loop (after-word-start j) .before .loop in
-    let k = s .pre .0 in
-    let t = l .inv .3 k (s .pre .1) in
-    let g = workOn k (next-word k (l .area) (l .used) (l .words) t (l .end) (in-loop (after-word-start j) .loop-test .taken) (l .inv .2)) (l .words) in
-    let b = next-busy k (l .area) (l .used) (l .words) t (l .end) (in-loop (after-word-start j) .loop-test .taken) (l .inv .2)
-    (after-word-start j .word-start .result) (after-word-start j .word-start .ensures) in
-    let p = subst (TriedMeans g (listOf b) Any (j .before .try-word .last .0)) (c .before .before .tried .given .1) (j .before .try-word .ensures .1 g b) in
-    let i = busy-inside g (j .before .try-word .last .0) (c .before .before .tried .given .0 .0) (p .busy) in
-    omega (arith, i, p .busy .sound .spells .fits)
-
-slice-write-area : tie.Need-slice-write-area Inv-loop μ-loop
-slice-write-area c =
-    let j = after-area-from-after-known-told (after-known-told c) in
-    let s = start (after-first-untried (in-loop (after-word-start j))) in
-    let l = in-loop (after-word-start j) .before .loop in
-    let k = s .pre .0 in
-    let t = l .inv .3 k (s .pre .1) in
-    let g = workOn k (next-word k (l .area) (l .used) (l .words) t (l .end) (in-loop (after-word-start j) .loop-test .taken) (l .inv .2)) (l .words) in
-    let b = next-busy k (l .area) (l .used) (l .words) t (l .end) (in-loop (after-word-start j) .loop-test .taken) (l .inv .2)
-    (after-word-start j .word-start .result) (after-word-start j .word-start .ensures) in
-    let p = subst (TriedMeans g (listOf b) Any (j .before .try-word .last .0)) (c .before .before .tried .given .1) (j .before .try-word .ensures .1 g b) in
-    let i = busy-inside g (j .before .try-word .last .0) (c .before .before .tried .given .0 .0) (p .busy) in
-    omega (arith, i, p .busy .sound .spells .fits)
+-- one word more is tried
+further : (c : tie.After-known-told Inv-loop μ-loop)
+    (k : Task (start-of (in-loop (grew c)) .args .cells .now) (start-of (in-loop (grew c)) .args .size))
+    → State k (start-of (in-loop (grew c)) .args .area .now) (start-of (in-loop (grew c)) .args .first) 0
+    → State k (grew c .try-next .last .0) (c .before .tried .given .0 .0) (in-loop (grew c) .before .loop .words + 1)
+further c k t =
+    let d = grew c in
+    let l = in-loop d .before .loop in
+    subst (NextTriedMeans k (l .words) (d .try-next .last .0)) (c .before .tried .given .1) (d .try-next .ensures .1 k (l .words) (l .inv .3 k t))
 
 add-words : tie.Need-add-words Inv-loop μ-loop
 add-words c =
-    let j = in-loop (after-word-start (after-area-from-after-known-told (after-known-told c))) in
-    let s = start (after-first-untried j) in
+    let j = in-loop (grew c) in
+    let s = start-of j in
     let l = j .before .loop in
-    let k = s .pre .0 in
-    let t = l .inv .3 k (s .pre .1) in
-    omega (arith, next-count k (l .area) (l .used) (l .words) t (l .end) (j .loop-test .taken) (l .inv .2))
+    omega (arith, next-count (s .pre .0) _ _ _ (l .inv .3 (s .pre .0) (s .pre .1)) _ (j .loop-test .taken) (l .inv .2))
 
 first-untried-requires-2 : tie.Need-first-untried-requires-2 Inv-loop μ-loop
 first-untried-requires-2 c κs =
-    let j = after-area-from-after-known-told (after-known-told (c .before)) in
-    let s = start (after-first-untried (in-loop (after-word-start j))) in
-    let l = in-loop (after-word-start j) .before .loop in
-    let k = s .pre .0 in
-    let t = l .inv .3 k (s .pre .1) in
-    let g = workOn k (next-word k (l .area) (l .used) (l .words) t (l .end) (in-loop (after-word-start j) .loop-test .taken) (l .inv .2)) (l .words) in
-    let b = next-busy k (l .area) (l .used) (l .words) t (l .end) (in-loop (after-word-start j) .loop-test .taken) (l .inv .2)
-    (after-word-start j .word-start .result) (after-word-start j .word-start .ensures) in
-    let p = subst (TriedMeans g (listOf b) Any (j .before .try-word .last .0)) (c .before .before .before .tried .given .1)
-    (j .before .try-word .ensures .1 g b) in
-    let i = busy-inside g (j .before .try-word .last .0) (c .before .before .before .tried .given .0 .0) (p .busy) in
-    simp length-set (omega (arith, p .busy .sound .spells .fits))
+    let s = start-of (in-loop (grew (c .before))) in
+    further (c .before) (s .pre .0) (s .pre .1) .1 .spells .fits
 
 loop-less : tie.Need-loop-less Inv-loop μ-loop
 loop-less c =
-    let j = after-area-from-after-known-told (after-known-told (c .before .before)) in
-    let s = start (after-first-untried (in-loop (after-word-start j))) in
-    let l = in-loop (after-word-start j) .before .loop in
-    let k = s .pre .0 in
-    let t = l .inv .3 k (s .pre .1) in
-    let few = next-count k (l .area) (l .used) (l .words) t (l .end) (in-loop (after-word-start j) .loop-test .taken) (l .inv .2) in
-    simp length-set (omega (arith, few, j .before .try-word .ensures .0))
+    let d = grew (c .before .before) in
+    let j = in-loop d in
+    let s = start-of j in
+    let l = j .before .loop in
+    omega (arith, next-count (s .pre .0) _ _ _ (l .inv .3 (s .pre .0) (s .pre .1)) _ (j .loop-test .taken) (l .inv .2), d .try-next .ensures .0)
 
 loop-again : tie.Need-loop-again Inv-loop μ-loop
 loop-again c =
-    let j = after-area-from-after-known-told (after-known-told (c .before .before)) in
-    let s = start (after-first-untried (in-loop (after-word-start j))) in
-    let l = in-loop (after-word-start j) .before .loop in
-    let k = s .pre .0 in
-    let t = l .inv .3 k (s .pre .1) in
-    let g = workOn k (next-word k (l .area) (l .used) (l .words) t (l .end) (in-loop (after-word-start j) .loop-test .taken) (l .inv .2)) (l .words) in
-    let b = next-busy k (l .area) (l .used) (l .words) t (l .end) (in-loop (after-word-start j) .loop-test .taken) (l .inv .2)
-    (after-word-start j .word-start .result) (after-word-start j .word-start .ensures) in
-    let p = subst (TriedMeans g (listOf b) Any (j .before .try-word .last .0)) (after-known-told (c .before .before) .before .tried .given .1)
-    (j .before .try-word .ensures .1 g b) in
-    let i = busy-inside g (j .before .try-word .last .0) (after-known-told (c .before .before) .before .tried .given .0 .0) (p .busy) in (
-      simp length-set (omega (arith, p .busy .sound .spells .fits)),
-      simp length-set (j .before .try-word .ensures .0 ∙ l .inv .1),
+    let w = c .before .before in
+    let d = grew w in
+    let s = start-of (in-loop d) in (
+      further w (s .pre .0) (s .pre .1) .1 .spells .fits,
+      d .try-next .ensures .0 ∙ in-loop d .before .loop .inv .1,
       c .first-untried2 .ensures,
-      λ k t₀.
-          let t = l .inv .3 k t₀ in
-          let g = workOn k (next-word k (l .area) (l .used) (l .words) t (l .end) (in-loop (after-word-start j) .loop-test .taken) (l .inv .2)) (l .words) in
-          let b = next-busy k (l .area) (l .used) (l .words) t (l .end) (in-loop (after-word-start j) .loop-test .taken) (l .inv .2)
-          (after-word-start j .word-start .result) (after-word-start j .word-start .ensures) in
-          let p = subst (TriedMeans g (listOf b) Any (j .before .try-word .last .0)) (after-known-told (c .before .before) .before .tried .given .1)
-          (j .before .try-word .ensures .1 g b) in
-          next-state k (l .area) (l .used) (l .words) t (l .end) (in-loop (after-word-start j) .loop-test .taken) (l .inv .2) (listOf b)
-          (j .before .try-word .last .0) (after-known-told (c .before .before) .before .tried .given .0 .0) p,
+      further w,
     )
 
 same-length-2 : tie.Need-same-length-2 Inv-loop μ-loop
@@ -196,5 +118,5 @@ returns-2 c =
 
 pub list-words-spec : {M : Type 1} → statement M
 list-words-spec =
-    tie.close (tie.spec Inv-loop μ-loop first-untried-requires loop-holds word-start-requires sub-letters try-word-requires enum-told same-length returns
-    (λ c. search needs) add-mark slice-write-area add-words first-untried-requires-2 loop-less loop-again same-length-2 returns-2)
+    tie.close (tie.spec Inv-loop μ-loop first-untried-requires loop-holds try-next-requires (λ c. search needs) same-length returns (λ c. search needs)
+    add-words first-untried-requires-2 loop-less loop-again same-length-2 returns-2)
