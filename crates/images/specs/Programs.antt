@@ -1,8 +1,9 @@
 -- What reading a program image gives.
 use mathlib.Core.List.{List, [], _∷_}
-use mathlib.Core.Bool.{Bool}
+use mathlib.Core.Bool.{Bool, true, false}
 use mathlib.Core.Path.{_≡_}
 use Prim.Native.Nat.{ℕ, suc, _+_, _*_, _≤_, _<_}
+use lib.Dec.{eqb}
 use lib.ListN.{length, getD}
 use Rattle.model.specs.Word.{Letter, Word, byte, Positive, positive}
 use Rattle.model.specs.Outcome.{unplaced, Outcome, answered, refused}
@@ -11,6 +12,7 @@ use Rattle.model.specs.Images.{signedField, readProgram, mostSize, sizeWidth}
 use Rattle.model.specs.Services.{isForward, readForward}
 use Rattle.model.specs.Range.{InRange, numberOf, LetterInRange}
 use Rattle.model.specs.Stated.{refusal}
+use Rattle.model.specs.declared.answers.Refusal.the-variants.{ImageTail}
 use Rattle.cells.specs.Layout.{cellBytes, weightAt}
 use Rattle.images.specs.Fields.{from}
 use Rattle.images.specs.BitReader.{ReadsFrom}
@@ -58,6 +60,11 @@ pub record Tallies (cells : List ℕ) (tally : Tally) (sign number : ℕ) : Type
   pub named : InRange mostSize number
   pub backs-fit : tally .backs + sign < 65536
   pub weight-fits : tally .weight + suc (getD cells (weightAt number) 0) < 65536
+
+-- what is read of a program whose letters were passed, where a filling follows, and where something else does
+abbrev pub endedBy : Bool → ℕ → Tally → ProgramRead
+endedBy true count tally = Program count (eqb (tally .backs) 0) (tally .weight)
+endedBy false count tally = Refused ImageTail
 
 -- the image of a program of so many letters
 pub record ProgramOf (image : List ℕ) (size count : ℕ) : Type 0 where

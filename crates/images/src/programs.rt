@@ -19,9 +19,11 @@ ghost use Rattle.model.specs.Images.{readProgram};
 ghost use Rattle.model.specs.Plain.{plainProgram};
 ghost use Rattle.model.specs.Areas.{written};
 ghost use Rattle.cells.specs.Stands.{Sized};
+ghost use Rattle.model.specs.Bits.{filling};
+ghost use Rattle.images.specs.Fields.{from};
 ghost use Rattle.images.specs.BitReader.{place, Reads};
 ghost use Rattle.images.specs.Widths.{WidthOf};
-ghost use Rattle.images.specs.Programs.{SignedDone, Tallies, withLetter, ProgramDone, Accepted, HasLetter, ReadDone};
+ghost use Rattle.images.specs.Programs.{SignedDone, Tallies, withLetter, endedBy, ProgramDone, Accepted, HasLetter, ReadDone};
 
 // The bits of a program's count, and of a letter's sign.
 pub const COUNT_BITS: usize = 12;
@@ -92,6 +94,22 @@ pub fn tallied(tally: Tally, cells: &[u8], sign: u8, number: u8) -> Tally
     }
 }
 
+// A program whose letters were passed, if only a filling follows.
+pub fn ended(image: &[u8], reader: BitReader, count: u16, tally: Tally) -> ProgramRead
+    requires { ⌜ Reads (now image) reader ⌝ }
+    ensures { λ r. ⌜ r ≡ endedBy (filling (from (now (image .entry)) (place reader))) count tally ⌝ }
+{
+    if is_end(image, reader) {
+        ProgramRead::Program {
+            count,
+            forward: tally.backs == 0,
+            weight: tally.weight,
+        }
+    } else {
+        ProgramRead::Refused(Refusal::ImageTail)
+    }
+}
+
 // Refusal 4 or 5, whichever is come to first, then 6 (specification 5.3); nothing is written.
 pub fn read_program(image: &[u8], cells: &[u8], size: u8) -> ProgramRead
     requires { ⌜ Sized (now cells) size ⌝ }
@@ -122,15 +140,7 @@ pub fn read_program(image: &[u8], cells: &[u8], size: u8) -> ProgramRead
             }
         }
     }
-    if is_end(image, reader) {
-        ProgramRead::Program {
-            count,
-            forward: tally.backs == 0,
-            weight: tally.weight,
-        }
-    } else {
-        ProgramRead::Refused(Refusal::ImageTail)
-    }
+    ended(image, reader, count, tally)
 }
 
 // The byte of a letter of a program image that was accepted.

@@ -2,9 +2,11 @@
 use mathlib.Core.Path.{_≡_, refl, sym, ap, subst, _∙_}
 use Prim.Native.Nat.{ℕ, suc, _+_, _-_, _*_, _/_, _%_, _≤_, _<_}
 use native.Mathlib.Omega.{arith}
+use mathlib.Core.Bool.{Bool, true, false}
 use lib.Dec.{eqb}
 use lib.ListN.{getD}
 use Rattle.model.specs.Outcome.{unplaced, refused}
+use Rattle.model.specs.Bits.{filling}
 use Rattle.model.specs.Images.{signedField, readProgram, countWidth, mostSize, sizeWidth}
 use Rattle.bits.proofs.Width.{width-small}
 use Rattle.cells.specs.Layout.{weightAt}
@@ -13,10 +15,11 @@ use Rattle.images.specs.Fields.{FieldDone, FieldAt, from}
 use Rattle.images.specs.BitReader.{place}
 use Rattle.images.specs.Widths.{WidthOf}
 use Rattle.model.specs.Range.{InRange}
-use Rattle.images.specs.Programs.{SignedDone, SignedTaken, LetterTaken}
+use Rattle.images.specs.Programs.{SignedDone, SignedTaken, LetterTaken, endedBy, ProgramDone}
 use Rattle.images.specs.declared.bit_reader.BitReader.{BitReader}
 use Rattle.images.specs.declared.programs.SignedField.{SignedField}
 use Rattle.images.specs.declared.programs.Tally.{Tally}
+use Rattle.images.specs.declared.programs.ProgramRead.{ProgramRead}
 use Rattle.images.proofs.Validating.{program, count-ends, value-refused, whole-held, whole-tail}
 use Rattle.images.proofs.Measuring.{Passed, passed-none, passed-named, passed-light, passed-more, no-back}
 use borrow.Author.Needs.{needs}
@@ -75,6 +78,12 @@ refused-by c n e =
     value-refused (program (s .args .size)) (s .args .image .now) (count l) (count-at (wide l .before)) (place (l .loop .reader)) (l .loop .i)
     (l .loop .inv .validated) n
     (c .before .loop-test .taken) e
+
+-- by whether a filling follows
+by-filling : (P : ProgramRead → Type 0) (count : ℕ) (tally : Tally) (t : Bool) → (t ≡ true → P (endedBy true count tally))
+    → (t ≡ false → P (endedBy false count tally)) → P (endedBy t count tally)
+by-filling P count tally true whole tail = whole refl
+by-filling P count tally false whole tail = tail refl
 
 next-field-requires : tie.Need-next-field-requires Inv-loop μ-loop
 next-field-requires c κs = record { narrow = omega arith; inside = omega arith; small = omega arith }
@@ -192,34 +201,28 @@ loop-again c =
     (behind k) (taken k) (count l) (count-at (wide l .before)) (l .loop .reader) refl (width-of (wide l) .narrow) backs weight (l .loop .i) (l .loop .inv)
     (turn k .before .loop-test .taken))))
 
-is-end-requires : tie.Need-is-end-requires Inv-loop μ-loop
-is-end-requires c κs = c .before .loop .inv .reads
+ended-requires : tie.Need-ended-requires Inv-loop μ-loop
+ended-requires c κs = c .before .loop .inv .reads
 
 returns-4 : tie.Need-returns-4 Inv-loop μ-loop
 returns-4 c =
-    let e = c .before in
-    let l = e .before .before .before in
+    let l = c .before .before in
     let s = start (wide l .before) in
+    let at = place (l .loop .reader) in
     let v = l .loop .inv .validated in
-    let h =
-    whole-held (program (s .args .size)) (s .args .image .now) (count l) (count-at (wide l .before)) (place (l .loop .reader)) (l .loop .i) v
-    (e .before .before .loop-test .left) (sym (e .before .is-end .ensures) ∙ e .if1 .taken) in
+    let passed = c .before .loop-test .left in
+    subst (ProgramDone (s .args .image .now) (s .args .cells .now) (s .args .size)) (sym (c .ended .ensures))
+    (by-filling (ProgramDone (s .args .image .now) (s .args .cells .now) (s .args .size)) (count l) (l .loop .tally) (filling (from
+        (s .args .image .now) at)) (λ f.
+    let h = whole-held (program (s .args .size)) (s .args .image .now) (count l) (count-at (wide l .before)) at (l .loop .i) v passed f in
     record {
       program = record { word = v .done; read = h .read; count-is = h .count-is };
       forward-is = ap (λ n. eqb n 0) (l .loop .inv .signs) ∙ no-back (v .done);
       weight-is = l .loop .inv .weighed;
-    }
-
-returns-5 : tie.Need-returns-5 Inv-loop μ-loop
-returns-5 c =
-    let l = c .before .before .before in
-    let s = start (wide l .before) in
-    whole-tail (program (s .args .size)) (s .args .image .now) (count l) (count-at (wide l .before)) (place (l .loop .reader)) (l .loop .i)
-    (l .loop .inv .validated)
-    (c .before .before .loop-test .left) (sym (c .before .is-end .ensures) ∙ c .if1 .left)
+    }) (λ f. whole-tail (program (s .args .size)) (s .args .image .now) (count l) (count-at (wide l .before)) at (l .loop .i) v passed f))
 
 pub read-program-spec : {M : Type 1} → statement M
 read-program-spec =
     tie.close (tie.spec Inv-loop μ-loop next-field-requires (λ c. search needs) (λ c. search needs) returns letter-width-requires (λ c. search needs)
     reader-at-requires loop-holds next-signed-requires (λ c. search needs) returns-2 (λ c. search needs) returns-3 (λ c. search needs) tallied-requires
-    add-i loop-less loop-again is-end-requires returns-4 returns-5)
+    add-i loop-less loop-again ended-requires returns-4)
