@@ -1,20 +1,20 @@
 -- `images::letter_at` meets its contract.
 use mathlib.Core.Path.{_≡_, subst}
-use Prim.Native.Nat.{_+_, _*_, _≤_}
+use Prim.Native.Nat.{_+_, _*_, _^_, _≤_}
 use native.Mathlib.Omega.{arith}
 use Rattle.images.specs.BitReader.{place}
 use Rattle.images.specs.Programs.{SignedDone, LetterTaken}
 use Rattle.images.specs.declared.programs.SignedField.{SignedField}
 use Rattle.images.proofs.Letters.{near, index-small, ends-inside, letter-answer, letter-stands}
 use borrow.Author.Needs.{needs}
-use Rattle.model.specs.Images.{countWidth}
+use Rattle.model.specs.Images.{countWidth, sizeWidth}
 use Rattle.images.proofs.programs.letter_at.Statement.{statement}
 use Rattle.images.proofs.programs.letter_at.Tie as tie
 
 abbrev start : tie.After-next-signed → tie.Start
 start c = c .before .before .before
 
-bound : (c : tie.Start) → c .args .i * (1 + c .args .width) ≤ 20480
+bound : (c : tie.Start) → c .args .i * (1 + c .args .width) ≤ 2 ^ countWidth * (1 + sizeWidth)
 bound c = near (c .args .i) (c .args .width) (index-small (c .args .image .now) (c .args .size) (c .args .width) (c .args .i) (c .pre)) (c .pre .narrow)
 
 -- what stands at the letter's place

@@ -1,6 +1,6 @@
 -- `writers::programs::write_program` meets its contract.
 use mathlib.Core.Path.{_≡_, sym, ap, subst, _∙_}
-use Prim.Native.Nat.{_+_, _*_, _≤_}
+use Prim.Native.Nat.{_+_, _*_, _^_, _≤_}
 use native.Mathlib.Omega.{arith}
 use lib.ListN.{length}
 use Rattle.model.specs.Bits.{bytesFor}
@@ -32,7 +32,7 @@ width-of c = record {
       c .letter-width .ensures;
 }
 
-bound : (c : tie.After-letter-width) → length (start c .args .plain .now) * (1 + c .letter-width .result) ≤ 20480
+bound : (c : tie.After-letter-width) → length (start c .args .plain .now) * (1 + c .letter-width .result) ≤ 2 ^ countWidth * (1 + sizeWidth)
 bound c = near (length (start c .args .plain .now)) (c .letter-width .result) (omega (arith, start c .pre .2 .short)) (width-of c .narrow)
 
 -- the bytes that the code counts are those of the image
