@@ -74,7 +74,8 @@ module _ (T : Presentation) (steps width a b c : ℕ) where
   abbrev triple : Three
   triple = record { a = a; b = b; c = c }
 
-  abbrev rest : CubeVerdict
+  -- what is left to do once L is known
+  abbrev pub rest : CubeVerdict
   rest = against T steps width a b c (side T steps width a b c)
 
   at-triple : cubeAt T steps width triple ≡ whereDefined (complete T a b) rest
@@ -85,55 +86,46 @@ module _ (T : Presentation) (steps width a b c : ℕ) where
   pub open-holds : complete T a b ≡ undefined → Holds ≡ cubeAnswer (cubeAt T steps width triple)
   open-holds e = sym (ap cubeAnswer (at-triple ∙ ap (λ p. whereDefined p rest) e))
 
-  module _ (x y : Positive) (e : complete T a b ≡ complement x y) where
-    goes-on : cubeAt T steps width triple ≡ rest
-    goes-on = at-triple ∙ ap (λ p. whereDefined p rest) e
+  pub goes-on : (x y : Positive) → complete T a b ≡ complement x y → cubeAnswer rest ≡ cubeAnswer (cubeAt T steps width triple)
+  goes-on x y e = sym (ap cubeAnswer (at-triple ∙ ap (λ p. whereDefined p rest) e))
 
-    pub left-halts : (s : Stop) (area : List ℕ) → Works (T .size) (side T steps width a b c) area (Halted s)
-        → Halts s ≡ cubeAnswer (cubeAt T steps width triple)
+  pub left-halts : (s : Stop) (area : List ℕ) → Works (T .size) (side T steps width a b c) area (Halted s) → Halts s ≡ cubeAnswer rest
+  unfolding against
+  left-halts s area w =
+      let h = was-halted (side T steps width a b c) s w in
+      ap Halts (h .2) ∙ sym (ap (λ m. cubeAnswer (against T steps width a b c m)) (h .1))
+
+  -- L is undefined
+  missing-answer : (m : Residue) (area : List ℕ) (v : ResidueAnswer) → Works (T .size) m area v → missingSide v ≡ cubeAnswer (bothMissing m)
+  missing-answer (residue n) area v w = ap missingSide (w .answer)
+  missing-answer missing area v w = ap missingSide (w .answer)
+  missing-answer (halted budget) area v w = ap missingSide (w .answer)
+  missing-answer (halted room) area v w = ap missingSide (w .answer)
+
+  pub left-missing : (area area′ : List ℕ) (v : ResidueAnswer) → Works (T .size) (side T steps width a b c) area Missing
+      → Works (T .size) (side T steps width b a c) area′ v → missingSide v ≡ cubeAnswer rest
+  unfolding against
+  left-missing area area′ v w w′ =
+      missing-answer (side T steps width b a c) area′ v w′
+      ∙ sym (ap (λ m. cubeAnswer (against T steps width a b c m)) (was-missing (side T steps width a b c) w))
+
+  -- L is the word l
+  module _ (l : Positive) (el : side T steps width a b c ≡ residue l) where
+    there : (m : Residue) → side T steps (width - length l) b a c ≡ m
+        → cubeAnswer (bothThere (λ r. empties (reversing T steps width (negative l ++ positive r))) m) ≡ cubeAnswer rest
     unfolding against
-    left-halts s area w =
-        let h = was-halted (side T steps width a b c) s w in
-        ap Halts (h .2) ∙ sym (ap cubeAnswer (goes-on ∙ ap (against T steps width a b c) (h .1)))
+    there m e =
+        sym (ap cubeAnswer (ap (against T steps width a b c) el ∙ ap (bothThere (λ r. empties (reversing T steps width (negative l ++ positive r)))) e))
 
-    -- L is undefined
-    missing-answer : (m : Residue) (area : List ℕ) (v : ResidueAnswer) → Works (T .size) m area v → missingSide v ≡ cubeAnswer (bothMissing m)
-    missing-answer (residue n) area v w = ap missingSide (w .answer)
-    missing-answer missing area v w = ap missingSide (w .answer)
-    missing-answer (halted budget) area v w = ap missingSide (w .answer)
-    missing-answer (halted room) area v w = ap missingSide (w .answer)
+    pub right-missing : (area : List ℕ) → Works (T .size) (side T steps (width - length l) b a c) area Missing → Fails ≡ cubeAnswer rest
+    right-missing area w = there missing (was-missing (side T steps (width - length l) b a c) w)
 
-    pub left-missing : (area area′ : List ℕ) (v : ResidueAnswer) → Works (T .size) (side T steps width a b c) area Missing
-        → Works (T .size) (side T steps width b a c) area′ v → missingSide v ≡ cubeAnswer (cubeAt T steps width triple)
-    unfolding against
-    left-missing area area′ v w w′ =
-        missing-answer (side T steps width b a c) area′ v w′
-        ∙ sym (ap cubeAnswer (goes-on ∙ ap (against T steps width a b c) (was-missing (side T steps width a b c) w)))
+    pub right-halts : (s : Stop) (area : List ℕ) → Works (T .size) (side T steps (width - length l) b a c) area (Halted s) → Halts s ≡ cubeAnswer rest
+    right-halts s area w = let h = was-halted (side T steps (width - length l) b a c) s w in ap Halts (h .2) ∙ there (halted (h .0)) (h .1)
 
-    -- L is the word l
-    module _ (l : Positive) (el : side T steps width a b c ≡ residue l) where
-      there : cubeAt T steps width triple
-          ≡ bothThere (λ r. empties (reversing T steps width (negative l ++ positive r))) (side T steps (width - length l) b a c)
-      unfolding against
-      there = goes-on ∙ ap (against T steps width a b c) el
-
-      pub right-missing : (area : List ℕ) → Works (T .size) (side T steps (width - length l) b a c) area Missing
-          → Fails ≡ cubeAnswer (cubeAt T steps width triple)
-      right-missing area w =
-          sym (ap cubeAnswer (there ∙ ap (bothThere (λ r. empties (reversing T steps width (negative l ++ positive r))))
-          (was-missing (side T steps (width - length l) b a c) w)))
-
-      pub right-halts : (s : Stop) (area : List ℕ) → Works (T .size) (side T steps (width - length l) b a c) area (Halted s)
-          → Halts s ≡ cubeAnswer (cubeAt T steps width triple)
-      right-halts s area w =
-          let h = was-halted (side T steps (width - length l) b a c) s w in
-          ap Halts (h .2)
-          ∙ sym (ap cubeAnswer (there ∙ ap (bothThere (λ r. empties (reversing T steps width (negative l ++ positive r)))) (h .1)))
-
-      pub both-words : (r : Positive) → side T steps (width - length l) b a c ≡ residue r
-          → cubeAnswer (empties (reversing T steps width (negative l ++ positive r))) ≡ cubeAnswer (cubeAt T steps width triple)
-      both-words r er =
-          sym (ap cubeAnswer (there ∙ ap (bothThere (λ r. empties (reversing T steps width (negative l ++ positive r)))) er))
+    pub both-words : (r : Positive) → side T steps (width - length l) b a c ≡ residue r
+        → cubeAnswer (empties (reversing T steps width (negative l ++ positive r))) ≡ cubeAnswer rest
+    both-words r er = there (residue r) er
 
 -- the tests of `verdict_of`
 pub fails-by-denominator : (n d k r : ℕ) → n ≡ 0 → (d ≡ 0 → ⊥) → verdictOf (Finished n d k r) ≡ Fails
