@@ -1,6 +1,6 @@
 ghost use mathlib.Core.List.{[], _∷_};
 ghost use mathlib.Core.Path.{_≡_};
-ghost use Prim.Native.Nat.{_+_, _-_, _≤_};
+ghost use Prim.Native.Nat.{_+_, _-_, _≤_, _<_};
 ghost use lib.ListN.{length, getD};
 ghost use Rattle.model.specs.Word.{inverse};
 ghost use Rattle.cells.specs.Layout.{Letters, cellAt};
@@ -60,6 +60,31 @@ pub fn meet(
         emitted: at.emitted,
         stacked,
     }
+}
+
+// With no face to be done, the next letter is one of the second word, where one is left.
+pub fn take_letter(
+    cells: &[u8],
+    size: u8,
+    total: usize,
+    bytes: &[u8],
+    at: Progress,
+    answer: &mut [u8],
+) -> Progress
+    requires somewhere { ⌜ Somewhere (now cells) size total [] (now bytes) (now answer) at ⌝ }
+    requires more { ⌜ (at .stacked ≡ 0) × (at .right < length (now bytes)) ⌝ }
+    ensures { λ r. ⌜ Moves (now (cells .entry)) size total [] (now (bytes .entry)) (now (answer .entry)) at (now (bytes .entry)) (now (answer .exit)) r ⌝ }
+{
+    let right = at.right;
+    let next = bytes[right];
+    let taken = Progress {
+        left: at.left,
+        right: right + 1,
+        passed: at.passed,
+        emitted: at.emitted,
+        stacked: at.stacked,
+    };
+    meet(cells, size, total, bytes, taken, next, answer)
 }
 
 // Where the face of a and b begins, once all letters of C(a,b) behind a are passed.
