@@ -24,14 +24,14 @@ use swaps::follow::spells;
 use swaps::held::carry;
 
 // Whether the word that the entries led to is the second program. It is brought together at the workspace's start.
-pub fn arrive(workspace: &mut [u8], last: Gap, second: &[u8], size: u8, n: u16) -> Checked
-    requires { ⌜ Arrives (now workspace) (last .left) (last .right) (now second) size n ⌝ }
+pub fn arrive(workspace: &mut [u8], last: Gap, second: &[u8], size: u8, seconds: u16) -> Checked
+    requires { ⌜ Arrives (now workspace) (last .left) (last .right) (now second) size seconds ⌝ }
     ensures length { λ r. ⌜ length (now (workspace .exit)) ≡ length (now (workspace .entry)) ⌝ }
     ensures arrival { λ r. ⌜ ArrivalMeans (now (workspace .entry)) (last .left) (last .right) (now (second .entry)) size r ⌝ }
 {
     let all = last.left + (workspace.len() - last.right);
     carry(workspace, last, all);
-    let same = spells(workspace, all, second, size, n);
+    let same = spells(workspace, all, second, size, seconds);
     if same {
         return Checked::Joins;
     }
@@ -43,14 +43,14 @@ pub fn pass_loaded(
     cells: &[u8],
     size: u8,
     second: &[u8],
-    n: u16,
+    seconds: u16,
     entries: &[u8],
     count: u16,
     workspace: &mut [u8],
     right: usize,
 ) -> Checked
     requires follows { ⌜ Follows (now cells) size (now entries) count (now workspace) 0 right ⌝ }
-    requires second { ⌜ ForwardOf (now second) size n ⌝ }
+    requires second { ⌜ ForwardOf (now second) size seconds ⌝ }
     ensures length { λ r. ⌜ length (now (workspace .exit)) ≡ length (now (workspace .entry)) ⌝ }
     ensures passage { λ r. ⌜ LoadedMeans (now (cells .entry)) size (now (second .entry)) (now (entries .entry)) (now (workspace .entry)) right r ⌝ }
 {
@@ -65,7 +65,7 @@ pub fn pass_loaded(
     match followed {
         Followed::Breaks(k) => Checked::Breaks { entry: k as usize },
         Followed::Short => Checked::Refused(Refusal::WorkspaceShort(Place::Programs)),
-        Followed::Ended(last) => arrive(workspace, last, second, size, n),
+        Followed::Ended(last) => arrive(workspace, last, second, size, seconds),
     }
 }
 
@@ -74,26 +74,35 @@ pub fn pass(
     cells: &[u8],
     size: u8,
     first: &[u8],
-    m: u16,
+    firsts: u16,
     second: &[u8],
-    n: u16,
+    seconds: u16,
     entries: &[u8],
     count: u16,
     workspace: &mut [u8],
 ) -> Checked
-    requires { ⌜ ForwardChain (now cells) size (now first) m (now second) n (now entries) count ⌝ }
+    requires { ⌜ ForwardChain (now cells) size (now first) firsts (now second) seconds (now entries) count ⌝ }
     ensures length { λ r. ⌜ length (now (workspace .exit)) ≡ length (now (workspace .entry)) ⌝ }
     ensures passage { λ r. ⌜ PassageMeans (now (cells .entry)) size (now (first .entry)) (now (second .entry)) (now (entries .entry))
         (length (now (workspace .entry))) r ⌝ }
 {
     let end = workspace.len();
-    let letters = m as usize;
+    let letters = firsts as usize;
     if end < letters {
         return Checked::Refused(Refusal::WorkspaceShort(Place::Programs));
     }
     let right = end - letters;
-    unpack_letters(first, size, m, workspace, right);
-    pass_loaded(cells, size, second, n, entries, count, workspace, right)
+    unpack_letters(first, size, firsts, workspace, right);
+    pass_loaded(
+        cells,
+        size,
+        second,
+        seconds,
+        entries,
+        count,
+        workspace,
+        right,
+    )
 }
 
 // Two accepted forward programs and an accepted chain under a table that was loaded. The workspace is wiped.
@@ -101,18 +110,28 @@ pub fn check_programs(
     cells: &[u8],
     size: u8,
     first: &[u8],
-    m: u16,
+    firsts: u16,
     second: &[u8],
-    n: u16,
+    seconds: u16,
     entries: &[u8],
     count: u16,
     workspace: &mut [u8],
 ) -> Checked
-    requires { ⌜ ForwardChain (now cells) size (now first) m (now second) n (now entries) count ⌝ }
+    requires { ⌜ ForwardChain (now cells) size (now first) firsts (now second) seconds (now entries) count ⌝ }
     ensures { λ r. ⌜ Checks (now (cells .entry)) size (now (first .entry)) (now (second .entry)) (now (entries .entry)) (now (workspace .entry))
         (now (workspace .exit)) r ⌝ }
 {
-    let answer = pass(cells, size, first, m, second, n, entries, count, workspace);
+    let answer = pass(
+        cells,
+        size,
+        first,
+        firsts,
+        second,
+        seconds,
+        entries,
+        count,
+        workspace,
+    );
     wipe(workspace);
     answer
 }
@@ -133,8 +152,8 @@ pub fn check(
         ProgramsRead::Refused(refusal) => Checked::Refused(refusal),
         ProgramsRead::Programs {
             size,
-            m,
-            n,
+            firsts,
+            seconds,
             first_weight: _,
             second_weight: _,
         } => {
@@ -145,9 +164,9 @@ pub fn check(
                     &cells,
                     size,
                     first,
-                    m,
+                    firsts,
                     second,
-                    n,
+                    seconds,
                     entries,
                     count,
                     workspace,

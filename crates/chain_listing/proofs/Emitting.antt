@@ -6,7 +6,7 @@ use native.Mathlib.Omega.{arith}
 use lib.ListN.{length, take, getD, length-append}
 use Rattle.model.specs.Word.{Positive, positive, negative, inverse}
 use Rattle.model.specs.Equivalence.{Entry}
-use Rattle.model.specs.Images.{offsetWidth, entryBits, entryPosition}
+use Rattle.model.specs.Images.{offsetWidth, entryBits, entryPosition, mostSize, mostLength}
 use Rattle.engine.specs.Gap.{letters}
 use Rattle.engine.specs.Turn.{CellFits, cellLetters, Pushed}
 use Rattle.cells.specs.Layout.{Letters, cellAt}
@@ -58,10 +58,10 @@ module _ {t : Task} {cells : List ℕ} {size total : ℕ} {bytes answer : List �
   pub b-top : InRange size b
   b-top = subst (InRange size) (top .is-b) face-b
 
-  pair-a : InRange 16 a
+  pair-a : InRange mostSize a
   pair-a = wide (s .settled) a-top
 
-  pair-b : InRange 16 b
+  pair-b : InRange mostSize b
   pair-b = wide (s .settled) b-top
 
   to-is : cellAt a b ≡ cellAt (f .a) (f .b)
@@ -76,7 +76,7 @@ module _ {t : Task} {cells : List ℕ} {size total : ℕ} {bytes answer : List �
   from-count : getD cells (cellAt b a) 0 ≡ length (f .other)
   from-count = ap (λ i. getD cells i 0) from-is ∙ from-cell (s .settled) course .count
 
-  pub from-short : getD cells (cellAt b a) 0 ≤ 15
+  pub from-short : getD cells (cellAt b a) 0 ≤ mostLength
   from-short = omega (arith, from-count, from-cell (s .settled) course .short)
 
   passed-is : at .passed ≡ length (passedOf (top .others) (s .done)) + suc (length (f .done))

@@ -5,7 +5,7 @@ use Prim.Native.Nat.{ℕ, _+_, _-_, _*_, _^_, _≤_, _<_}
 use lib.ListN.{length, take, drop, getD}
 use Rattle.model.specs.Word.{Word, Positive, positive, negative}
 use Rattle.model.specs.Presentation.{Presentation, complement, complete, weigh}
-use Rattle.model.specs.Images.{offsetWidth}
+use Rattle.model.specs.Images.{offsetWidth, mostLength, wordLengths}
 use Rattle.model.specs.Equivalence.{Entry, Leads}
 use Rattle.model.specs.Reversing.{finished, run}
 use Rattle.model.specs.Services.{chainBytes}
@@ -23,7 +23,7 @@ pub record Task : Type 0 where
   pub first : Positive
   pub second : Positive
   pub steps : ℕ
-  pub width : ℕ
+  pub room : ℕ
   pub area : List ℕ
 
 -- relations keep weight
@@ -38,14 +38,14 @@ pub record Fixed (t : Task) (cells : List ℕ) (size total : ℕ) : Type 0 where
   pub short : weigh (t .table) (t .first) < 2 ^ offsetWidth
   pub named : Lettered size (positive (t .second))
   pub few : total < 65536
-  pub room : chainBytes size total ≤ length (t .area)
+  pub enough : chainBytes size total ≤ length (t .area)
 
 -- the reversing goes on from a word, with so many relation steps done
 pub record Running (t : Task) (total : ℕ) (word : Word) (relations : ℕ) : Type 0 where
   pub budget : ℕ
   pub steps : ℕ
-  pub fits : length word ≤ t .width
-  pub finishes : run (t .table) (t .width) budget steps relations word ≡ finished [] [] (t .steps) total
+  pub fits : length word ≤ t .room
+  pub finishes : run (t .table) (t .room) budget steps relations word ≡ finished [] [] (t .steps) total
 
 -- the entries have led from the first word, and the faces and the rest stand for the word of the reversing
 pub record Course (t : Task) (size total : ℕ) (taken rest : Positive) (faces : List Face) (done left : Positive) (entries : List Entry) : Type 0 where
@@ -57,7 +57,7 @@ pub record Course (t : Task) (size total : ℕ) (taken rest : Positive) (faces :
 -- the workspace and the answer area hold it
 pub record Held (t : Task) (size total : ℕ) (rest : Positive) (faces : List Face) (done left : Positive) (entries : List Entry) (bytes answer : List ℕ)
     (at : Progress) : Type 0 where
-  pub wide : length bytes ≡ t .width
+  pub wide : length bytes ≡ t .room
   pub ordered : at .left ≤ at .right
   pub inside : at .right ≤ length bytes
   pub rest-held : letters (take (at .left) bytes) ≡ negative rest
@@ -102,7 +102,7 @@ Emittable cells size bytes answer at a b =
 
 -- what is left to do
 abbrev pub ahead : ℕ → Progress → ℕ
-ahead total at = 16 * (total - at .emitted) + at .left
+ahead total at = wordLengths * (total - at .emitted) + at .left
 
 -- a move: less is left to do, and every task goes on
 pub record Moves (cells : List ℕ) (size total : ℕ) (taken : Positive) (bytes answer : List ℕ) (at : Progress) (bytes′ answer′ : List ℕ)
@@ -113,7 +113,7 @@ pub record Moves (cells : List ℕ) (size total : ℕ) (taken : Positive) (bytes
 -- one entry more: C(b,a) has at most 15 letters, and every task goes on
 pub record Emits (cells : List ℕ) (size : ℕ) (bytes answer : List ℕ) (at : Progress) (a b : ℕ) (bytes′ answer′ : List ℕ) (at′ : Progress) : Type 0 where
   pub one-more : at′ .emitted ≡ at .emitted + 1
-  pub few-more : at′ .left ≤ at .left + 15
+  pub few-more : at′ .left ≤ at .left + mostLength
   pub situation : (total : ℕ) (t : Task) (s : Situation t cells size total [] bytes answer at) → TopDone (s .faces) a b
       → Situation t cells size total [] bytes′ answer′ at′
 

@@ -3,6 +3,7 @@ ghost use mathlib.Core.Path.{_≡_};
 ghost use Prim.Native.Nat.{_≤_};
 ghost use lib.ListN.{length};
 ghost use Rattle.model.specs.Services.{chainBytes};
+ghost use Rattle.model.specs.Images.{mostSize};
 ghost use Rattle.chain_listing.specs.Layout.{Layout};
 ghost use Rattle.chain_listing.specs.Course.{Somewhere, WalkMeans};
 ghost use Rattle.chain_listing.specs.Listing.{Listable, ListMeans};
@@ -16,7 +17,7 @@ use entries::entry::position;
 
 // Writes the count of a chain's image and its filling bits.
 pub fn prepare(answer: &mut [u8], size: u8, total: u16)
-    requires { ⌜ (1 ≤ size) × (size ≤ 16) × (chainBytes size total ≤ length (now answer)) ⌝ }
+    requires { ⌜ (1 ≤ size) × (size ≤ mostSize) × (chainBytes size total ≤ length (now answer)) ⌝ }
     ensures { λ r. ⌜ Layout size total (now (answer .entry)) [] [] (now (answer .exit)) ⌝ }
 {
     let end = position(size, total as usize);

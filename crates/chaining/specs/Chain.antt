@@ -16,9 +16,9 @@ use Rattle.comparing.specs.Compare.{Ended, CompareSays}
 
 -- under every table that the cells stand for: the comparison of the programs in a workspace of so many bytes says `same`, with so many relations
 abbrev pub EndsSame : List ℕ → ℕ → List ℕ → List ℕ → ℕ → ℕ → Type 0
-EndsSame cells size first second width relations =
+EndsSame cells size first second room relations =
     (T : Presentation) → Of cells size T → (u v : Positive) → readForward size first ≡ answered u → readForward size second ≡ answered v
-    → (budget steps : ℕ) × Ended T u v budget width steps relations
+    → (budget budget : ℕ) × Ended T u v budget room budget relations
 
 -- a chain between them stands in the answer area, with an entry for each
 abbrev pub ProgramsListed : List ℕ → ℕ → List ℕ → List ℕ → ℕ → List ℕ → List ℕ → Type 0
@@ -32,8 +32,8 @@ Area T u v before after (answered (same-after k r)) = Listed T u v r (chainBytes
 Area T u v before after (answered (different-after k)) = after ≡ before
 Area T u v before after (refused n ps) = after ≡ before
 
-pub record ListedAs (T : Presentation) (u v : Positive) (budget width : ℕ) (before after : List ℕ) (r : Compared) : Type 0 where
-  pub verdict : compared r ≡ (comparison T u v budget width >>= listable (T .size) (length before))
+pub record ListedAs (T : Presentation) (u v : Positive) (budget room : ℕ) (before after : List ℕ) (r : Compared) : Type 0 where
+  pub verdict : compared r ≡ (comparison T u v budget room >>= listable (T .size) (length before))
   pub area : Area T u v before after (compared r)
 
 pub record Lists (cells : List ℕ) (size : ℕ) (first second : List ℕ) (budget : ℕ) (workspace workspace′ before after : List ℕ) (r : Compared) : Type 0 where

@@ -5,6 +5,7 @@ ghost use lib.ListN.{length, replicate};
 ghost use Rattle.model.specs.Outcome.{mapped};
 ghost use Rattle.model.specs.Services.{chainBytes, chain, chainAnswer};
 ghost use Rattle.model.specs.Stated.{compared, chained};
+ghost use Rattle.model.specs.Images.{mostSize};
 ghost use Rattle.loading.specs.Loading.{Forward};
 ghost use Rattle.loading.specs.Weighing.{Weigh};
 ghost use Rattle.chaining.specs.Chain.{EndsSame, ProgramsListed, Lists, ChainPromise};
@@ -27,23 +28,23 @@ pub fn list_programs(
     cells: &[u8],
     size: u8,
     first: &[u8],
-    m: u16,
+    firsts: u16,
     second: &[u8],
-    n: u16,
+    seconds: u16,
     relations: u16,
     workspace: &mut [u8],
     answer: &mut [u8],
 )
-    requires programs { ⌜ Forward (now cells) size (now first) m (now second) n ⌝ }
+    requires programs { ⌜ Forward (now cells) size (now first) firsts (now second) seconds ⌝ }
     requires same { ⌜ EndsSame (now cells) size (now first) (now second) (length (now workspace)) relations ⌝ }
     requires room { ⌜ chainBytes size relations ≤ length (now answer) ⌝ }
     ensures wiped { λ r. ⌜ now (workspace .exit) ≡ replicate (length (now (workspace .entry))) 0 ⌝ }
     ensures listed { λ r. ⌜ ProgramsListed (now (cells .entry)) size (now (first .entry)) (now (second .entry)) relations (now (answer .entry))
         (now (answer .exit)) ⌝ }
 {
-    let left = m as usize;
-    let right = workspace.len() - n as usize;
-    load_programs(size, first, m, second, n, workspace);
+    let left = firsts as usize;
+    let right = workspace.len() - seconds as usize;
+    load_programs(size, first, firsts, second, seconds, workspace);
     list(
         cells,
         size,
@@ -60,16 +61,16 @@ pub fn chain_programs(
     cells: &[u8],
     size: u8,
     first: &[u8],
-    m: u16,
+    firsts: u16,
     second: &[u8],
-    n: u16,
+    seconds: u16,
     one: u16,
     two: u16,
     budget: u16,
     workspace: &mut [u8],
     answer: &mut [u8],
 ) -> Compared
-    requires programs { ⌜ Forward (now cells) size (now first) m (now second) n ⌝ }
+    requires programs { ⌜ Forward (now cells) size (now first) firsts (now second) seconds ⌝ }
     requires weights { ⌜ Weigh (now cells) size (now first) one (now second) two ⌝ }
     ensures { λ r. ⌜ Lists (now (cells .entry)) size (now (first .entry)) (now (second .entry)) budget (now (workspace .entry)) (now (workspace .exit))
         (now (answer .entry)) (now (answer .exit)) r ⌝ }
@@ -78,9 +79,9 @@ pub fn chain_programs(
         cells,
         size,
         first,
-        m,
+        firsts,
         second,
-        n,
+        seconds,
         one,
         two,
         budget,
@@ -96,9 +97,9 @@ pub fn chain_programs(
         cells,
         size,
         first,
-        m,
+        firsts,
         second,
-        n,
+        seconds,
         relations,
         workspace,
         answer,
@@ -108,7 +109,7 @@ pub fn chain_programs(
 
 // The answer of chain: what is listed has an entry for each step on two different letters.
 pub fn listed(verdict: Compared, size: u8) -> Chained
-    requires { ⌜ (1 ≤ size) × (size ≤ 16) ⌝ }
+    requires { ⌜ (1 ≤ size) × (size ≤ mostSize) ⌝ }
     ensures { λ r. ⌜ chained r ≡ mapped (chainAnswer size) (compared verdict) ⌝ }
 {
     match verdict {
@@ -139,8 +140,8 @@ pub fn chain(
         ProgramsRead::Refused(refusal) => Chained::Refused(refusal),
         ProgramsRead::Programs {
             size,
-            m,
-            n,
+            firsts,
+            seconds,
             first_weight,
             second_weight,
         } => {
@@ -148,9 +149,9 @@ pub fn chain(
                 &cells,
                 size,
                 first,
-                m,
+                firsts,
                 second,
-                n,
+                seconds,
                 first_weight,
                 second_weight,
                 allowance,

@@ -14,6 +14,7 @@ use Rattle.model.specs.Presentation.{Presentation, weightOf, weigh}
 use Rattle.model.specs.Range.{All, InRange}
 use Rattle.model.proofs.Equiv.{total-more}
 use Rattle.model.proofs.Lists.{all-at}
+use Rattle.model.specs.Images.{mostSize}
 use Rattle.cells.specs.Layout.{weightAt}
 use Rattle.cells.specs.Stands.{Stands}
 use Rattle.cells.proofs.Rules.{held-weight, light-letter}
@@ -35,7 +36,7 @@ module _ (cells : List ℕ) (T : Presentation) (s : Stands cells T) (u : Positiv
   in-table : InRange (T .size) x
   in-table = subst (InRange (T .size)) (sym is) (all-at (InRange (T .size)) u i 0 named h)
 
-  in-range : InRange 16 x
+  in-range : InRange mostSize x
   in-range = record { low = in-table .low; high = omega (arith, in-table .high, s .few) }
 
   weight-light : suc (getD cells (weightAt x) 0) ≤ 8
@@ -61,7 +62,7 @@ module _ (cells bytes : List ℕ) (middle end : ℕ) (T : Presentation) (u v : P
 
   -- the next letter of each: a letter that a table can have, of a weight of at most 8, by which more is passed
   module _ (i : ℕ) (h : i < middle) where
-    pub first-range : InRange 16 (getD bytes i 0)
+    pub first-range : InRange mostSize (getD bytes i 0)
     first-range = in-range cells T (s .stands) u (s .u-named) i (getD bytes i 0) (omega (arith, h, first-long)) (first-letter i h)
 
     pub first-light : suc (getD cells (weightAt (getD bytes i 0)) 0) ≤ 8
@@ -74,7 +75,7 @@ module _ (cells bytes : List ℕ) (middle end : ℕ) (T : Presentation) (u v : P
     here : j - middle < length v
     here = omega (arith, h, low, second-long)
 
-    pub second-range : InRange 16 (getD bytes j 0)
+    pub second-range : InRange mostSize (getD bytes j 0)
     second-range = in-range cells T (s .stands) v (s .v-named) (j - middle) (getD bytes j 0) here (second-letter j low h)
 
     pub second-light : suc (getD cells (weightAt (getD bytes j 0)) 0) ≤ 8

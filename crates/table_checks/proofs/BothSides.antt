@@ -13,10 +13,10 @@ use Rattle.engine.specs.Gap.{letters}
 use Rattle.cells.specs.Stands.{Serves}
 use Rattle.engine.proofs.Letters.{length-letters}
 use Rattle.engine.proofs.Lettering.{length-positive}
-use Rattle.table_checks.specs.Residues.{Works, Stored, SideWorks}
+use Rattle.table_checks.specs.Residuals.{Works, Stored, SideWorks}
 use Rattle.table_checks.specs.Cube.{cubeAnswer, Sides, RightSide}
-use Rattle.table_checks.specs.declared.residues.Residue.{Residue as ResidueAnswer}
-use Rattle.table_checks.specs.declared.residues.Residue.the-variants.{Missing, Halted, Word as Found}
+use Rattle.table_checks.specs.declared.residuals.Residual.{Residual as ResidualAnswer}
+use Rattle.table_checks.specs.declared.residuals.Residual.the-variants.{Missing, Halted, Word as Found}
 use Rattle.table_checks.specs.declared.cube.CubeVerdict.the-variants.{Fails, Halts}
 use Rattle.table_checks.proofs.Sides.{FoundWord, was-found}
 use Rattle.table_checks.proofs.Triples.{rest, right-missing, right-halts, both-words}
@@ -32,33 +32,33 @@ stored-fits size n bytes s =
     omega arith
 
 -- L is a word, worked out in the workspace
-module _ (cells bytes : List ℕ) (kept a b c steps : ℕ) (l : SideWorks cells a b c steps bytes (Found kept)) (T : Presentation)
+module _ (cells bytes : List ℕ) (kept a b c budget : ℕ) (l : SideWorks cells a b c budget bytes (Found kept)) (T : Presentation)
     (t : Serves cells (positive (a ∷ b ∷ c ∷ [])) T) where
-  left-found : FoundWord (T .size) bytes (side T steps (length bytes) a b c) kept
-  left-found = was-found (side T steps (length bytes) a b c) kept (l T t)
+  left-found : FoundWord (T .size) bytes (side T budget (length bytes) a b c) kept
+  left-found = was-found (side T budget (length bytes) a b c) kept (l T t)
 
   pub kept-fits : kept ≤ length bytes
   kept-fits = omega (arith, left-found .count, stored-fits (T .size) (left-found .word) bytes (left-found .stored))
 
   module _ (after : List ℕ) where
-    width-left : length after ≡ length bytes → length (drop kept after) ≡ length bytes - length (left-found .word)
-    width-left k = length-drop kept after ∙ omega (arith, left-found .count)
+    room-left : length after ≡ length bytes → length (drop kept after) ≡ length bytes - length (left-found .word)
+    room-left k = length-drop kept after ∙ omega (arith, left-found .count)
 
-    works-after : (v : ResidueAnswer) → RightSide cells bytes kept b a c steps after v
-        → Works (T .size) (side T steps (length bytes - length (left-found .word)) b a c) (drop kept after) v
+    works-after : (v : ResidualAnswer) → RightSide cells bytes kept b a c budget after v
+        → Works (T .size) (side T budget (length bytes - length (left-found .word)) b a c) (drop kept after) v
     works-after v r =
-        subst (λ i. Works (T .size) (side T steps i b a c) (drop kept after) v) (width-left (r .same-length)) (r .works T (turned-serves t))
+        subst (λ i. Works (T .size) (side T budget i b a c) (drop kept after) v) (room-left (r .same-length)) (r .works T (turned-serves t))
 
-    pub no-right-side : RightSide cells bytes kept b a c steps after Missing → Fails ≡ cubeAnswer (rest T steps (length bytes) a b c)
-    no-right-side r = right-missing T steps (length bytes) a b c (left-found .word) (left-found .is) (drop kept after) (works-after Missing r)
+    pub no-right-side : RightSide cells bytes kept b a c budget after Missing → Fails ≡ cubeAnswer (rest T budget (length bytes) a b c)
+    no-right-side r = right-missing T budget (length bytes) a b c (left-found .word) (left-found .is) (drop kept after) (works-after Missing r)
 
-    pub right-side-halts : (s : Stop) → RightSide cells bytes kept b a c steps after (Halted s) → Halts s ≡ cubeAnswer (rest T steps (length bytes) a b c)
-    right-side-halts s r = right-halts T steps (length bytes) a b c (left-found .word) (left-found .is) s (drop kept after) (works-after (Halted s) r)
+    pub right-side-halts : (s : Stop) → RightSide cells bytes kept b a c budget after (Halted s) → Halts s ≡ cubeAnswer (rest T budget (length bytes) a b c)
+    right-side-halts s r = right-halts T budget (length bytes) a b c (left-found .word) (left-found .is) s (drop kept after) (works-after (Halted s) r)
 
     -- both are words
-    module _ (count : ℕ) (r : RightSide cells bytes kept b a c steps after (Found count)) where
-      right-found : FoundWord (T .size) (drop kept after) (side T steps (length (drop kept after)) b a c) count
-      right-found = was-found (side T steps (length (drop kept after)) b a c) count (r .works T (turned-serves t))
+    module _ (count : ℕ) (r : RightSide cells bytes kept b a c budget after (Found count)) where
+      right-found : FoundWord (T .size) (drop kept after) (side T budget (length (drop kept after)) b a c) count
+      right-found = was-found (side T budget (length (drop kept after)) b a c) count (r .works T (turned-serves t))
 
       abbrev left : Positive
       left = left-found .word
@@ -82,12 +82,12 @@ module _ (cells bytes : List ℕ) (kept a b c steps : ℕ) (l : SideWorks cells 
           }
 
       pub both-found : (l r : Positive) × Sides cells after kept count T l r
-          × (cubeAnswer (empties (reversing T steps (length after) (negative l ++ positive r))) ≡ cubeAnswer (rest T steps (length bytes) a b c))
+          × (cubeAnswer (empties (reversing T budget (length after) (negative l ++ positive r))) ≡ cubeAnswer (rest T budget (length bytes) a b c))
       both-found = (
         left,
         right,
         stand,
-        ap (λ i. cubeAnswer (empties (reversing T steps i (negative left ++ positive right)))) (r .same-length)
-            ∙ both-words T steps (length bytes) a b c left (left-found .is) right
-            (ap (λ i. side T steps i b a c) (sym (width-left (r .same-length))) ∙ right-found .is),
+        ap (λ i. cubeAnswer (empties (reversing T budget i (negative left ++ positive right)))) (r .same-length)
+            ∙ both-words T budget (length bytes) a b c left (left-found .is) right
+            (ap (λ i. side T budget i b a c) (sym (room-left (r .same-length))) ∙ right-found .is),
       )

@@ -7,7 +7,7 @@ use lib.Dec.{eqb}
 use lib.ListN.{getD}
 use Rattle.model.specs.Word.{positive}
 use Rattle.model.specs.Presentation.{Presentation, swapped, complete}
-use Rattle.model.specs.Reversing.{budget, room}
+use Rattle.model.specs.Reversing.{no-budget, no-room}
 use Rattle.model.specs.Enumeration.{Two, Three}
 use Rattle.model.specs.Outcome.{pair-of, Outcome, answered, refused, _>>=_}
 use Rattle.model.specs.Checks.{balanced, weightCheck, CubeVerdict, holds, fails, halts, reported, cubeAt, cubeCheck}
@@ -64,12 +64,12 @@ reported-then t holds x y = refl
 reported-then t fails x y = refl
 reported-then t (halts s) x y = refl
 
-pub cubes-append : (T : Presentation) (steps width : ℕ) (xs ys : List Three)
-    → cubeCheck T steps width (xs ++ ys) ≡ (cubeCheck T steps width xs >>= λ ok. cubeCheck T steps width ys)
-cubes-append T steps width [] ys = refl
-cubes-append T steps width (t ∷ xs) ys =
-    ap (reported t (cubeAt T steps width t)) (cubes-append T steps width xs ys)
-    ∙ sym (reported-then t (cubeAt T steps width t) (cubeCheck T steps width xs) (cubeCheck T steps width ys))
+pub cubes-append : (T : Presentation) (budget room : ℕ) (xs ys : List Three)
+    → cubeCheck T budget room (xs ++ ys) ≡ (cubeCheck T budget room xs >>= λ ok. cubeCheck T budget room ys)
+cubes-append T budget room [] ys = refl
+cubes-append T budget room (t ∷ xs) ys =
+    ap (reported t (cubeAt T budget room t)) (cubes-append T budget room xs ys)
+    ∙ sym (reported-then t (cubeAt T budget room t) (cubeCheck T budget room xs) (cubeCheck T budget room ys))
 
 -- the answer that a triple's verdict becomes
 abbrev pub told : Triple → CubeAnswer → Triples
@@ -81,18 +81,18 @@ told-reported : (a b c : ℕ) (v : CubeVerdict)
     → triplesAs (told (record { a = a; b = b; c = c }) (cubeAnswer v)) ≡ reported (triple a b c) v (answered tt)
 told-reported a b c holds = refl
 told-reported a b c fails = refl
-told-reported a b c (halts budget) = refl
-told-reported a b c (halts room) = refl
+told-reported a b c (halts no-budget) = refl
+told-reported a b c (halts no-room) = refl
 
-module _ (cells : List ℕ) (width a b c steps : ℕ) where
-  pub no-triple : triplesWith a b (c ∷ []) ≡ [] → TripleMeans cells width a b c steps Hold
-  no-triple e T t = sym (ap (cubeCheck T steps width) e)
+module _ (cells : List ℕ) (room a b c budget : ℕ) where
+  pub no-triple : triplesWith a b (c ∷ []) ≡ [] → TripleMeans cells room a b c budget Hold
+  no-triple e T t = sym (ap (cubeCheck T budget room) e)
 
-  pub one-triple : (c ≡ a → ⊥) → (c ≡ b → ⊥) → (v : CubeAnswer) → CubeMeans cells width a b c steps v
-      → TripleMeans cells width a b c steps (told (record { a = a; b = b; c = c }) v)
+  pub one-triple : (c ≡ a → ⊥) → (c ≡ b → ⊥) → (v : CubeAnswer) → CubeMeans cells room a b c budget v
+      → TripleMeans cells room a b c budget (told (record { a = a; b = b; c = c }) v)
   one-triple f g v m T t =
       ap (λ x. triplesAs (told (record { a = a; b = b; c = c }) x)) (m T t)
-      ∙ (told-reported a b c (cubeAt T steps width (triple a b c)) ∙ sym (ap (cubeCheck T steps width) (third-counts a b c f g)))
+      ∙ (told-reported a b c (cubeAt T budget room (triple a b c)) ∙ sym (ap (cubeCheck T budget room) (third-counts a b c f g)))
 
 -- three letters of the table
 pub of-serves : {cells : List ℕ} {size : ℕ} {T : Presentation} → Of cells size T → (a b c : ℕ) → 1 ≤ a → a ≤ size → 1 ≤ b → b ≤ size → 1 ≤ c → c ≤ size

@@ -10,7 +10,8 @@ use Rattle.model.specs.Presentation.{Presentation, complement, complete, weight
 use Rattle.model.specs.Range.{InRange}
 use Rattle.model.proofs.Equiv.{total-more}
 use Rattle.model.proofs.Lists.{all-at}
-use Rattle.cells.specs.Layout.{Letters, cellAt, weightAt}
+use Rattle.model.specs.Images.{mostSize}
+use Rattle.cells.specs.Layout.{Letters, cellAt, weightAt, cellLength}
 use Rattle.cells.specs.Stands.{HoldsWord, HoldsFirst, Of}
 use Rattle.cells.proofs.Rules.{Rule, inside, word-cell, held-weight, light-letter}
 use Rattle.table_checks.specs.Table.{Related}
@@ -19,7 +20,7 @@ use Rattle.table_checks.specs.Table.{Related}
 pub record Next (cells : List ℕ) (cell k : ℕ) : Type 0 where
   pub few : k < 15
   pub inside : cell + 1 + k < length cells
-  pub letter : InRange 16 (getD cells (cell + 1 + k) 0)
+  pub letter : InRange mostSize (getD cells (cell + 1 + k) 0)
   pub light : suc (getD cells (weightAt (getD cells (cell + 1 + k) 0)) 0) ≤ 8
 
 module _ (cells : List ℕ) (size : ℕ) (T : Presentation) (o : Of cells size T) (a b : ℕ) (r : Related cells size a b) where
@@ -46,7 +47,7 @@ module _ (cells : List ℕ) (size : ℕ) (T : Presentation) (o : Of cells size T
   letter-light {c} h = omega (arith, letter-held h, light-letter cells T (o .stands) c (named h))
 
   module _ (cell : ℕ) (at : cell ≡ cellAt a b) where
-    pub cell-inside : cell + 16 ≤ length cells
+    pub cell-inside : cell + cellLength ≤ length cells
     cell-inside = omega (arith, at, inside cells T (o .stands) a b (named (r .first)) (named (r .second)))
 
     module _ (x y : Positive) (e : complete T a b ≡ complement x y) where

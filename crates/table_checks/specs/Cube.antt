@@ -15,9 +15,9 @@ use Rattle.model.specs.declared.answers.Ending.the-variants.{Finished, Undefine
 use Rattle.engine.specs.Gap.{letters}
 use Rattle.model.specs.Range.{Lettered}
 use Rattle.cells.specs.Stands.{Stands, Serves}
-use Rattle.table_checks.specs.Residues.{SideWorks}
-use Rattle.table_checks.specs.declared.residues.Residue.{Residue as ResidueAnswer}
-use Rattle.table_checks.specs.declared.residues.Residue.the-variants.{Word, Missing, Halted}
+use Rattle.table_checks.specs.Residuals.{SideWorks}
+use Rattle.table_checks.specs.declared.residuals.Residual.{Residual as ResidualAnswer}
+use Rattle.table_checks.specs.declared.residuals.Residual.the-variants.{Word, Missing, Halted}
 use Rattle.table_checks.specs.declared.cube.CubeVerdict.{CubeVerdict as CubeAnswer}
 use Rattle.table_checks.specs.declared.cube.CubeVerdict.the-variants.{Holds, Fails, Halts}
 
@@ -28,7 +28,7 @@ verdictOf (Undefined p k) = Fails
 verdictOf (Stopped s) = Halts s
 
 -- what R shows where L is undefined
-abbrev pub missingSide : ResidueAnswer → CubeAnswer
+abbrev pub missingSide : ResidualAnswer → CubeAnswer
 missingSide (Word k) = Fails
 missingSide Missing = Holds
 missingSide (Halted s) = Halts s
@@ -59,16 +59,16 @@ AgreeMeans cells bytes left right budget v =
     → v ≡ cubeAnswer (empties (reversing T budget (length bytes) (negative l ++ positive r)))
 
 -- a side worked out after the first `kept` bytes
-pub record RightSide (cells before : List ℕ) (kept a b c budget : ℕ) (after : List ℕ) (r : ResidueAnswer) : Type 0 where
+pub record RightSide (cells before : List ℕ) (kept a b c budget : ℕ) (after : List ℕ) (r : ResidualAnswer) : Type 0 where
   pub same-length : length after ≡ length before
   pub front : take kept after ≡ take kept before
   pub works : SideWorks cells a b c budget (drop kept after) r
 
 -- the verdict of L, which was worked out in so many bytes, with R
 abbrev pub AgainstMeans : List ℕ → ℕ → ℕ → ℕ → ℕ → ℕ → CubeAnswer → Type 0
-AgainstMeans cells width a b c budget v =
-    (T : Presentation) → Serves cells (positive (a ∷ b ∷ c ∷ [])) T → v ≡ cubeAnswer (against T budget width a b c (side T budget width a b c))
+AgainstMeans cells room a b c budget v =
+    (T : Presentation) → Serves cells (positive (a ∷ b ∷ c ∷ [])) T → v ≡ cubeAnswer (against T budget room a b c (side T budget room a b c))
 
 abbrev pub CubeMeans : List ℕ → ℕ → ℕ → ℕ → ℕ → ℕ → CubeAnswer → Type 0
-CubeMeans cells width a b c budget v =
-    (T : Presentation) → Serves cells (positive (a ∷ b ∷ c ∷ [])) T → v ≡ cubeAnswer (cubeAt T budget width (record { a = a; b = b; c = c }))
+CubeMeans cells room a b c budget v =
+    (T : Presentation) → Serves cells (positive (a ∷ b ∷ c ∷ [])) T → v ≡ cubeAnswer (cubeAt T budget room (record { a = a; b = b; c = c }))

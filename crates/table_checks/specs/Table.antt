@@ -64,8 +64,8 @@ triplesWith a b cs = map (λ c. record { a = a; b = b; c = c }) (others a b cs)
 
 -- the cube rule at the triple of a pair and a letter, under every table that has the three
 abbrev pub TripleMeans : List ℕ → ℕ → ℕ → ℕ → ℕ → ℕ → Triples → Type 0
-TripleMeans cells width a b c budget r =
-    (T : Presentation) → Serves cells (positive (a ∷ b ∷ c ∷ [])) T → triplesAs r ≡ cubeCheck T budget width (triplesWith a b (c ∷ []))
+TripleMeans cells room a b c budget r =
+    (T : Presentation) → Serves cells (positive (a ∷ b ∷ c ∷ [])) T → triplesAs r ≡ cubeCheck T budget room (triplesWith a b (c ∷ []))
 
 abbrev pub TriplesMean : List ℕ → ℕ → ℕ → ℕ → Triples → Type 0
-TriplesMean cells size width budget r = (T : Presentation) → Of cells size T → triplesAs r ≡ cubeCheck T budget width (triples size)
+TriplesMean cells size room budget r = (T : Presentation) → Of cells size T → triplesAs r ≡ cubeCheck T budget room (triples size)

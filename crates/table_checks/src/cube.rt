@@ -4,11 +4,11 @@ ghost use Prim.Native.Nat.{_≤_};
 ghost use lib.ListN.{length};
 ghost use Rattle.model.specs.Word.{positive};
 ghost use Rattle.cells.specs.Stands.{Ready};
-ghost use Rattle.table_checks.specs.Residues.{SideWorks};
+ghost use Rattle.table_checks.specs.Residuals.{SideWorks};
 ghost use Rattle.table_checks.specs.Cube.{verdictOf, missingSide, Ends, AgreeMeans, RightSide, AgainstMeans, CubeMeans};
-ghost use Rattle.table_checks.specs.declared.residues.Residue.the-variants.{Word};
-use crate::residues::Residue;
-use crate::residues::side;
+ghost use Rattle.table_checks.specs.declared.residuals.Residual.the-variants.{Word};
+use crate::residuals::Residual;
+use crate::residuals::side;
 use cells::layout::UNDEFINED;
 use cells::layout::cell_at;
 use engine::gap::Gap;
@@ -49,13 +49,13 @@ pub fn verdict_of(ending: Ending) -> CubeVerdict
 }
 
 // L is undefined: R has to be.
-pub fn missing_side(right: Residue) -> CubeVerdict
+pub fn missing_side(right: Residual) -> CubeVerdict
     ensures { λ r. ⌜ r ≡ missingSide right ⌝ }
 {
     match right {
-        Residue::Word(_) => CubeVerdict::Fails,
-        Residue::Missing => CubeVerdict::Holds,
-        Residue::Halted(stop) => CubeVerdict::Halts(stop),
+        Residual::Word(_) => CubeVerdict::Fails,
+        Residual::Missing => CubeVerdict::Holds,
+        Residual::Halted(stop) => CubeVerdict::Halts(stop),
     }
 }
 
@@ -89,7 +89,7 @@ pub fn right_side(
     b: u8,
     c: u8,
     budget: u16,
-) -> Residue
+) -> Residual
     requires ready { ⌜ Ready (now cells) (positive (a ∷ b ∷ c ∷ [])) ⌝ }
     requires kept { ⌜ kept ≤ length (now bytes) ⌝ }
     ensures { λ r. ⌜ RightSide (now (cells .entry)) (now (bytes .entry)) kept a b c budget (now (bytes .exit)) r ⌝ }
@@ -114,9 +114,9 @@ pub fn against_word(
 {
     let right = right_side(cells, bytes, kept, b, a, c, budget);
     match right {
-        Residue::Word(count) => agree(cells, bytes, kept, count, budget),
-        Residue::Missing => CubeVerdict::Fails,
-        Residue::Halted(stop) => CubeVerdict::Halts(stop),
+        Residual::Word(count) => agree(cells, bytes, kept, count, budget),
+        Residual::Missing => CubeVerdict::Fails,
+        Residual::Halted(stop) => CubeVerdict::Halts(stop),
     }
 }
 
@@ -124,7 +124,7 @@ pub fn against_word(
 pub fn against(
     cells: &[u8],
     bytes: &mut [u8],
-    left: Residue,
+    left: Residual,
     a: u8,
     b: u8,
     c: u8,
@@ -136,12 +136,12 @@ pub fn against(
     ensures against { λ r. ⌜ AgainstMeans (now (cells .entry)) (length (now (bytes .entry))) a b c budget r ⌝ }
 {
     match left {
-        Residue::Halted(stop) => CubeVerdict::Halts(stop),
-        Residue::Missing => {
+        Residual::Halted(stop) => CubeVerdict::Halts(stop),
+        Residual::Missing => {
             let right = side(cells, bytes, b, a, c, budget);
             missing_side(right)
         }
-        Residue::Word(kept) => against_word(cells, bytes, kept, a, b, c, budget),
+        Residual::Word(kept) => against_word(cells, bytes, kept, a, b, c, budget),
     }
 }
 

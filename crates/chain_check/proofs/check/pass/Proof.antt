@@ -23,7 +23,7 @@ abbrev begun : tie.After-unpack-letters → tie.Start
 begun c = start (c .before .before .before)
 
 abbrev place : tie.After-unpack-letters → ℕ
-place c = length (begun c .args .workspace .now) - begun c .args .m
+place c = length (begun c .args .workspace .now) - begun c .args .firsts
 
 returns : tie.Need-returns
 returns c =
@@ -31,7 +31,7 @@ returns c =
     let one = s .pre .forward .pair .one in (
       refl,
       λ T o u v f g es e.
-          let n : length u ≡ s .args .m = ap length (sym (forward-count one u f)) ∙ one .count-is in
+          let n : length u ≡ s .args .firsts = ap length (sym (forward-count one u f)) ∙ one .count-is in
           sym (passage-long T (length (s .args .workspace .now)) u es v (omega (arith, c .if1 .taken, n))),
     )
 
@@ -55,7 +55,7 @@ laid : (c : tie.After-unpack-letters) (u : Positive) → readForward (begun c .a
 laid c u f =
     let area = begun c .args .workspace .now in
     let one = begun c .pre .forward .pair .one in
-    let n : length u ≡ begun c .args .m = ap length (sym (forward-count one u f)) ∙ one .count-is in
+    let n : length u ≡ begun c .args .firsts = ap length (sym (forward-count one u f)) ∙ one .count-is in
     let fit : place c + length u ≡ length area = omega (arith, n, c .before .before .if1 .left) in
     let z : c .unpack-letters .last .1 .1 .1 .0 ≡ loaded area u (place c) fit =
     c .unpack-letters .ensures .1 (positive u) (one .read-signed ∙ ap (λ i. answered (positive i)) (forward-count one u f)) in (

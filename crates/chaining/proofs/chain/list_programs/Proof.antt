@@ -27,7 +27,7 @@ begun c = start (c .before .before)
 abbrev after-list : tie.After-wipe → tie.After-list
 after-list c = c .before .before .before .before .before .before
 
-fits : (s : tie.Start) → s .args .m + s .args .n ≤ length (s .args .workspace .now)
+fits : (s : tie.Start) → s .args .firsts + s .args .seconds ≤ length (s .args .workspace .now)
 fits s =
     let f = s .pre .0 in
     let p = f .pair in
@@ -43,8 +43,8 @@ fits s =
 from : (c : tie.After-load-programs) (T : Presentation) (o : Of (begun c .args .cells .now) (begun c .args .size) T) (u v : Positive)
     (eu : readForward (begun c .args .size) (begun c .args .first .now) ≡ answered u)
     (ev : readForward (begun c .args .size) (begun c .args .second .now) ≡ answered v)
-    → ListedFrom (begun c .args .cells .now) (begun c .args .size) (c .load-programs .last .1 .1 .1 .1 .1 .0) (begun c .args .m)
-    (length (begun c .args .workspace .now) - begun c .args .n) (begun c .args .relations) (length (begun c .args .answer .now)) T u v
+    → ListedFrom (begun c .args .cells .now) (begun c .args .size) (c .load-programs .last .1 .1 .1 .1 .1 .0) (begun c .args .firsts)
+    (length (begun c .args .workspace .now) - begun c .args .seconds) (begun c .args .relations) (length (begun c .args .answer .now)) T u v
     (begun c .pre .1 .0 T o u v eu ev .1)
 from c T o u v eu ev =
     let s = begun c in

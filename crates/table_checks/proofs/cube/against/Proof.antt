@@ -3,8 +3,8 @@ use mathlib.Core.Path.{_≡_, refl, subst, _∙_}
 use borrow.Author.Needs.{needs}
 use lib.ListN.{length}
 use Rattle.model.specs.Checks.{side}
-use Rattle.table_checks.specs.Residues.{Works, SideWorks}
-use Rattle.table_checks.specs.declared.residues.Residue.{Residue as ResidueAnswer}
+use Rattle.table_checks.specs.Residuals.{Works, SideWorks}
+use Rattle.table_checks.specs.declared.residuals.Residual.{Residual as ResidualAnswer}
 use Rattle.table_checks.proofs.Triples.{left-halts, left-missing}
 use Rattle.table_checks.proofs.BothSides.{turned-serves}
 use Rattle.table_checks.proofs.cube.against.Statement.{statement}
@@ -20,7 +20,7 @@ abbrev told : tie.After-side → tie.After-enum-told
 told c = c .before .before
 
 -- L, where it is known
-left-is : (c : tie.After-slice-known) (v : ResidueAnswer) → start c .args .left ≡ v
+left-is : (c : tie.After-slice-known) (v : ResidualAnswer) → start c .args .left ≡ v
     → SideWorks (start c .args .cells .now) (start c .args .a) (start c .args .b) (start c .args .c) (start c .args .budget) (start c .args .bytes .now) v
 left-is c v e =
     let a = start c .args in subst (SideWorks (a .cells .now) (a .a) (a .b) (a .c) (a .budget) (a .bytes .now)) e (start c .pre .1)

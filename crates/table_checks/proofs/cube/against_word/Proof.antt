@@ -2,7 +2,7 @@
 use mathlib.Core.Path.{_≡_, subst, _∙_}
 use borrow.Author.Needs.{needs}
 use Rattle.table_checks.specs.Cube.{RightSide}
-use Rattle.table_checks.specs.declared.residues.Residue.{Residue as ResidueAnswer}
+use Rattle.table_checks.specs.declared.residuals.Residual.{Residual as ResidualAnswer}
 use Rattle.table_checks.proofs.BothSides.{turned-serves, kept-fits, no-right-side, right-side-halts, both-found}
 use Rattle.table_checks.proofs.cube.against_word.Statement.{statement}
 use Rattle.table_checks.proofs.cube.against_word.Tie as tie
@@ -25,7 +25,7 @@ right-side-requires c κs =
     )
 
 -- R, where the answer is known
-right-is : (c : tie.After-right-side) (v : ResidueAnswer) → c .right-side .result ≡ v
+right-is : (c : tie.After-right-side) (v : ResidualAnswer) → c .right-side .result ≡ v
     → RightSide (start c .args .cells .now) (start c .args .bytes .now) (start c .args .kept) (start c .args .b) (start c .args .a) (start c .args .c)
     (start c .args .budget) (c .right-side .last .1 .0) v
 right-is c v e =

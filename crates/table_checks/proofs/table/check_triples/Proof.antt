@@ -13,6 +13,7 @@ use Rattle.table_checks.proofs.Passing.{of-serves}
 use Rattle.table_checks.proofs.Searching.{Left, left-all, enter-first, leave-first, enter-second, leave-second, all-hold, third-holds, third-ends}
 use Rattle.table_checks.proofs.table.check_triples.Statement.{statement}
 use Rattle.table_checks.proofs.table.check_triples.Tie as tie
+use Rattle.model.specs.Images.{mostSize}
 
 abbrev Inv-loop2 : tie.InvT-loop2
 Inv-loop2 cells size bytes₀ budget found₀ end a b c₀ bytes found c =
@@ -32,7 +33,7 @@ abbrev μ-loop : tie.MeasureT-loop
 
 abbrev Inv-triples : tie.InvT-triples
 Inv-triples cells size bytes₀ budget found₀ end a₀ bytes found a =
-    (1 ≤ a) × (a ≤ size + 1) × (size ≤ 16) × (found ≡ Hold) × (length bytes ≡ length bytes₀) × Left cells size budget (length bytes) (firsts size a)
+    (1 ≤ a) × (a ≤ size + 1) × (size ≤ mostSize) × (found ≡ Hold) × (length bytes ≡ length bytes₀) × Left cells size budget (length bytes) (firsts size a)
 
 abbrev μ-triples : tie.MeasureT-triples
 μ-triples cells size bytes₀ budget found₀ end a₀ bytes found a = size + 1 - a

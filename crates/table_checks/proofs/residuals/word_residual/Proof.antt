@@ -1,14 +1,14 @@
--- `table_checks::residues::word_residue` meets its contract.
+-- `table_checks::residuals::word_residual` meets its contract.
 use mathlib.Core.Path.{refl, sym, ap, subst, _∙_}
 use native.Mathlib.Omega.{arith}
 use lib.ListN.{length, getD}
 use Rattle.model.specs.Checks.{under}
-use Rattle.table_checks.specs.Residues.{Works}
-use Rattle.table_checks.proofs.Residuals.{under-works, under-long}
+use Rattle.table_checks.specs.Residuals.{Works}
+use Rattle.table_checks.proofs.Working.{under-works, under-long}
 use Rattle.table_checks.proofs.CellWords.{cell-of, rule-of, short-cell, cell-inside, words-loaded, words-searched, words-served}
 use borrow.Author.Needs.{needs}
-use Rattle.table_checks.proofs.residues.word_residue.Statement.{statement}
-use Rattle.table_checks.proofs.residues.word_residue.Tie as tie
+use Rattle.table_checks.proofs.residuals.word_residual.Statement.{statement}
+use Rattle.table_checks.proofs.residuals.word_residual.Tie as tie
 
 abbrev start : tie.After-shared-slice-known2 → tie.Start
 start c = c .before .before .before .before .before
@@ -139,7 +139,7 @@ returns-2 c =
     let tc = after-shared-slice-known2 (after-shared-slice-known3 k) .before .cell-at2 in
     let v = c .before .before .before .reversing in (
       v .ensures .0 ∙ (after-push-word (c .before .before .before) .push-word .ensures .1 .same-length ∙ k .push-inverse .ensures .1 .same-length),
-      λ T t x x′ y y′ ex ey. subst (Works (T .size) (under T (s .args .budget) (length (v .last .1 .0)) x y) (v .last .1 .0)) (sym (c .residue-of .ensures))
+      λ T t x x′ y y′ ex ey. subst (Works (T .size) (under T (s .args .budget) (length (v .last .1 .0)) x y) (v .last .1 .0)) (sym (c .residual-of .ensures))
           (under-works T x y (s .args .budget) (v .last .1 .0) (v .result)
           (words-loaded (s .args .cells .now) (s .args .bytes .now) (k .push-inverse .last .0)
           (after-push-word (c .before .before .before) .push-word .last .0) (s .args .a) (s .args .b) (s .args .c) (tb .result) (tc .result) (tb .ensures)
@@ -153,7 +153,7 @@ returns-2 c =
           (cell-of t (s .args .a) (s .args .c) (t .lettered .0) (t .lettered .1 .1 .0) y y′ ey) t))),
     )
 
-pub word-residue-spec : {M : Type 1} → statement M
-word-residue-spec =
+pub word-residual-spec : {M : Type 1} → statement M
+word-residual-spec =
     tie.close (tie.spec (λ c κs. search needs) (λ c κs. search needs) (λ c. search needs) cast-x (λ c. search needs) cast-y add-if1 returns
     push-inverse-requires push-word-requires (λ c. search needs) reversing-requires (λ c κs. search needs) same-length returns-2)

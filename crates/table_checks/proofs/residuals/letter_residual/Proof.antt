@@ -1,4 +1,4 @@
--- `table_checks::residues::letter_residue` meets its contract.
+-- `table_checks::residuals::letter_residual` meets its contract.
 use mathlib.Core.Path.{_≡_, sym, ap, _∙_}
 use mathlib.Core.List.{[], _∷_}
 use Prim.Native.Nat.{_≤_}
@@ -8,12 +8,12 @@ use Rattle.model.specs.Word.{positive}
 use Rattle.model.specs.Presentation.{Presentation}
 use Rattle.cells.specs.Stands.{Serves}
 use Rattle.cells.proofs.Rules.{open-cell, Rule}
-use Rattle.table_checks.specs.declared.residues.Residue.the-variants.{Word as Found}
-use Rattle.table_checks.proofs.Residuals.{letters-long, letters-open, letters-spent, letters-wide, letters-found}
+use Rattle.table_checks.specs.declared.residuals.Residual.the-variants.{Word as Found}
+use Rattle.table_checks.proofs.Working.{letters-long, letters-open, letters-spent, letters-wide, letters-found}
 use Rattle.table_checks.proofs.CellWords.{rule-of}
 use borrow.Author.Needs.{needs}
-use Rattle.table_checks.proofs.residues.letter_residue.Statement.{statement}
-use Rattle.table_checks.proofs.residues.letter_residue.Tie as tie
+use Rattle.table_checks.proofs.residuals.letter_residual.Statement.{statement}
+use Rattle.table_checks.proofs.residuals.letter_residual.Tie as tie
 
 abbrev after-cell-at2 : tie.After-shared-slice-known2 → tie.After-cell-at2
 after-cell-at2 c = c .before
@@ -100,7 +100,7 @@ returns-5 c T t =
     ∙ letters-found T (s .args .room) (s .args .a) (s .args .b) (some-room k) (w .x) (w .y) (w .rule) (s .args .budget) (c .before .if3 .left)
     (omega (arith, to-count k T t, from-count k T t, c .if4 .left))
 
-pub letter-residue-spec : {M : Type 1} → statement M
-letter-residue-spec =
+pub letter-residual-spec : {M : Type 1} → statement M
+letter-residual-spec =
     tie.close (tie.spec returns (λ c κs. search needs) (λ c κs. search needs) (λ c. search needs) cast-x (λ c. search needs) cast-y returns-2 returns-3
     add-if4 returns-4 returns-5)

@@ -1,4 +1,4 @@
--- `table_checks::residues::side` meets its contract.
+-- `table_checks::residuals::side` meets its contract.
 use mathlib.Core.Path.{_≡_, refl, sym, ap, _∙_}
 use mathlib.Core.List.{[], _∷_}
 use mathlib.Core.Logic.{⊎-elim}
@@ -8,71 +8,71 @@ use types.Run.{OneOf}
 use lib.ListN.{length}
 use Rattle.model.specs.Word.{Positive, positive}
 use Rattle.model.specs.Presentation.{Presentation}
-use Rattle.model.specs.Checks.{Residue, residue, under}
+use Rattle.model.specs.Checks.{Residual, residual, under}
 use Rattle.cells.specs.Stands.{Serves}
-use Rattle.table_checks.specs.declared.residues.Residue.{Residue as ResidueAnswer}
-use Rattle.table_checks.specs.declared.residues.Residue.the-variants.{Word, Missing, Halted}
-use Rattle.table_checks.proofs.residues.Residue.{the-type}
+use Rattle.table_checks.specs.declared.residuals.Residual.{Residual as ResidualAnswer}
+use Rattle.table_checks.specs.declared.residuals.Residual.the-variants.{Word, Missing, Halted}
+use Rattle.table_checks.proofs.residuals.Residual.{the-type}
 use Rattle.table_checks.proofs.Sides.{without-third, without-second, NoWord, a-word, first-ends, second-ends, both-found, found-rule, found-cell}
 use borrow.Author.Needs.{needs}
-use Rattle.table_checks.proofs.residues.side.Statement.{statement}
-use Rattle.table_checks.proofs.residues.side.Tie as tie
+use Rattle.table_checks.proofs.residuals.side.Statement.{statement}
+use Rattle.table_checks.proofs.residuals.side.Tie as tie
 
-abbrev after-word-residue : tie.After-bytes → tie.After-word-residue
-after-word-residue c = c .before
+abbrev after-word-residual : tie.After-bytes → tie.After-word-residual
+after-word-residual c = c .before
 
-abbrev start : tie.After-letter-residue → tie.Start
+abbrev start : tie.After-letter-residual → tie.Start
 start c = c .before .before .before
 
-abbrev Three : tie.After-letter-residue → Presentation → Type 0
+abbrev Three : tie.After-letter-residual → Presentation → Type 0
 Three c T = Serves (start c .args .cells .now) (positive (start c .args .a ∷ start c .args .b ∷ start c .args .c ∷ [])) T
 
-abbrev to-b : tie.After-letter-residue → Presentation → Residue
+abbrev to-b : tie.After-letter-residual → Presentation → Residual
 to-b c T = under T (start c .args .budget) (length (start c .args .bytes .now)) (start c .args .a ∷ []) (start c .args .b ∷ [])
 
-abbrev to-c : tie.After-letter-residue → Presentation → Residue
+abbrev to-c : tie.After-letter-residual → Presentation → Residual
 to-c c T = under T (start c .args .budget) (length (start c .args .bytes .now)) (start c .args .a ∷ []) (start c .args .c ∷ [])
 
-abbrev first : tie.After-enum-told → tie.After-letter-residue
+abbrev first : tie.After-enum-told → tie.After-letter-residual
 first c = c .before .before
 
-abbrev second : tie.After-letter-residue2 → tie.After-enum-told
+abbrev second : tie.After-letter-residual2 → tie.After-enum-told
 second c = c .before
 
-abbrev both : tie.After-enum-told2 → tie.After-letter-residue2
+abbrev both : tie.After-enum-told2 → tie.After-letter-residual2
 both c = c .before .before
 
--- the inner complements, where they are words
-word-b : (c : tie.After-enum-told) (T : Presentation) → Three (first c) T → (x : Positive) × (to-b (first c) T ≡ residue x)
+-- the inner residuals, where they are words
+word-b : (c : tie.After-enum-told) (T : Presentation) → Three (first c) T → (x : Positive) × (to-b (first c) T ≡ residual x)
 word-b c T t =
     a-word (to-b (first c) T) (c .enum-told .given .0 .0)
-    (sym (c .enum-told .given .1) ∙ first c .letter-residue .ensures T (without-third t))
+    (sym (c .enum-told .given .1) ∙ first c .letter-residual .ensures T (without-third t))
 
-word-c : (c : tie.After-enum-told2) (T : Presentation) → Three (first (second (both c))) T → (y : Positive) × (to-c (first (second (both c))) T ≡ residue y)
+word-c : (c : tie.After-enum-told2) (T : Presentation) → Three (first (second (both c))) T → (y : Positive) × (to-c (first (second (both c))) T ≡ residual y)
 word-c c T t =
     a-word (to-c (first (second (both c))) T) (c .enum-told2 .given .0 .0)
-    (sym (c .enum-told2 .given .1) ∙ both c .letter-residue2 .ensures T (without-second t))
+    (sym (c .enum-told2 .given .1) ∙ both c .letter-residual2 .ensures T (without-second t))
 
 -- the other variants than `Word`
-no-word : (r : ResidueAnswer) → OneOf (1 ∷ 2 ∷ []) (tagOf the-type r) → NoWord r
+no-word : (r : ResidualAnswer) → OneOf (1 ∷ 2 ∷ []) (tagOf the-type r) → NoWord r
 no-word (Word k) h = ⊎-elim (λ e. omega arith) (λ e. omega arith) h
 no-word Missing h = tt
 no-word (Halted s) h = tt
 
-letter-residue-requires : tie.Need-letter-residue-requires
-letter-residue-requires c κs = let s = c .before .before in (s .pre .0, without-third (s .pre .1))
+letter-residual-requires : tie.Need-letter-residual-requires
+letter-residual-requires c κs = let s = c .before .before in (s .pre .0, without-third (s .pre .1))
 
 returns : tie.Need-returns
 returns c =
     let k = c .before in
     let a = start k .args in (
       refl,
-      λ T t. first-ends T (a .budget) (length (a .bytes .now)) (a .a) (a .b) (a .c) (a .bytes .now) (k .letter-residue .result)
-          (no-word (k .letter-residue .result) (c .match .keys2)) (k .letter-residue .ensures T (without-third t)),
+      λ T t. first-ends T (a .budget) (length (a .bytes .now)) (a .a) (a .b) (a .c) (a .bytes .now) (k .letter-residual .result)
+          (no-word (k .letter-residual .result) (c .match .keys2)) (k .letter-residual .ensures T (without-third t)),
     )
 
-letter-residue-requires-2 : tie.Need-letter-residue-requires-2
-letter-residue-requires-2 c κs = let s = start (first c) in (s .pre .0, without-second (s .pre .1))
+letter-residual-requires-2 : tie.Need-letter-residual-requires-2
+letter-residual-requires-2 c κs = let s = start (first c) in (s .pre .0, without-second (s .pre .1))
 
 returns-2 : tie.Need-returns-2
 returns-2 c =
@@ -80,12 +80,12 @@ returns-2 c =
     let a = start (first (second k)) .args in (
       refl,
       λ T t. let x = word-b (second k) T t in
-          second-ends T (a .budget) (length (a .bytes .now)) (a .a) (a .b) (a .c) (x .0) (x .1) (a .bytes .now) (k .letter-residue2 .result)
-          (no-word (k .letter-residue2 .result) (c .match2 .keys2)) (k .letter-residue2 .ensures T (without-second t)),
+          second-ends T (a .budget) (length (a .bytes .now)) (a .a) (a .b) (a .c) (x .0) (x .1) (a .bytes .now) (k .letter-residual2 .result)
+          (no-word (k .letter-residual2 .result) (c .match2 .keys2)) (k .letter-residual2 .ensures T (without-second t)),
     )
 
-word-residue-requires : tie.Need-word-residue-requires
-word-residue-requires c κs =
+word-residual-requires : tie.Need-word-residual-requires
+word-residual-requires c κs =
     let k = c .before in
     let s = start (first (second (both k))) in
     let a = s .args in
@@ -100,9 +100,9 @@ word-residue-requires c κs =
 
 returns-3 : tie.Need-returns-3
 returns-3 c =
-    let k = after-word-residue (c .before) .before .before in
+    let k = after-word-residual (c .before) .before .before in
     let a = start (first (second (both k))) .args in
-    let q = c .before .before .word-residue in (
+    let q = c .before .before .word-residual in (
       q .ensures .0,
       λ T t.
           let x = word-b (second (both k)) T t in
@@ -118,5 +118,5 @@ returns-3 c =
 
 pub side-spec : {M : Type 1} → statement M
 side-spec =
-    tie.close (tie.spec letter-residue-requires (λ c. search needs) returns letter-residue-requires-2 (λ c. search needs) returns-2 word-residue-requires
+    tie.close (tie.spec letter-residual-requires (λ c. search needs) returns letter-residual-requires-2 (λ c. search needs) returns-2 word-residual-requires
     (λ c. search needs) returns-3)
