@@ -1,23 +1,44 @@
 -- What checking a chain between two loaded programs comes to.
 use mathlib.Core.List.{List}
+use mathlib.Core.Bool.{cond}
 use mathlib.Core.Logic.{_↔_}
 use mathlib.Core.Path.{_≡_}
-use Prim.Native.Nat.{ℕ}
+use Prim.Native.Nat.{ℕ, _≤_}
 use lib.ListN.{length}
 use Rattle.model.specs.Word.{Positive}
 use Rattle.model.specs.Presentation.{Presentation}
-use Rattle.model.specs.Equivalence.{Entry, Joined}
+use Rattle.model.specs.Equivalence.{Entry, equal, Joined}
 use Rattle.model.specs.Outcome.{Outcome, answered}
-use Rattle.model.specs.Images.{chainImage, readChain}
+use Rattle.model.specs.Images.{chainImage, readChain, mostSize}
 use Rattle.model.specs.Range.{AreBytes, ChainInRange}
-use Rattle.model.specs.Services.{Passage, joins, readForward, passage, check}
+use Rattle.model.specs.Services.{Passage, joins, ends-elsewhere, readForward, followed, passage, check}
 use Rattle.model.specs.Areas.{Compares, workspaceAfter}
 use Rattle.model.specs.Stated.{checked}
 use Rattle.model.specs.declared.answers.Checked.{Checked}
 use Rattle.theory.specs.Passages.{Passes}
 use Rattle.images.specs.Chains.{ChainOf}
+use Rattle.images.specs.Programs.{ForwardOf}
+use Rattle.swaps.specs.Held.{heldAt, Placed}
 use Rattle.cells.specs.Stands.{Of}
 use Rattle.loading.specs.Loading.{Forward}
+
+-- a word with a gap, and an accepted forward program
+pub record Arrives (bytes : List ℕ) (left right : ℕ) (second : List ℕ) (size count : ℕ) : Type 0 where
+  pub some : 1 ≤ size
+  pub few : size ≤ mostSize
+  pub placed : Placed bytes left right
+  pub forward : ForwardOf second size count
+
+-- whether the word is the program's
+abbrev pub ArrivalMeans : List ℕ → ℕ → ℕ → List ℕ → ℕ → Checked → Type 0
+ArrivalMeans bytes left right second size r =
+    (v : Positive) → readForward size second ≡ answered v → checked r ≡ answered (cond (equal (heldAt bytes left right) v) joins ends-elsewhere)
+
+-- where the entries lead from the word that stands at the area's end
+abbrev pub LoadedMeans : List ℕ → ℕ → List ℕ → List ℕ → List ℕ → ℕ → Checked → Type 0
+LoadedMeans cells size second entries bytes right r =
+    (T : Presentation) → Of cells size T → (v : Positive) → readForward size second ≡ answered v → (es : List Entry)
+    → readChain size entries ≡ answered es → checked r ≡ followed T (length bytes) 0 (heldAt bytes 0 right) es v
 
 pub record ForwardChain (cells : List ℕ) (size : ℕ) (first : List ℕ) (firsts : ℕ) (second : List ℕ) (seconds : ℕ) (entries : List ℕ)
     (entry-count : ℕ) : Type 0 where

@@ -3,7 +3,9 @@ ghost use mathlib.Core.Path.{_≡_};
 ghost use lib.ListN.{length};
 ghost use Rattle.model.specs.Services.{check};
 ghost use Rattle.model.specs.Stated.{checked};
-ghost use Rattle.chain_check.specs.Check.{ForwardChain, PassageMeans, Checks, CheckPromise};
+ghost use Rattle.images.specs.Programs.{ForwardOf};
+ghost use Rattle.swaps.specs.Follow.{Follows};
+ghost use Rattle.chain_check.specs.Check.{Arrives, ArrivalMeans, LoadedMeans, ForwardChain, PassageMeans, Checks, CheckPromise};
 use areas::bytes::wipe;
 use cells::layout::CELLS;
 use engine::gap::Gap;
@@ -21,7 +23,53 @@ use swaps::follow::follow;
 use swaps::follow::spells;
 use swaps::held::carry;
 
-// Follows the entries from the first program, loaded at the workspace's end, and compares the word they lead to with the second.
+// Whether the word that the entries led to is the second program. It is brought together at the workspace's start.
+pub fn arrive(workspace: &mut [u8], last: Gap, second: &[u8], size: u8, seconds: u16) -> Checked
+    requires { ⌜ Arrives (now workspace) (last .left) (last .right) (now second) size seconds ⌝ }
+    ensures length { λ r. ⌜ length (now (workspace .exit)) ≡ length (now (workspace .entry)) ⌝ }
+    ensures arrival { λ r. ⌜ ArrivalMeans (now (workspace .entry)) (last .left) (last .right) (now (second .entry)) size r ⌝ }
+{
+    let all = last.left + (workspace.len() - last.right);
+    carry(workspace, last, all);
+    let same = spells(workspace, all, second, size, seconds);
+    if same {
+        return Checked::Joins;
+    }
+    Checked::EndsElsewhere
+}
+
+// Follows the entries from the word that stands from `right` on, and compares the word they lead to with the second program.
+pub fn pass_loaded(
+    cells: &[u8],
+    size: u8,
+    second: &[u8],
+    seconds: u16,
+    entries: &[u8],
+    count: u16,
+    workspace: &mut [u8],
+    right: usize,
+) -> Checked
+    requires follows { ⌜ Follows (now cells) size (now entries) count (now workspace) 0 right ⌝ }
+    requires second { ⌜ ForwardOf (now second) size seconds ⌝ }
+    ensures length { λ r. ⌜ length (now (workspace .exit)) ≡ length (now (workspace .entry)) ⌝ }
+    ensures passage { λ r. ⌜ LoadedMeans (now (cells .entry)) size (now (second .entry)) (now (entries .entry)) (now (workspace .entry)) right r ⌝ }
+{
+    let followed = follow(
+        cells,
+        size,
+        entries,
+        count,
+        workspace,
+        Gap { left: 0, right },
+    );
+    match followed {
+        Followed::Breaks(k) => Checked::Breaks { entry: k as usize },
+        Followed::Short => Checked::Refused(Refusal::WorkspaceShort(Place::Programs)),
+        Followed::Ended(last) => arrive(workspace, last, second, size, seconds),
+    }
+}
+
+// Follows the entries from the first program, loaded at the workspace's end.
 pub fn pass(
     cells: &[u8],
     size: u8,
@@ -45,27 +93,16 @@ pub fn pass(
     }
     let right = end - letters;
     unpack_letters(first, size, firsts, workspace, right);
-    let followed = follow(
+    pass_loaded(
         cells,
         size,
+        second,
+        seconds,
         entries,
         count,
         workspace,
-        Gap { left: 0, right },
-    );
-    match followed {
-        Followed::Breaks(k) => Checked::Breaks { entry: k as usize },
-        Followed::Short => Checked::Refused(Refusal::WorkspaceShort(Place::Programs)),
-        Followed::Ended(last) => {
-            let all = last.left + (end - last.right);
-            carry(workspace, last, all);
-            let same = spells(workspace, all, second, size, seconds);
-            if same {
-                return Checked::Joins;
-            }
-            Checked::EndsElsewhere
-        }
-    }
+        right,
+    )
 }
 
 // Two accepted forward programs and an accepted chain under a table that was loaded. The workspace is wiped.

@@ -3,13 +3,13 @@ use mathlib.Core.Path.{_≡_, sym, ap, ap₂, subst, _∙_}
 use mathlib.Core.List.{List, [], _∷_, _++_}
 use Prim.Native.Nat.{ℕ, suc, _+_, _-_, _^_, _≤_, _<_}
 use native.Mathlib.Omega.{arith}
-use lib.ListN.{length, take, drop, getD, length-append}
+use lib.ListN.{length, take, getD, length-append}
 use Rattle.model.specs.Word.{Positive, positive, negative, inverse}
 use Rattle.model.specs.Equivalence.{Entry}
 use Rattle.model.specs.Images.{offsetWidth, entryBits, entryPosition, mostSize, mostLength}
 use Rattle.engine.specs.Gap.{letters}
-use Rattle.engine.specs.Turn.{Pushed}
-use Rattle.cells.specs.Layout.{cellAt, cellLength}
+use Rattle.engine.specs.Turn.{CellFits, cellLetters, Pushed}
+use Rattle.cells.specs.Layout.{Letters, cellAt}
 use Rattle.model.specs.Range.{InRange}
 use Rattle.engine.proofs.Lettering.{length-positive, length-negative}
 use Rattle.engine.proofs.Stepping.{cell-letters}
@@ -18,7 +18,7 @@ use Rattle.chain_listing.specs.Faces.{Face, below, passedOf}
 use Rattle.chain_listing.specs.Layout.{Layout}
 use Rattle.entries.specs.Entry.{EntryInside}
 use Rattle.bits.specs.Fields.{Appended}
-use Rattle.chain_listing.specs.Course.{Task, Course, Situation, TopDone}
+use Rattle.chain_listing.specs.Course.{Task, Course, Situation, TopDone, FacePassed}
 use Rattle.chain_listing.proofs.Ends.{relations-within}
 use Rattle.chain_listing.proofs.Marks.{marked, markedDone, passed-marked, slots-marked, length-marked}
 use Rattle.chain_listing.proofs.Courses.{a-named, b-named, to-cell, from-cell, passed-short, listed, all-done, emitted}
@@ -58,35 +58,28 @@ module _ {t : Task} {cells : List ℕ} {size total : ℕ} {bytes answer : List �
   pub b-top : InRange size b
   b-top = subst (InRange size) (top .is-b) face-b
 
-  pub pair-a : InRange mostSize a
+  pair-a : InRange mostSize a
   pair-a = wide (s .settled) a-top
 
-  pub pair-b : InRange mostSize b
+  pair-b : InRange mostSize b
   pair-b = wide (s .settled) b-top
 
-  pub to-inside : cellAt a b + cellLength ≤ length cells
-  to-inside = cell-inside (s .settled) a-top b-top
+  to-is : cellAt a b ≡ cellAt (f .a) (f .b)
+  to-is = ap₂ (λ i j. cellAt i j) (sym (top .is-a)) (sym (top .is-b))
 
-  pub from-inside : cellAt b a + cellLength ≤ length cells
-  from-inside = cell-inside (s .settled) b-top a-top
+  from-is : cellAt b a ≡ cellAt (f .b) (f .a)
+  from-is = ap₂ (λ i j. cellAt i j) (sym (top .is-b)) (sym (top .is-a))
 
-  to-is : (to : ℕ) → to ≡ cellAt a b → to ≡ cellAt (f .a) (f .b)
-  to-is to e = e ∙ ap₂ (λ i j. cellAt i j) (sym (top .is-a)) (sym (top .is-b))
+  to-count : getD cells (cellAt a b) 0 ≡ length (f .done)
+  to-count = ap (λ i. getD cells i 0) to-is ∙ (to-cell (s .settled) course .count ∙ ap length (all-done (s .settled) course (top .none-left)))
 
-  from-is : (from : ℕ) → from ≡ cellAt b a → from ≡ cellAt (f .b) (f .a)
-  from-is from e = e ∙ ap₂ (λ i j. cellAt i j) (sym (top .is-b)) (sym (top .is-a))
+  from-count : getD cells (cellAt b a) 0 ≡ length (f .other)
+  from-count = ap (λ i. getD cells i 0) from-is ∙ from-cell (s .settled) course .count
 
-  pub to-count : (to : ℕ) → to ≡ cellAt a b → getD cells to 0 ≡ length (f .done)
-  to-count to e =
-      ap (λ i. getD cells i 0) (to-is to e) ∙ (to-cell (s .settled) course .count ∙ ap length (all-done (s .settled) course (top .none-left)))
+  pub from-short : getD cells (cellAt b a) 0 ≤ mostLength
+  from-short = omega (arith, from-count, from-cell (s .settled) course .short)
 
-  pub from-count : (from : ℕ) → from ≡ cellAt b a → getD cells from 0 ≡ length (f .other)
-  from-count from e = ap (λ i. getD cells i 0) (from-is from e) ∙ from-cell (s .settled) course .count
-
-  pub from-short : (from : ℕ) → from ≡ cellAt b a → getD cells from 0 ≤ mostLength
-  from-short from e = omega (arith, from-count from e, from-cell (s .settled) course .short)
-
-  pub passed-is : at .passed ≡ length (passedOf (top .others) (s .done)) + suc (length (f .done))
+  passed-is : at .passed ≡ length (passedOf (top .others) (s .done)) + suc (length (f .done))
   passed-is = passed-of s (top .top) ∙ length-append (passedOf (top .others) (s .done)) (f .a ∷ f .done)
 
   pub passed-few : at .passed < 2 ^ offsetWidth
@@ -122,28 +115,33 @@ module _ {t : Task} {cells : List ℕ} {size total : ℕ} {bytes answer : List �
         s .held .inside,
       )
 
-  pub room : (from : ℕ) → from ≡ cellAt b a → at .left + getD cells from 0 ≤ at .right
-  room from e = omega (arith, room-here, from-count from e)
+  room : at .left + getD cells (cellAt b a) 0 ≤ at .right
+  room = omega (arith, room-here, from-count)
 
-  module _ (to from offset : ℕ) (et : to ≡ cellAt a b) (ef : from ≡ cellAt b a) (eo : offset ≡ at .passed - getD cells to 0 - 1) where
-    pub offset-is : offset ≡ length (passedOf (top .others) (s .done))
-    offset-is = omega (arith, passed-is, to-count to et)
+  pub face-passed : FacePassed cells (at .passed) a b
+  face-passed =
+      record { letters = (pair-a, pair-b); inside = omega (arith, cell-inside (s .settled) a-top b-top); long = omega (arith, to-count, passed-is) }
+
+  pub rest-fits : Letters b a × CellFits cells (cellAt b a) bytes (at .left + getD cells (cellAt b a) 0)
+  rest-fits = (
+    (pair-b, pair-a),
+    record { held = omega (arith, cell-inside (s .settled) b-top a-top, from-short); room = omega arith; inside = omega (arith, room, s .held .inside) },
+  )
+
+  module _ (offset end : ℕ) (eo : offset ≡ at .passed - getD cells (cellAt a b) 0 - 1) (ee : end ≡ at .left + getD cells (cellAt b a) 0) where
+    offset-is : offset ≡ length (passedOf (top .others) (s .done))
+    offset-is = omega (arith, passed-is, to-count)
 
     pub emitted-here : {after pushed : List ℕ} → Appended answer (entryPosition size (at .emitted)) (entryBits size (record { offset = offset; a = a; b = b }))
         after
-        → Pushed (inverse (letters (take (getD cells from 0) (drop (from + 1) cells)))) bytes (at .left + getD cells from 0) (getD cells from 0) pushed
+        → Pushed (inverse (cellLetters cells (cellAt b a))) bytes end (getD cells (cellAt b a) 0) pushed
         → Situation t cells size total [] pushed after
-        (record {
-          left = at .left + getD cells from 0;
-          right = at .right;
-          passed = offset + 1;
-          emitted = at .emitted + 1;
-          stacked = at .stacked - 1;
-        })
-    emitted-here {after} {pushed} p q =
-        let word : inverse (letters (take (getD cells from 0) (drop (from + 1) cells))) ≡ negative (f .other) =
-        ap inverse (cell-letters (s .settled .stands .few) (from-cell (s .settled) course) (from + 1) (getD cells from 0) (ap (λ i. i + 1) (from-is from ef))
-        (from-count from ef)) in
+        (record { left = end; right = at .right; passed = offset + 1; emitted = at .emitted + 1; stacked = at .stacked - 1 })
+    emitted-here {after} {pushed} p q′ =
+        let count = getD cells (cellAt b a) 0 in
+        let q = subst (λ i. Pushed (inverse (cellLetters cells (cellAt b a))) bytes i count pushed) ee q′ in
+        let word : inverse (cellLetters cells (cellAt b a)) ≡ negative (f .other) =
+        ap inverse (cell-letters (s .settled .stands .few) (from-cell (s .settled) course) (cellAt b a + 1) count (ap (λ i. i + 1) from-is) from-count) in
         record {
           settled = s .settled;
           rest = f .other ++ s .rest;
@@ -155,14 +153,14 @@ module _ {t : Task} {cells : List ℕ} {size total : ℕ} {bytes answer : List �
           held =
               record {
                 wide = q .same-length ∙ s .held .wide;
-                ordered = room from ef;
+                ordered = omega (arith, ee, room);
                 inside = omega (arith, q .same-length, s .held .inside);
                 rest-held =
-                    pushed-rest bytes pushed (at .left) (getD cells from 0) (s .rest) (f .other) _ word (from-count from ef)
+                    ap (λ i. letters (take i pushed)) ee ∙ pushed-rest bytes pushed (at .left) count (s .rest) (f .other) _ word from-count
                     (omega (arith, s .held .ordered, s .held .inside)) (s .held .rest-held) q;
                 left-held =
-                    pushed-left bytes pushed (at .left) (getD cells from 0) (s .rest) (f .other) _ word (from-count from ef)
-                    (omega (arith, s .held .ordered, s .held .inside)) (s .held .rest-held) q (at .right) (room from ef)
+                    pushed-left bytes pushed (at .left) count (s .rest) (f .other) _ word from-count
+                    (omega (arith, s .held .ordered, s .held .inside)) (s .held .rest-held) q (at .right) room
                     ∙ s .held .left-held;
                 passed =
                     omega (

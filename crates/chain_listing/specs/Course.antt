@@ -2,7 +2,7 @@
 use mathlib.Core.List.{List, [], _∷_, _++_, map}
 use mathlib.Core.Path.{_≡_}
 use Prim.Native.Nat.{ℕ, _+_, _-_, _*_, _^_, _≤_, _<_}
-use lib.ListN.{length, take, drop}
+use lib.ListN.{length, take, drop, getD}
 use Rattle.model.specs.Word.{Word, Positive, positive, negative}
 use Rattle.model.specs.Presentation.{Presentation, complement, complete, weigh}
 use Rattle.model.specs.Images.{offsetWidth, mostLength, wordLengths}
@@ -11,6 +11,7 @@ use Rattle.model.specs.Reversing.{finished, run}
 use Rattle.model.specs.Services.{chainBytes}
 use Rattle.engine.specs.Gap.{letters}
 use Rattle.model.specs.Range.{Lettered}
+use Rattle.cells.specs.Layout.{Letters, cellAt}
 use Rattle.cells.specs.Stands.{Stands}
 use Rattle.chain_listing.specs.Faces.{Face, slotOf, wordOf, passedOf, Stacked}
 use Rattle.chain_listing.specs.Layout.{Layout}
@@ -84,6 +85,12 @@ pub record TopDone (faces : List Face) (a b : ℕ) : Type 0 where
   pub none-left : face .left ≡ []
   pub is-a : face .a ≡ a
   pub is-b : face .b ≡ b
+
+-- a and the letters of C(a,b) are among those that are passed
+pub record FacePassed (cells : List ℕ) (passed a b : ℕ) : Type 0 where
+  pub letters : Letters a b
+  pub inside : cellAt a b < length cells
+  pub long : getD cells (cellAt a b) 0 < passed
 
 -- for some task
 abbrev pub Somewhere : List ℕ → ℕ → ℕ → Positive → List ℕ → List ℕ → Progress → Type 0

@@ -8,7 +8,7 @@ ghost use Rattle.chain_listing.specs.Layout.{Layout};
 ghost use Rattle.chain_listing.specs.Course.{Somewhere, WalkMeans};
 ghost use Rattle.chain_listing.specs.Listing.{Listable, ListMeans};
 use crate::moves::Progress;
-use crate::moves::meet;
+use crate::moves::take_letter;
 use crate::moves::turn;
 use bits::write_field;
 use engine::gap::Gap;
@@ -43,20 +43,10 @@ pub fn walk(
         if at.stacked > 0 {
             at = turn(cells, size, total, bytes, at, answer);
         } else {
-            let right = at.right;
-            if right == bytes.len() {
+            if at.right == bytes.len() {
                 return;
             }
-            let next = bytes[right];
-            let after = right + 1;
-            let taken = Progress {
-                left: at.left,
-                right: after,
-                passed: at.passed,
-                emitted: at.emitted,
-                stacked: at.stacked,
-            };
-            at = meet(cells, size, total, bytes, taken, next, answer);
+            at = take_letter(cells, size, total, bytes, at, answer);
         }
     }
 }

@@ -1,8 +1,11 @@
 ghost use mathlib.Core.List.{[], _∷_};
 ghost use mathlib.Core.Path.{_≡_};
-ghost use Prim.Native.Nat.{_≤_};
-ghost use lib.ListN.{length};
-ghost use Rattle.chain_listing.specs.Course.{Somewhere, Emittable, Moves, Emits};
+ghost use Prim.Native.Nat.{_+_, _-_, _≤_, _<_};
+ghost use lib.ListN.{length, getD};
+ghost use Rattle.model.specs.Word.{inverse};
+ghost use Rattle.cells.specs.Layout.{Letters, cellAt};
+ghost use Rattle.engine.specs.Turn.{CellFits, cellLetters, Pushed};
+ghost use Rattle.chain_listing.specs.Course.{Somewhere, FacePassed, Emittable, Moves, Emits};
 use cells::layout::cell_at;
 use engine::step::push_inverse;
 use entries::entry::ChainEntry;
@@ -59,6 +62,55 @@ pub fn meet(
     }
 }
 
+// With no face to be done, the next letter is one of the second word, where one is left.
+pub fn take_letter(
+    cells: &[u8],
+    size: u8,
+    total: usize,
+    bytes: &[u8],
+    at: Progress,
+    answer: &mut [u8],
+) -> Progress
+    requires somewhere { ⌜ Somewhere (now cells) size total [] (now bytes) (now answer) at ⌝ }
+    requires more { ⌜ (at .stacked ≡ 0) × (at .right < length (now bytes)) ⌝ }
+    ensures { λ r. ⌜ Moves (now (cells .entry)) size total [] (now (bytes .entry)) (now (answer .entry)) at (now (bytes .entry)) (now (answer .exit)) r ⌝ }
+{
+    let right = at.right;
+    let next = bytes[right];
+    let taken = Progress {
+        left: at.left,
+        right: right + 1,
+        passed: at.passed,
+        emitted: at.emitted,
+        stacked: at.stacked,
+    };
+    meet(cells, size, total, bytes, taken, next, answer)
+}
+
+// Where the face of a and b begins, once all letters of C(a,b) behind a are passed.
+pub fn face_start(cells: &[u8], passed: usize, a: u8, b: u8) -> usize
+    requires { ⌜ FacePassed (now cells) passed a b ⌝ }
+    ensures { λ r. ⌜ r ≡ passed - getD (now (cells .entry)) (cellAt a b) 0 - 1 ⌝ }
+{
+    let to = cell_at(a, b);
+    let x = cells[to] as usize;
+    passed - x - 1
+}
+
+// C(a,b) goes to the front of the rest, whose inverse ends at `left`; where that ends then.
+pub fn extend_rest(cells: &[u8], bytes: &mut [u8], left: usize, a: u8, b: u8) -> usize
+    requires { ⌜ Letters a b × CellFits (now cells) (cellAt a b) (now bytes) (left + getD (now cells) (cellAt a b) 0) ⌝ }
+    ensures place { λ r. ⌜ r ≡ left + getD (now (cells .entry)) (cellAt a b) 0 ⌝ }
+    ensures pushed { λ r. ⌜ Pushed (inverse (cellLetters (now (cells .entry)) (cellAt a b))) (now (bytes .entry)) r
+        (getD (now (cells .entry)) (cellAt a b) 0) (now (bytes .exit)) ⌝ }
+{
+    let from = cell_at(a, b);
+    let y = cells[from] as usize;
+    let end = left + y;
+    push_inverse(bytes, end, cells, from);
+    end
+}
+
 // The top face is done: its entry is written, and C(b,a) goes to the front of the rest.
 pub fn emit(
     cells: &[u8],
@@ -73,26 +125,17 @@ pub fn emit(
     ensures length { λ r. ⌜ length (now (bytes .exit)) ≡ length (now (bytes .entry)) ⌝ }
     ensures emits { λ r. ⌜ Emits (now (cells .entry)) size (now (bytes .entry)) (now (answer .entry)) at a b (now (bytes .exit)) (now (answer .exit)) r ⌝ }
 {
-    let to = cell_at(a, b);
-    let from = cell_at(b, a);
-    let x = cells[to] as usize;
-    let y = cells[from] as usize;
-    let start = at.passed - x - 1;
-    let passed = start + 1;
-    let left = at.left + y;
-    let index = at.emitted;
-    let emitted = index + 1;
-    let stacked = at.stacked - 1;
+    let start = face_start(cells, at.passed, a, b);
     let offset = start as u16;
     let entry = ChainEntry { offset, a, b };
-    write_entry(answer, size, index, entry);
-    push_inverse(bytes, left, cells, from);
+    write_entry(answer, size, at.emitted, entry);
+    let left = extend_rest(cells, bytes, at.left, b, a);
     Progress {
         left,
         right: at.right,
-        passed,
-        emitted,
-        stacked,
+        passed: start + 1,
+        emitted: at.emitted + 1,
+        stacked: at.stacked - 1,
     }
 }
 

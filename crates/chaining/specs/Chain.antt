@@ -12,7 +12,19 @@ use Rattle.model.specs.Areas.{begins, Compares, Listed, workspaceAfter, ChainAr
 use Rattle.model.specs.Stated.{compared}
 use Rattle.model.specs.declared.answers.Compared.{Compared}
 use Rattle.cells.specs.Stands.{Of}
-use Rattle.comparing.specs.Compare.{CompareSays}
+use Rattle.comparing.specs.Compare.{Ended, CompareSays}
+
+-- under every table that the cells stand for: the comparison of the programs in a workspace of so many bytes says `same`, with so many relations
+abbrev pub EndsSame : List ℕ → ℕ → List ℕ → List ℕ → ℕ → ℕ → Type 0
+EndsSame cells size first second room relations =
+    (T : Presentation) → Of cells size T → (u v : Positive) → readForward size first ≡ answered u → readForward size second ≡ answered v
+    → (budget budget : ℕ) × Ended T u v budget room budget relations
+
+-- a chain between them stands in the answer area, with an entry for each
+abbrev pub ProgramsListed : List ℕ → ℕ → List ℕ → List ℕ → ℕ → List ℕ → List ℕ → Type 0
+ProgramsListed cells size first second relations before after =
+    (T : Presentation) → Of cells size T → (u v : Positive) → readForward size first ≡ answered u → readForward size second ≡ answered v
+    → Listed T u v relations (chainBytes (T .size) relations) before after
 
 -- the answer area: a chain after `same`, else as it was
 abbrev pub Area : Presentation → Positive → Positive → List ℕ → List ℕ → Outcome Verdict → Type 0

@@ -1,13 +1,14 @@
 // Chain (specification 6.6): as compare; where the verdict is `same`, a chain of swaps is listed in the answer area.
 ghost use mathlib.Core.Path.{_≡_};
 ghost use Prim.Native.Nat.{_≤_};
+ghost use lib.ListN.{length, replicate};
 ghost use Rattle.model.specs.Outcome.{mapped};
-ghost use Rattle.model.specs.Services.{chain, chainAnswer};
+ghost use Rattle.model.specs.Services.{chainBytes, chain, chainAnswer};
 ghost use Rattle.model.specs.Stated.{compared, chained};
 ghost use Rattle.model.specs.Images.{mostSize};
 ghost use Rattle.loading.specs.Loading.{Forward};
 ghost use Rattle.loading.specs.Weighing.{Weigh};
-ghost use Rattle.chaining.specs.Chain.{Lists, ChainPromise};
+ghost use Rattle.chaining.specs.Chain.{EndsSame, ProgramsListed, Lists, ChainPromise};
 use areas::bytes::wipe;
 use cells::layout::CELLS;
 use chain_listing::listing::list;
@@ -21,6 +22,39 @@ use loading::reversing::load_programs;
 use model::answers::Chained;
 use model::answers::Compared;
 use model::answers::Refusal;
+
+// Lists a chain of two programs whose comparison in this workspace said `same`. The workspace is wiped.
+pub fn list_programs(
+    cells: &[u8],
+    size: u8,
+    first: &[u8],
+    firsts: u16,
+    second: &[u8],
+    seconds: u16,
+    relations: u16,
+    workspace: &mut [u8],
+    answer: &mut [u8],
+)
+    requires programs { ⌜ Forward (now cells) size (now first) firsts (now second) seconds ⌝ }
+    requires same { ⌜ EndsSame (now cells) size (now first) (now second) (length (now workspace)) relations ⌝ }
+    requires room { ⌜ chainBytes size relations ≤ length (now answer) ⌝ }
+    ensures wiped { λ r. ⌜ now (workspace .exit) ≡ replicate (length (now (workspace .entry))) 0 ⌝ }
+    ensures listed { λ r. ⌜ ProgramsListed (now (cells .entry)) size (now (first .entry)) (now (second .entry)) relations (now (answer .entry))
+        (now (answer .exit)) ⌝ }
+{
+    let left = firsts as usize;
+    let right = workspace.len() - seconds as usize;
+    load_programs(size, first, firsts, second, seconds, workspace);
+    list(
+        cells,
+        size,
+        workspace,
+        Gap { left, right },
+        relations,
+        answer,
+    );
+    wipe(workspace);
+}
 
 // Two accepted forward programs, which weigh `one` and `two`, under a table that was loaded. The workspace is wiped, unless the weight check refused.
 pub fn chain_programs(
@@ -59,18 +93,17 @@ pub fn chain_programs(
     if answer.len() < chain_bytes(size, relations) {
         return Compared::Refused(Refusal::AnswerShort);
     }
-    let left = firsts as usize;
-    let right = workspace.len() - seconds as usize;
-    load_programs(size, first, firsts, second, seconds, workspace);
-    list(
+    list_programs(
         cells,
         size,
-        workspace,
-        Gap { left, right },
+        first,
+        firsts,
+        second,
+        seconds,
         relations,
+        workspace,
         answer,
     );
-    wipe(workspace);
     Compared::Same { steps, relations }
 }
 

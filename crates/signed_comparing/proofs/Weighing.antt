@@ -36,29 +36,55 @@ module _ (cells : List ℕ) (T : Presentation) (s : Stands cells T) (u : Positiv
   in-table : InRange (T .size) x
   in-table = subst (InRange (T .size)) (sym is) (all-at (InRange (T .size)) u i 0 named h)
 
-  pub in-range : InRange mostSize x
+  in-range : InRange mostSize x
   in-range = record { low = in-table .low; high = omega (arith, in-table .high, s .few) }
 
-  pub weight-light : suc (getD cells (weightAt x) 0) ≤ 8
+  weight-light : suc (getD cells (weightAt x) 0) ≤ 8
   weight-light = omega (arith, held-weight cells T s x in-table, light-letter cells T s x in-table)
 
-  pub weight-more : weigh T (take (i + 1) u) ≡ weigh T (take i u) + suc (getD cells (weightAt x) 0)
+  weight-more : weigh T (take (i + 1) u) ≡ weigh T (take i u) + suc (getD cells (weightAt x) 0)
   weight-more = total-more (weightOf T) u i h ∙ ap (λ w. weigh T (take i u) + w) (ap (weightOf T) (sym is) ∙ sym (held-weight cells T s x in-table))
 
 module _ (cells bytes : List ℕ) (middle end : ℕ) (T : Presentation) (u v : Positive) (s : Stand cells bytes middle end T u v) where
-  pub first-long : length u ≡ middle
+  first-long : length u ≡ middle
   first-long = ap length (sym (s .u-is)) ∙ length-take-le middle bytes (omega (arith, s .ordered, s .inside))
 
-  pub second-long : length v ≡ end - middle
+  second-long : length v ≡ end - middle
   second-long = ap length (sym (s .v-is)) ∙ length-take-le (end - middle) (drop middle bytes) (omega (arith, s .inside, length-drop middle bytes))
 
-  pub first-letter : (i : ℕ) → i < middle → getD bytes i 0 ≡ getD u i 0
+  first-letter : (i : ℕ) → i < middle → getD bytes i 0 ≡ getD u i 0
   first-letter i h = sym (getD-take middle bytes i 0 h) ∙ ap (λ w. getD w i 0) (s .u-is)
 
-  pub second-letter : (j : ℕ) → middle ≤ j → j < end → getD bytes j 0 ≡ getD v (j - middle) 0
+  second-letter : (j : ℕ) → middle ≤ j → j < end → getD bytes j 0 ≡ getD v (j - middle) 0
   second-letter j low h =
       ap (λ k. getD bytes k 0) {x = j} {y = middle + (j - middle)} (omega (arith, low)) ∙ sym (getD-drop middle bytes (j - middle) 0)
       ∙ sym (getD-take (end - middle) (drop middle bytes) (j - middle) 0 (omega (arith, low, h))) ∙ ap (λ w. getD w (j - middle) 0) (s .v-is)
+
+  -- the next letter of each: a letter that a table can have, of a weight of at most 8, by which more is passed
+  module _ (i : ℕ) (h : i < middle) where
+    pub first-range : InRange mostSize (getD bytes i 0)
+    first-range = in-range cells T (s .stands) u (s .u-named) i (getD bytes i 0) (omega (arith, h, first-long)) (first-letter i h)
+
+    pub first-light : suc (getD cells (weightAt (getD bytes i 0)) 0) ≤ 8
+    first-light = weight-light cells T (s .stands) u (s .u-named) i (getD bytes i 0) (omega (arith, h, first-long)) (first-letter i h)
+
+    pub first-more : weigh T (take (i + 1) u) ≡ weigh T (take i u) + suc (getD cells (weightAt (getD bytes i 0)) 0)
+    first-more = weight-more cells T (s .stands) u (s .u-named) i (getD bytes i 0) (omega (arith, h, first-long)) (first-letter i h)
+
+  module _ (j : ℕ) (low : middle ≤ j) (h : j < end) where
+    here : j - middle < length v
+    here = omega (arith, h, low, second-long)
+
+    pub second-range : InRange mostSize (getD bytes j 0)
+    second-range = in-range cells T (s .stands) v (s .v-named) (j - middle) (getD bytes j 0) here (second-letter j low h)
+
+    pub second-light : suc (getD cells (weightAt (getD bytes j 0)) 0) ≤ 8
+    second-light = weight-light cells T (s .stands) v (s .v-named) (j - middle) (getD bytes j 0) here (second-letter j low h)
+
+    pub second-more : weigh T (take (j + 1 - middle) v) ≡ weigh T (take (j - middle) v) + suc (getD cells (weightAt (getD bytes j 0)) 0)
+    second-more =
+        ap (λ k. weigh T (take k v)) {x = j + 1 - middle} {y = j - middle + 1} (omega (arith, low))
+        ∙ weight-more cells T (s .stands) v (s .v-named) (j - middle) (getD bytes j 0) here (second-letter j low h)
 
   -- what was gone through, with the lead of the first word beyond 16
   module _ (i j lead : ℕ) (passed : weigh T (take i u) + 16 ≡ weigh T (take (j - middle) v) + lead) where

@@ -1,29 +1,61 @@
 // Whether two words that stand one after the other weigh the same.
-ghost use Rattle.signed_comparing.specs.Weight.{TwoWords, SameWeight};
+ghost use Rattle.signed_comparing.specs.Weight.{TwoWords, FirstNext, FirstPassed, SecondNext, SecondPassed, SameWeight};
 use cells::weights::letter_weight;
 
-// The two words are gone through together, always on the side that is lighter so far, so that the lead of the first, which begins at 16, stays within 8 and 24
-// however long they are.
+// How far the two words are gone through: the places of their next letters, and the lead of the first, which begins at 16.
+pub struct Balance {
+    pub first: usize,
+    pub second: usize,
+    pub lead: u16,
+}
+
+// A letter of the first word is passed.
+pub fn pass_first(cells: &[u8], bytes: &[u8], at: Balance) -> Balance
+    requires { ⌜ FirstNext (now cells) (now bytes) at ⌝ }
+    ensures { λ r. ⌜ FirstPassed (now (cells .entry)) (now (bytes .entry)) at r ⌝ }
+{
+    let place = at.first;
+    Balance {
+        first: place + 1,
+        second: at.second,
+        lead: at.lead + letter_weight(cells, bytes[place]),
+    }
+}
+
+// A letter of the second word is passed.
+pub fn pass_second(cells: &[u8], bytes: &[u8], at: Balance) -> Balance
+    requires { ⌜ SecondNext (now cells) (now bytes) at ⌝ }
+    ensures { λ r. ⌜ SecondPassed (now (cells .entry)) (now (bytes .entry)) at r ⌝ }
+{
+    let place = at.second;
+    Balance {
+        first: at.first,
+        second: place + 1,
+        lead: at.lead - letter_weight(cells, bytes[place]),
+    }
+}
+
+// The two words are gone through together, always on the side that is lighter so far, so that the lead stays within 8 and 24 however long they are.
 pub fn same_weight(cells: &[u8], bytes: &[u8], middle: usize, end: usize) -> bool
     requires { ⌜ TwoWords (now cells) (now bytes) middle end ⌝ }
     ensures { λ r. ⌜ SameWeight (now (cells .entry)) (now (bytes .entry)) middle end r ⌝ }
 {
-    let mut i: usize = 0;
-    let mut j = middle;
-    let mut lead: u16 = 16;
+    let mut at = Balance {
+        first: 0,
+        second: middle,
+        lead: 16,
+    };
     loop {
-        if lead <= 16 {
-            if i == middle {
-                return lead == 16 && j == end;
+        if at.lead <= 16 {
+            if at.first == middle {
+                return at.lead == 16 && at.second == end;
             }
-            lead = lead + letter_weight(cells, bytes[i]);
-            i += 1;
+            at = pass_first(cells, bytes, at);
         } else {
-            if j == end {
+            if at.second == end {
                 return false;
             }
-            lead = lead - letter_weight(cells, bytes[j]);
-            j += 1;
+            at = pass_second(cells, bytes, at);
         }
     }
 }

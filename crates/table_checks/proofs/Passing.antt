@@ -9,19 +9,21 @@ use Rattle.model.specs.Word.{positive}
 use Rattle.model.specs.Presentation.{Presentation, swapped, complete}
 use Rattle.model.specs.Reversing.{no-budget, no-room}
 use Rattle.model.specs.Enumeration.{Two, Three}
-use Rattle.model.specs.Outcome.{pair-of, triple-of, Outcome, refused, _>>=_}
+use Rattle.model.specs.Outcome.{pair-of, Outcome, answered, refused, _>>=_}
 use Rattle.model.specs.Checks.{balanced, weightCheck, CubeVerdict, holds, fails, halts, reported, cubeAt, cubeCheck}
-use Rattle.model.specs.declared.answers.Stop.{Stop}
-use Rattle.model.specs.declared.answers.Stop.the-variants.{Budget, Room}
+use Rattle.model.specs.declared.answers.Triple.{Triple}
 use Rattle.model.proofs.Complete.{complete-turn}
-use Rattle.model.proofs.Impossible.{impossible}
 use Rattle.cells.specs.Layout.{cellAt}
 use Rattle.model.specs.Range.{InRange}
 use Rattle.cells.specs.Stands.{Serves, Of}
 use Rattle.cells.proofs.Rules.{of-range, open-cell, word-cell}
-use Rattle.table_checks.specs.Cube.{cubeAnswer}
-use Rattle.table_checks.specs.Table.{SideWeighs, stoppedAs}
+use Rattle.table_checks.specs.Cube.{cubeAnswer, CubeMeans}
+use Rattle.table_checks.specs.Table.{triplesAs, SideWeighs, triplesWith, TripleMeans}
+use Rattle.table_checks.specs.declared.cube.CubeVerdict.{CubeVerdict as CubeAnswer}
 use Rattle.table_checks.specs.declared.cube.CubeVerdict.the-variants.{Holds, Fails, Halts}
+use Rattle.table_checks.specs.declared.table.Triples.{Triples}
+use Rattle.table_checks.specs.declared.table.Triples.the-variants.{Hold, Fail, Halt}
+use Rattle.table_checks.proofs.Remaining.{triple, third-counts}
 
 -- WEIGHTS
 
@@ -57,35 +59,40 @@ weights-append T (p ∷ xs) ys =
 
 -- TRIPLES
 
-module _ (T : Presentation) (budget room : ℕ) (t : Three) (ts : List Three) where
-  verdict-holds : (v : CubeVerdict) → Holds ≡ cubeAnswer v → v ≡ holds
-  verdict-holds holds e = refl
-  verdict-holds fails e = impossible (cc)
-  verdict-holds (halts s) e = impossible (cc)
+reported-then : (t : Three) (v : CubeVerdict) (x y : Outcome (Unit {0})) → (reported t v x >>= λ ok. y) ≡ reported t v (x >>= λ ok. y)
+reported-then t holds x y = refl
+reported-then t fails x y = refl
+reported-then t (halts s) x y = refl
 
-  pub triple-passes : Holds ≡ cubeAnswer (cubeAt T budget room t) → cubeCheck T budget room (t ∷ ts) ≡ cubeCheck T budget room ts
-  triple-passes e = ap (λ v. reported t v (cubeCheck T budget room ts)) (verdict-holds (cubeAt T budget room t) e)
+pub cubes-append : (T : Presentation) (budget room : ℕ) (xs ys : List Three)
+    → cubeCheck T budget room (xs ++ ys) ≡ (cubeCheck T budget room xs >>= λ ok. cubeCheck T budget room ys)
+cubes-append T budget room [] ys = refl
+cubes-append T budget room (t ∷ xs) ys =
+    ap (reported t (cubeAt T budget room t)) (cubes-append T budget room xs ys)
+    ∙ sym (reported-then t (cubeAt T budget room t) (cubeCheck T budget room xs) (cubeCheck T budget room ys))
 
-  pub triple-fails : Fails ≡ cubeAnswer (cubeAt T budget room t) → refused 9 (triple-of (t .a) (t .b) (t .c)) ≡ cubeCheck T budget room (t ∷ ts)
-  triple-fails e = go (cubeAt T budget room t) refl e
-    where
-      go : (v : CubeVerdict) → cubeAt T budget room t ≡ v → Fails ≡ cubeAnswer v → refused 9 (triple-of (t .a) (t .b) (t .c)) ≡ cubeCheck T budget room (t ∷ ts)
-      go holds f g = impossible (cc)
-      go fails f g = sym (ap (λ v. reported t v (cubeCheck T budget room ts)) f)
-      go (halts s) f g = impossible (cc)
+-- the answer that a triple's verdict becomes
+abbrev pub told : Triple → CubeAnswer → Triples
+told t Holds = Hold
+told t Fails = Fail t
+told t (Halts s) = Halt s t
 
-  pub triple-halts : (s : Stop) → Halts s ≡ cubeAnswer (cubeAt T budget room t)
-      → stoppedAs s (record { a = t .a; b = t .b; c = t .c }) ≡ cubeCheck T budget room (t ∷ ts)
-  triple-halts s e = go (cubeAt T budget room t) refl s e
-    where
-      go : (v : CubeVerdict) → cubeAt T budget room t ≡ v → (s : Stop) → Halts s ≡ cubeAnswer v
-          → stoppedAs s (record { a = t .a; b = t .b; c = t .c }) ≡ cubeCheck T budget room (t ∷ ts)
-      go holds f s g = impossible (cc)
-      go fails f s g = impossible (cc)
-      go (halts no-budget) f Budget g = sym (ap (λ v. reported t v (cubeCheck T budget room ts)) f)
-      go (halts no-budget) f Room g = impossible (cc)
-      go (halts no-room) f Budget g = impossible (cc)
-      go (halts no-room) f Room g = sym (ap (λ v. reported t v (cubeCheck T budget room ts)) f)
+told-reported : (a b c : ℕ) (v : CubeVerdict)
+    → triplesAs (told (record { a = a; b = b; c = c }) (cubeAnswer v)) ≡ reported (triple a b c) v (answered tt)
+told-reported a b c holds = refl
+told-reported a b c fails = refl
+told-reported a b c (halts no-budget) = refl
+told-reported a b c (halts no-room) = refl
+
+module _ (cells : List ℕ) (room a b c budget : ℕ) where
+  pub no-triple : triplesWith a b (c ∷ []) ≡ [] → TripleMeans cells room a b c budget Hold
+  no-triple e T t = sym (ap (cubeCheck T budget room) e)
+
+  pub one-triple : (c ≡ a → ⊥) → (c ≡ b → ⊥) → (v : CubeAnswer) → CubeMeans cells room a b c budget v
+      → TripleMeans cells room a b c budget (told (record { a = a; b = b; c = c }) v)
+  one-triple f g v m T t =
+      ap (λ x. triplesAs (told (record { a = a; b = b; c = c }) x)) (m T t)
+      ∙ (told-reported a b c (cubeAt T budget room (triple a b c)) ∙ sym (ap (cubeCheck T budget room) (third-counts a b c f g)))
 
 -- three letters of the table
 pub of-serves : {cells : List ℕ} {size : ℕ} {T : Presentation} → Of cells size T → (a b c : ℕ) → 1 ≤ a → a ≤ size → 1 ≤ b → b ≤ size → 1 ≤ c → c ≤ size

@@ -1,5 +1,5 @@
 -- The triples that are left from a place on, in the order of specification 4.1.
-use mathlib.Core.Path.{_≡_, ap, ap₂, _∙_}
+use mathlib.Core.Path.{_≡_, refl, ap, ap₂, _∙_}
 use mathlib.Core.List.{List, [], _∷_, _++_, map}
 use mathlib.Core.Bool.{Bool, true, false, _||_, cond}
 use Prim.Native.Nat.{ℕ, _+_, _-_, _≤_, _<_}
@@ -9,16 +9,17 @@ use lib.Dec.{eqb}
 use Rattle.model.specs.Enumeration.{range, concatMap, Two, Three, others, triples}
 use Rattle.model.proofs.Pairs.{upTo, up-some, up-none, rowFrom, pairsFrom, row-begins, row-some, row-none, pairs-begin, pairs-some, pairs-none}
 use Rattle.model.proofs.Lists.{concat-append}
+use Rattle.table_checks.specs.Table.{triplesWith}
 
 abbrev pub triple : ℕ → ℕ → ℕ → Three
 triple a b c = record { a = a; b = b; c = c }
 
 -- of a pair with the letters from c on
 abbrev pub thirds : ℕ → ℕ → ℕ → ℕ → List Three
-thirds n a b c = map (triple a b) (others a b (upTo n c))
+thirds n a b c = triplesWith a b (upTo n c)
 
 abbrev ofPair : ℕ → Two → List Three
-ofPair n p = map (λ c. record { a = p .a; b = p .b; c = c }) (others (p .a) (p .b) (range 1 n))
+ofPair n p = triplesWith (p .a) (p .b) (range 1 n)
 
 -- of a with the letters from b on, and of the letters from a on
 abbrev pub seconds : ℕ → ℕ → ℕ → List Three
@@ -41,26 +42,32 @@ firsts-none n a h = ap (concatMap (ofPair n)) (pairs-none n a h)
 pub seconds-some : (n a b : ℕ) → b ≤ n → seconds n a b ≡ thirds n a b 1 ++ seconds n a (b + 1)
 seconds-some n a b h =
     let e : n ≡ n + 1 - 1 = omega arith in
-    ap (concatMap (ofPair n)) (row-some n a b h) ∙ ap (λ k. map (triple a b) (others a b (range 1 k)) ++ seconds n a (b + 1)) e
+    ap (concatMap (ofPair n)) (row-some n a b h) ∙ ap (λ k. triplesWith a b (range 1 k) ++ seconds n a (b + 1)) e
 
 pub seconds-none : (n a b : ℕ) → n < b → seconds n a b ≡ []
 seconds-none n a b h = ap (concatMap (ofPair n)) (row-none n a b h)
 
+pub thirds-some : (n a b c : ℕ) → c ≤ n → thirds n a b c ≡ triplesWith a b (c ∷ []) ++ thirds n a b (c + 1)
+thirds-some n a b c h = ap (triplesWith a b) (up-some n c h) ∙ go (eqb c a || eqb c b)
+  where
+    go : (t : Bool) → map (triple a b) (cond t (others a b (upTo n (c + 1))) (c ∷ others a b (upTo n (c + 1))))
+        ≡ map (triple a b) (cond t [] (c ∷ [])) ++ thirds n a b (c + 1)
+    go true = refl
+    go false = refl
+
 pub thirds-none : (n a b c : ℕ) → n < c → thirds n a b c ≡ []
-thirds-none n a b c h = ap (λ l. map (triple a b) (others a b l)) (up-none n c h)
+thirds-none n a b c h = ap (triplesWith a b) (up-none n c h)
 
-module _ (n a b c : ℕ) (h : c ≤ n) where
-  next-third : thirds n a b c ≡ map (triple a b) (cond (eqb c a || eqb c b) (others a b (upTo n (c + 1))) (c ∷ others a b (upTo n (c + 1))))
-  next-third = ap (λ l. map (triple a b) (others a b l)) (up-some n c h)
+-- one letter beside the pair
+module _ (a b c : ℕ) where
+  by-test : (t : Bool) → (eqb c a || eqb c b) ≡ t → triplesWith a b (c ∷ []) ≡ map (triple a b) (cond t [] (c ∷ []))
+  by-test t e = ap (λ t. map (triple a b) (cond t [] (c ∷ []))) e
 
-  by-test : (t : Bool) → (eqb c a || eqb c b) ≡ t → thirds n a b c ≡ map (triple a b) (cond t (others a b (upTo n (c + 1))) (c ∷ others a b (upTo n (c + 1))))
-  by-test t e = next-third ∙ ap (λ t. map (triple a b) (cond t (others a b (upTo n (c + 1))) (c ∷ others a b (upTo n (c + 1))))) e
-
-  pub third-is-first : c ≡ a → thirds n a b c ≡ thirds n a b (c + 1)
+  pub third-is-first : c ≡ a → triplesWith a b (c ∷ []) ≡ []
   third-is-first e = by-test true (ap (λ t. t || eqb c b) (eq-eqb c a e))
 
-  pub third-is-second : (c ≡ a → ⊥) → c ≡ b → thirds n a b c ≡ thirds n a b (c + 1)
+  pub third-is-second : (c ≡ a → ⊥) → c ≡ b → triplesWith a b (c ∷ []) ≡ []
   third-is-second f e = by-test true (ap₂ (λ s t. s || t) (ne-eqb c a f) (eq-eqb c b e))
 
-  pub third-counts : (c ≡ a → ⊥) → (c ≡ b → ⊥) → thirds n a b c ≡ triple a b c ∷ thirds n a b (c + 1)
+  pub third-counts : (c ≡ a → ⊥) → (c ≡ b → ⊥) → triplesWith a b (c ∷ []) ≡ triple a b c ∷ []
   third-counts f g = by-test false (ap₂ (λ s t. s || t) (ne-eqb c a f) (ne-eqb c b g))

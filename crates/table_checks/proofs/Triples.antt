@@ -74,7 +74,8 @@ module _ (T : Presentation) (budget room a b c : ℕ) where
   abbrev triple : Three
   triple = record { a = a; b = b; c = c }
 
-  abbrev rest : CubeVerdict
+  -- what is left to do once L is known
+  abbrev pub rest : CubeVerdict
   rest = against T budget room a b c (side T budget room a b c)
 
   at-triple : cubeAt T budget room triple ≡ whereDefined (complete T a b) rest
@@ -85,55 +86,46 @@ module _ (T : Presentation) (budget room a b c : ℕ) where
   pub open-holds : complete T a b ≡ undefined → Holds ≡ cubeAnswer (cubeAt T budget room triple)
   open-holds e = sym (ap cubeAnswer (at-triple ∙ ap (λ p. whereDefined p rest) e))
 
-  module _ (x y : Positive) (e : complete T a b ≡ complement x y) where
-    goes-on : cubeAt T budget room triple ≡ rest
-    goes-on = at-triple ∙ ap (λ p. whereDefined p rest) e
+  pub goes-on : (x y : Positive) → complete T a b ≡ complement x y → cubeAnswer rest ≡ cubeAnswer (cubeAt T budget room triple)
+  goes-on x y e = sym (ap cubeAnswer (at-triple ∙ ap (λ p. whereDefined p rest) e))
 
-    pub left-halts : (s : Stop) (area : List ℕ) → Works (T .size) (side T budget room a b c) area (Halted s)
-        → Halts s ≡ cubeAnswer (cubeAt T budget room triple)
+  pub left-halts : (s : Stop) (area : List ℕ) → Works (T .size) (side T budget room a b c) area (Halted s) → Halts s ≡ cubeAnswer rest
+  unfolding against
+  left-halts s area w =
+      let h = was-halted (side T budget room a b c) s w in
+      ap Halts (h .2) ∙ sym (ap (λ m. cubeAnswer (against T budget room a b c m)) (h .1))
+
+  -- L is undefined
+  missing-answer : (m : Residual) (area : List ℕ) (v : ResidualAnswer) → Works (T .size) m area v → missingSide v ≡ cubeAnswer (bothMissing m)
+  missing-answer (residual n) area v w = ap missingSide (w .answer)
+  missing-answer missing area v w = ap missingSide (w .answer)
+  missing-answer (halted no-budget) area v w = ap missingSide (w .answer)
+  missing-answer (halted no-room) area v w = ap missingSide (w .answer)
+
+  pub left-missing : (area area′ : List ℕ) (v : ResidualAnswer) → Works (T .size) (side T budget room a b c) area Missing
+      → Works (T .size) (side T budget room b a c) area′ v → missingSide v ≡ cubeAnswer rest
+  unfolding against
+  left-missing area area′ v w w′ =
+      missing-answer (side T budget room b a c) area′ v w′
+      ∙ sym (ap (λ m. cubeAnswer (against T budget room a b c m)) (was-missing (side T budget room a b c) w))
+
+  -- L is the word l
+  module _ (l : Positive) (el : side T budget room a b c ≡ residual l) where
+    there : (m : Residual) → side T budget (room - length l) b a c ≡ m
+        → cubeAnswer (bothThere (λ r. empties (reversing T budget room (negative l ++ positive r))) m) ≡ cubeAnswer rest
     unfolding against
-    left-halts s area w =
-        let h = was-halted (side T budget room a b c) s w in
-        ap Halts (h .2) ∙ sym (ap cubeAnswer (goes-on ∙ ap (against T budget room a b c) (h .1)))
+    there m e =
+        sym (ap cubeAnswer (ap (against T budget room a b c) el ∙ ap (bothThere (λ r. empties (reversing T budget room (negative l ++ positive r)))) e))
 
-    -- L is undefined
-    missing-answer : (m : Residual) (area : List ℕ) (v : ResidualAnswer) → Works (T .size) m area v → missingSide v ≡ cubeAnswer (bothMissing m)
-    missing-answer (residual n) area v w = ap missingSide (w .answer)
-    missing-answer missing area v w = ap missingSide (w .answer)
-    missing-answer (halted no-budget) area v w = ap missingSide (w .answer)
-    missing-answer (halted no-room) area v w = ap missingSide (w .answer)
+    pub right-missing : (area : List ℕ) → Works (T .size) (side T budget (room - length l) b a c) area Missing → Fails ≡ cubeAnswer rest
+    right-missing area w = there missing (was-missing (side T budget (room - length l) b a c) w)
 
-    pub left-missing : (area area′ : List ℕ) (v : ResidualAnswer) → Works (T .size) (side T budget room a b c) area Missing
-        → Works (T .size) (side T budget room b a c) area′ v → missingSide v ≡ cubeAnswer (cubeAt T budget room triple)
-    unfolding against
-    left-missing area area′ v w w′ =
-        missing-answer (side T budget room b a c) area′ v w′
-        ∙ sym (ap cubeAnswer (goes-on ∙ ap (against T budget room a b c) (was-missing (side T budget room a b c) w)))
+    pub right-halts : (s : Stop) (area : List ℕ) → Works (T .size) (side T budget (room - length l) b a c) area (Halted s) → Halts s ≡ cubeAnswer rest
+    right-halts s area w = let h = was-halted (side T budget (room - length l) b a c) s w in ap Halts (h .2) ∙ there (halted (h .0)) (h .1)
 
-    -- L is the word l
-    module _ (l : Positive) (el : side T budget room a b c ≡ residual l) where
-      there : cubeAt T budget room triple
-          ≡ bothThere (λ r. empties (reversing T budget room (negative l ++ positive r))) (side T budget (room - length l) b a c)
-      unfolding against
-      there = goes-on ∙ ap (against T budget room a b c) el
-
-      pub right-missing : (area : List ℕ) → Works (T .size) (side T budget (room - length l) b a c) area Missing
-          → Fails ≡ cubeAnswer (cubeAt T budget room triple)
-      right-missing area w =
-          sym (ap cubeAnswer (there ∙ ap (bothThere (λ r. empties (reversing T budget room (negative l ++ positive r))))
-          (was-missing (side T budget (room - length l) b a c) w)))
-
-      pub right-halts : (s : Stop) (area : List ℕ) → Works (T .size) (side T budget (room - length l) b a c) area (Halted s)
-          → Halts s ≡ cubeAnswer (cubeAt T budget room triple)
-      right-halts s area w =
-          let h = was-halted (side T budget (room - length l) b a c) s w in
-          ap Halts (h .2)
-          ∙ sym (ap cubeAnswer (there ∙ ap (bothThere (λ r. empties (reversing T budget room (negative l ++ positive r)))) (h .1)))
-
-      pub both-words : (r : Positive) → side T budget (room - length l) b a c ≡ residual r
-          → cubeAnswer (empties (reversing T budget room (negative l ++ positive r))) ≡ cubeAnswer (cubeAt T budget room triple)
-      both-words r er =
-          sym (ap cubeAnswer (there ∙ ap (bothThere (λ r. empties (reversing T budget room (negative l ++ positive r)))) er))
+    pub both-words : (r : Positive) → side T budget (room - length l) b a c ≡ residual r
+        → cubeAnswer (empties (reversing T budget room (negative l ++ positive r))) ≡ cubeAnswer rest
+    both-words r er = there (residual r) er
 
 -- the tests of `verdict_of`
 pub fails-by-denominator : (n d k r : ℕ) → n ≡ 0 → (d ≡ 0 → ⊥) → verdictOf (Finished n d k r) ≡ Fails

@@ -8,7 +8,7 @@ use lib.ListN.{length, take, drop}
 use Rattle.model.specs.Word.{Positive, positive, negative}
 use Rattle.model.specs.Presentation.{Presentation}
 use Rattle.model.specs.Reversing.{reversing}
-use Rattle.model.specs.Checks.{CubeVerdict, holds, fails, halts, empties, cubeAt}
+use Rattle.model.specs.Checks.{CubeVerdict, holds, fails, halts, empties, side, against, cubeAt}
 use Rattle.model.specs.Stated.{stopAnswer}
 use Rattle.model.specs.declared.answers.Ending.{Ending}
 use Rattle.model.specs.declared.answers.Ending.the-variants.{Finished, Undefined, Stopped}
@@ -63,6 +63,11 @@ pub record RightSide (cells before : List ℕ) (kept a b c budget : ℕ) (after 
   pub same-length : length after ≡ length before
   pub front : take kept after ≡ take kept before
   pub works : SideWorks cells a b c budget (drop kept after) r
+
+-- the verdict of L, which was worked out in so many bytes, with R
+abbrev pub AgainstMeans : List ℕ → ℕ → ℕ → ℕ → ℕ → ℕ → CubeAnswer → Type 0
+AgainstMeans cells room a b c budget v =
+    (T : Presentation) → Serves cells (positive (a ∷ b ∷ c ∷ [])) T → v ≡ cubeAnswer (against T budget room a b c (side T budget room a b c))
 
 abbrev pub CubeMeans : List ℕ → ℕ → ℕ → ℕ → ℕ → ℕ → CubeAnswer → Type 0
 CubeMeans cells room a b c budget v =

@@ -1,12 +1,12 @@
 -- What the two checks of a table say of every presentation of so many letters that the cells stand for.
-use mathlib.Core.List.{List, _∷_}
+use mathlib.Core.List.{List, [], _∷_, map}
 use mathlib.Core.Bool.{Bool}
 use mathlib.Core.Path.{_≡_}
 use Prim.Native.Nat.{ℕ}
 use lib.ListN.{getD}
-use Rattle.model.specs.Word.{Positive}
+use Rattle.model.specs.Word.{Positive, positive}
 use Rattle.model.specs.Presentation.{Presentation, complement, complete, weigh}
-use Rattle.model.specs.Enumeration.{row, pairs, triples}
+use Rattle.model.specs.Enumeration.{Three, row, pairs, others, triples}
 use Rattle.model.specs.Outcome.{Outcome, answered}
 use Rattle.model.specs.Checks.{balanced, weightCheck, cubeCheck}
 use Rattle.model.specs.Stated.{refusal}
@@ -17,7 +17,7 @@ use Rattle.model.specs.declared.answers.Place.the-variants.{Triple as AtTriple}
 use Rattle.model.specs.declared.answers.Refusal.the-variants.{UnequalWeights, CubeFails, AllowanceUsed, WorkspaceShort}
 use Rattle.model.specs.Range.{InRange}
 use Rattle.cells.specs.Layout.{cellAt}
-use Rattle.cells.specs.Stands.{undefinedLength, Of}
+use Rattle.cells.specs.Stands.{undefinedLength, Of, Serves}
 use Rattle.table_checks.specs.declared.table.Weights.{Weights}
 use Rattle.table_checks.specs.declared.table.Weights.the-variants.{Equal, Unequal}
 use Rattle.table_checks.specs.declared.table.Triples.{Triples}
@@ -57,6 +57,15 @@ RowMeans cells size a r = (T : Presentation) → Of cells size T → weightsAs r
 
 abbrev pub WeightsMean : List ℕ → ℕ → Weights → Type 0
 WeightsMean cells size r = (T : Presentation) → Of cells size T → weightsAs r ≡ weightCheck T (pairs size)
+
+-- the triples of a pair with those of some letters that are not its own
+abbrev pub triplesWith : ℕ → ℕ → List ℕ → List Three
+triplesWith a b cs = map (λ c. record { a = a; b = b; c = c }) (others a b cs)
+
+-- the cube rule at the triple of a pair and a letter, under every table that has the three
+abbrev pub TripleMeans : List ℕ → ℕ → ℕ → ℕ → ℕ → ℕ → Triples → Type 0
+TripleMeans cells room a b c budget r =
+    (T : Presentation) → Serves cells (positive (a ∷ b ∷ c ∷ [])) T → triplesAs r ≡ cubeCheck T budget room (triplesWith a b (c ∷ []))
 
 abbrev pub TriplesMean : List ℕ → ℕ → ℕ → ℕ → Triples → Type 0
 TriplesMean cells size room budget r = (T : Presentation) → Of cells size T → triplesAs r ≡ cubeCheck T budget room (triples size)

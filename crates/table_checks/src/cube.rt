@@ -4,7 +4,9 @@ ghost use Prim.Native.Nat.{_≤_};
 ghost use lib.ListN.{length};
 ghost use Rattle.model.specs.Word.{positive};
 ghost use Rattle.cells.specs.Stands.{Ready};
-ghost use Rattle.table_checks.specs.Cube.{verdictOf, missingSide, Ends, AgreeMeans, RightSide, CubeMeans};
+ghost use Rattle.table_checks.specs.Residuals.{SideWorks};
+ghost use Rattle.table_checks.specs.Cube.{verdictOf, missingSide, Ends, AgreeMeans, RightSide, AgainstMeans, CubeMeans};
+ghost use Rattle.table_checks.specs.declared.residuals.Residual.the-variants.{Word};
 use crate::residuals::Residual;
 use crate::residuals::side;
 use cells::layout::UNDEFINED;
@@ -95,7 +97,55 @@ pub fn right_side(
     side(cells, &mut bytes[kept..], a, b, c, budget)
 }
 
-// One triple of the cube check (specification 4.4). L stays at the workspace's start, and R is worked out behind it.
+// The verdict where L is the word that stands at the workspace's start: R is worked out behind it.
+pub fn against_word(
+    cells: &[u8],
+    bytes: &mut [u8],
+    kept: usize,
+    a: u8,
+    b: u8,
+    c: u8,
+    budget: u16,
+) -> CubeVerdict
+    requires ready { ⌜ Ready (now cells) (positive (a ∷ b ∷ c ∷ [])) ⌝ }
+    requires left { ⌜ SideWorks (now cells) a b c budget (now bytes) (Word kept) ⌝ }
+    ensures length { λ r. ⌜ length (now (bytes .exit)) ≡ length (now (bytes .entry)) ⌝ }
+    ensures against { λ r. ⌜ AgainstMeans (now (cells .entry)) (length (now (bytes .entry))) a b c budget r ⌝ }
+{
+    let right = right_side(cells, bytes, kept, b, a, c, budget);
+    match right {
+        Residual::Word(count) => agree(cells, bytes, kept, count, budget),
+        Residual::Missing => CubeVerdict::Fails,
+        Residual::Halted(stop) => CubeVerdict::Halts(stop),
+    }
+}
+
+// The verdict once L is known.
+pub fn against(
+    cells: &[u8],
+    bytes: &mut [u8],
+    left: Residual,
+    a: u8,
+    b: u8,
+    c: u8,
+    budget: u16,
+) -> CubeVerdict
+    requires ready { ⌜ Ready (now cells) (positive (a ∷ b ∷ c ∷ [])) ⌝ }
+    requires left { ⌜ SideWorks (now cells) a b c budget (now bytes) left ⌝ }
+    ensures length { λ r. ⌜ length (now (bytes .exit)) ≡ length (now (bytes .entry)) ⌝ }
+    ensures against { λ r. ⌜ AgainstMeans (now (cells .entry)) (length (now (bytes .entry))) a b c budget r ⌝ }
+{
+    match left {
+        Residual::Halted(stop) => CubeVerdict::Halts(stop),
+        Residual::Missing => {
+            let right = side(cells, bytes, b, a, c, budget);
+            missing_side(right)
+        }
+        Residual::Word(kept) => against_word(cells, bytes, kept, a, b, c, budget),
+    }
+}
+
+// One triple of the cube check (specification 4.4).
 pub fn cube_at(cells: &[u8], bytes: &mut [u8], a: u8, b: u8, c: u8, budget: u16) -> CubeVerdict
     requires { ⌜ Ready (now cells) (positive (a ∷ b ∷ c ∷ [])) ⌝ }
     ensures length { λ r. ⌜ length (now (bytes .exit)) ≡ length (now (bytes .entry)) ⌝ }
@@ -106,19 +156,5 @@ pub fn cube_at(cells: &[u8], bytes: &mut [u8], a: u8, b: u8, c: u8, budget: u16)
         return CubeVerdict::Holds;
     }
     let left = side(cells, bytes, a, b, c, budget);
-    match left {
-        Residual::Halted(stop) => CubeVerdict::Halts(stop),
-        Residual::Missing => {
-            let right = side(cells, bytes, b, a, c, budget);
-            missing_side(right)
-        }
-        Residual::Word(kept) => {
-            let right = right_side(cells, bytes, kept, b, a, c, budget);
-            match right {
-                Residual::Word(count) => agree(cells, bytes, kept, count, budget),
-                Residual::Missing => CubeVerdict::Fails,
-                Residual::Halted(stop) => CubeVerdict::Halts(stop),
-            }
-        }
-    }
+    against(cells, bytes, left, a, b, c, budget)
 }

@@ -1,9 +1,11 @@
 ghost use mathlib.Core.Path.{_≡_};
-ghost use Prim.Native.Nat.{_≤_};
+ghost use mathlib.Core.List.{[], _∷_};
+ghost use Prim.Native.Nat.{_≤_, _<_};
 ghost use lib.ListN.{length};
+ghost use Rattle.model.specs.Word.{positive};
 ghost use Rattle.model.specs.Range.{InRange};
-ghost use Rattle.cells.specs.Stands.{Sized};
-ghost use Rattle.table_checks.specs.Table.{Related, SideWeighs, PairMeans, RowMeans, WeightsMean, TriplesMean};
+ghost use Rattle.cells.specs.Stands.{Sized, Ready};
+ghost use Rattle.table_checks.specs.Table.{Related, SideWeighs, PairMeans, RowMeans, WeightsMean, TripleMeans, TriplesMean};
 use crate::cube::CubeVerdict;
 use crate::cube::cube_at;
 use cells::layout::UNDEFINED;
@@ -88,6 +90,26 @@ pub fn check_weights(cells: &[u8], size: u8) -> Weights
     Weights::Equal
 }
 
+// The triple of a pair and a letter; where c is a letter of the pair, there is none.
+pub fn check_triple(cells: &[u8], bytes: &mut [u8], a: u8, b: u8, c: u8, budget: u16) -> Triples
+    requires { ⌜ Ready (now cells) (positive (a ∷ b ∷ c ∷ [])) × (a < b) ⌝ }
+    ensures length { λ r. ⌜ length (now (bytes .exit)) ≡ length (now (bytes .entry)) ⌝ }
+    ensures triple { λ r. ⌜ TripleMeans (now (cells .entry)) (length (now (bytes .entry))) a b c budget r ⌝ }
+{
+    if c == a {
+        return Triples::Hold;
+    }
+    if c == b {
+        return Triples::Hold;
+    }
+    let verdict = cube_at(cells, bytes, a, b, c, budget);
+    match verdict {
+        CubeVerdict::Holds => Triples::Hold,
+        CubeVerdict::Fails => Triples::Fail(Triple { a, b, c }),
+        CubeVerdict::Halts(stop) => Triples::Halt(stop, Triple { a, b, c }),
+    }
+}
+
 // The cube check: the first triple that fails, or at which a reversing is stopped, ends the search.
 pub fn check_triples(cells: &[u8], size: u8, bytes: &mut [u8], budget: u16) -> Triples
     requires { ⌜ Sized (now cells) size ⌝ }
@@ -95,33 +117,16 @@ pub fn check_triples(cells: &[u8], size: u8, bytes: &mut [u8], budget: u16) -> T
     ensures triples { λ r. ⌜ TriplesMean (now (cells .entry)) size (length (now (bytes .entry))) budget r ⌝ }
 {
     let mut found = Triples::Hold;
-    let mut a: u8 = 1;
-    'triples: while a <= size {
-        let mut b = a + 1;
-        while b <= size {
-            let mut c: u8 = 1;
-            while c <= size {
-                if c != a {
-                    if c != b {
-                        let verdict = cube_at(cells, bytes, a, b, c, budget);
-                        match verdict {
-                            CubeVerdict::Holds => {}
-                            CubeVerdict::Fails => {
-                                found = Triples::Fail(Triple { a, b, c });
-                                break 'triples;
-                            }
-                            CubeVerdict::Halts(stop) => {
-                                found = Triples::Halt(stop, Triple { a, b, c });
-                                break 'triples;
-                            }
-                        }
-                    }
-                }
-                c += 1;
+    let end = size + 1;
+    'triples: for a in 1..end {
+        for b in a + 1..end {
+            for c in 1..end {
+                found = check_triple(cells, bytes, a, b, c, budget);
+                let Triples::Hold = found else {
+                    break 'triples;
+                };
             }
-            b += 1;
         }
-        a += 1;
     }
     found
 }

@@ -1,47 +1,42 @@
 -- `table_checks::table::check_triples` meets its contract. Each loop's invariant: the check of all triples is the check of those that are left.
-use mathlib.Core.Path.{_≡_, refl, sym, ap, subst, _∙_}
-use mathlib.Core.List.{List, _++_}
-use mathlib.Core.Logic.{⊎-elim}
-use Prim.Native.Nat.{ℕ, _+_, _-_, _≤_, _<_}
+use mathlib.Core.Path.{_≡_, refl, sym, subst, _∙_}
+use mathlib.Core.List.{_++_}
+use Prim.Native.Nat.{_+_, _-_, _≤_, _<_}
 use native.Mathlib.Omega.{arith}
 use borrow.Author.Needs.{needs}
 use lib.ListN.{length}
-use Rattle.model.specs.Enumeration.{triples}
-use Rattle.model.specs.Checks.{cubeCheck}
-use Rattle.model.specs.Images.{mostSize}
-use Rattle.table_checks.specs.Cube.{CubeMeans}
-use Rattle.table_checks.specs.Table.{triplesAs}
+use Rattle.cells.proofs.Rules.{of-few}
+use Rattle.table_checks.specs.Table.{TriplesMean}
 use Rattle.table_checks.specs.declared.table.Triples.the-variants.{Hold}
 use Rattle.table_checks.proofs.Remaining.{firsts, seconds, thirds}
-use Rattle.cells.proofs.Rules.{of-few}
 use Rattle.table_checks.proofs.Passing.{of-serves}
-use Rattle.table_checks.proofs.Searching.{Left, left-all, enter-first, leave-first, enter-second, leave-second, all-hold, skip-first, skip-second}
-use Rattle.table_checks.proofs.Searching.{pass-third, fail-third, halt-third}
+use Rattle.table_checks.proofs.Searching.{Left, left-all, enter-first, leave-first, enter-second, leave-second, all-hold, third-holds, third-ends}
 use Rattle.table_checks.proofs.table.check_triples.Statement.{statement}
 use Rattle.table_checks.proofs.table.check_triples.Tie as tie
+use Rattle.model.specs.Images.{mostSize}
 
 abbrev Inv-loop2 : tie.InvT-loop2
-Inv-loop2 cells size bytes₀ budget found₀ a b c₀ bytes found c =
-    (1 ≤ c) × (c ≤ size + 1) × (size ≤ mostSize) × (found ≡ Hold) × (length bytes ≡ length bytes₀)
+Inv-loop2 cells size bytes₀ budget found₀ end a b c₀ bytes found c =
+    (1 ≤ c) × (c ≤ size + 1) × (found ≡ Hold) × (length bytes ≡ length bytes₀)
     × Left cells size budget (length bytes) (thirds size a b c ++ (seconds size a (b + 1) ++ firsts size (a + 1)))
 
 abbrev μ-loop2 : tie.MeasureT-loop2
-μ-loop2 cells size bytes₀ budget found₀ a b c₀ bytes found c = size + 1 - c
+μ-loop2 cells size bytes₀ budget found₀ end a b c₀ bytes found c = size + 1 - c
 
 abbrev Inv-loop : tie.InvT-loop
-Inv-loop cells size bytes₀ budget found₀ a b₀ bytes found b =
-    (a < b) × (b ≤ size + 1) × (size ≤ mostSize) × (found ≡ Hold) × (length bytes ≡ length bytes₀)
+Inv-loop cells size bytes₀ budget found₀ end a b₀ bytes found b =
+    (a < b) × (b ≤ size + 1) × (found ≡ Hold) × (length bytes ≡ length bytes₀)
     × Left cells size budget (length bytes) (seconds size a b ++ firsts size (a + 1))
 
 abbrev μ-loop : tie.MeasureT-loop
-μ-loop cells size bytes₀ budget found₀ a b₀ bytes found b = size + 1 - b
+μ-loop cells size bytes₀ budget found₀ end a b₀ bytes found b = size + 1 - b
 
 abbrev Inv-triples : tie.InvT-triples
-Inv-triples cells size bytes₀ budget found₀ a₀ bytes found a =
+Inv-triples cells size bytes₀ budget found₀ end a₀ bytes found a =
     (1 ≤ a) × (a ≤ size + 1) × (size ≤ mostSize) × (found ≡ Hold) × (length bytes ≡ length bytes₀) × Left cells size budget (length bytes) (firsts size a)
 
 abbrev μ-triples : tie.MeasureT-triples
-μ-triples cells size bytes₀ budget found₀ a₀ bytes found a = size + 1 - a
+μ-triples cells size bytes₀ budget found₀ end a₀ bytes found a = size + 1 - a
 
 abbrev start : tie.At-triples Inv-loop2 μ-loop2 Inv-loop μ-loop Inv-triples μ-triples → tie.Start Inv-loop2 μ-loop2 Inv-loop μ-loop Inv-triples μ-triples
 start c = c .before .before .before
@@ -50,16 +45,16 @@ abbrev at-triples : tie.At-loop2 Inv-loop2 μ-loop2 Inv-loop μ-loop Inv-triples
     → tie.At-triples Inv-loop2 μ-loop2 Inv-loop μ-loop Inv-triples μ-triples
 at-triples c = c .before .before .before .before
 
-abbrev at-loop2 : tie.In-loop2 Inv-loop2 μ-loop2 Inv-loop μ-loop Inv-triples μ-triples → tie.At-loop2 Inv-loop2 μ-loop2 Inv-loop μ-loop Inv-triples μ-triples
-at-loop2 c = c .before
+abbrev at-loop2 : tie.After-slice-known2 Inv-loop2 μ-loop2 Inv-loop μ-loop Inv-triples μ-triples
+    → tie.At-loop2 Inv-loop2 μ-loop2 Inv-loop μ-loop Inv-triples μ-triples
+at-loop2 c = c .before .before .before .before .before
 
-abbrev in-loop2 : tie.After-cube-at Inv-loop2 μ-loop2 Inv-loop μ-loop Inv-triples μ-triples
-    → tie.In-loop2 Inv-loop2 μ-loop2 Inv-loop μ-loop Inv-triples μ-triples
-in-loop2 c = c .before .before .before .before
+abbrev made : tie.After-slice-known2 Inv-loop2 μ-loop2 Inv-loop μ-loop Inv-triples μ-triples
+    → tie.After-check-triple Inv-loop2 μ-loop2 Inv-loop μ-loop Inv-triples μ-triples
+made c = c .before .before
 
-abbrev after-cube-at : tie.After-slice-known2 Inv-loop2 μ-loop2 Inv-loop μ-loop Inv-triples μ-triples
-    → tie.After-cube-at Inv-loop2 μ-loop2 Inv-loop μ-loop Inv-triples μ-triples
-after-cube-at c = c .before .before
+add-end : tie.Need-add-end Inv-loop2 μ-loop2 Inv-loop μ-loop Inv-triples μ-triples
+add-end c = omega (arith, of-few (c .before .before .pre .1))
 
 triples-holds : tie.Need-triples-holds Inv-loop2 μ-loop2 Inv-loop μ-loop Inv-triples μ-triples
 triples-holds c =
@@ -68,108 +63,76 @@ triples-holds c =
 
 loop-holds : tie.Need-loop-holds Inv-loop2 μ-loop2 Inv-loop μ-loop Inv-triples μ-triples
 loop-holds c =
-    let s = start (c .before) in
-    let f = c .before .triples in (
-      omega arith,
-      omega arith,
-      f .inv .2,
-      f .inv .3,
-      refl,
-      enter-first (s .args .cells .now) (s .args .size) (s .args .budget) (length (f .bytes)) (f .a)
-          (omega arith) (f .inv .5),
-    )
+    let a = start (c .before) .args in
+    let f = c .before .triples in
+    (omega arith, omega arith, f .inv .3, refl, enter-first (a .cells .now) (a .size) (a .budget) (length (f .bytes)) (f .a) (omega arith) (f .inv .5))
 
 loop2-holds : tie.Need-loop2-holds Inv-loop2 μ-loop2 Inv-loop μ-loop Inv-triples μ-triples
 loop2-holds c =
-    let s = start (c .before .before .before) in
-    let f = c .before .before .before .triples in
+    let k = c .before .before .before in
+    let a = start k .args in
     let g = c .before .loop in (
       omega arith,
       omega arith,
       g .inv .2,
-      g .inv .3,
       refl,
-      enter-second (s .args .cells .now) (s .args .size) (s .args .budget) (length (g .bytes)) (f .a)
-          (g .b) (omega arith) (g .inv .5),
+      enter-second (a .cells .now) (a .size) (a .budget) (length (g .bytes)) (k .triples .a) (g .b) (omega arith) (g .inv .4),
     )
 
-cube-at-requires :
-    tie.Need-cube-at-requires Inv-loop2 μ-loop2 Inv-loop μ-loop Inv-triples μ-triples
-cube-at-requires c κs =
-    let k = at-loop2 (c .before .before .before) in
-    let s = start (at-triples k) in
-    let f = at-triples k .triples in
-    let g = k .before .before .loop in
-    let h = k .loop2 in (
-      s .pre .0,
-      of-serves (s .pre .1) (f .a) (g .b) (h .c) (f .inv .0) (omega (arith, k .before .before .before .triples-test .taken))
-          (omega (arith, f .inv .0, g .inv .0)) (omega arith) (h .inv .0) (omega arith),
+check-triple-requires : tie.Need-check-triple-requires Inv-loop2 μ-loop2 Inv-loop μ-loop Inv-triples μ-triples
+check-triple-requires c κs =
+    let k = c .before .before in
+    let s = start (at-triples k) in (
+      (
+        s .pre .0,
+        of-serves (s .pre .1) (at-triples k .triples .a) (k .before .before .loop .b) (k .loop2 .c) (omega arith) (omega arith) (omega arith) (omega arith)
+            (omega arith) (omega arith),
+      ),
+      omega arith,
     )
 
 loop2-again : tie.Need-loop2-again Inv-loop2 μ-loop2 Inv-loop μ-loop Inv-triples μ-triples
 loop2-again c =
-    let k = at-loop2 (c .before) in
-    let s = start (at-triples k) in
+    let k = at-loop2 (c .before .before) in
+    let a = start (at-triples k) .args in
     let f = at-triples k .triples in
     let g = k .before .before .loop in
-    let h = c .before .before .loop2 in
-    let first : f .a ≤ s .args .size = omega (arith, k .before .before .before .triples-test .taken) in
-    let second : g .b ≤ s .args .size = omega (arith, c .before .before .before .loop-test .taken) in
-    let third : h .c ≤ s .args .size = omega (arith, c .before .loop2-test .taken) in
-    let low : 1 ≤ g .b = omega (arith, f .inv .0, g .inv .0) in
-    let P : List ℕ → Type 0 = λ bs. (length bs ≡ length (g .bytes)) × Left (s .args .cells .now) (s .args .size) (s .args .budget) (length bs)
-    (thirds (s .args .size) (f .a) (g .b) (h .c + 1) ++ (seconds (s .args .size) (f .a) (g .b + 1) ++ firsts (s .args .size) (f .a + 1))) in
-    let x : P (c .if1 .bytes) = ⊎-elim
-    (λ w. subst P (sym (w .8)) (
-      w .3 .ensures .0 ∙ h .inv .4,
-      subst (λ i. Left (s .args .cells .now) (s .args .size) (s .args .budget) i
-          (thirds (s .args .size) (f .a) (g .b) (h .c + 1) ++ (seconds (s .args .size) (f .a) (g .b + 1) ++ firsts (s .args .size) (f .a + 1))))
-          (sym (w .3 .ensures .0))
-          (pass-third (s .args .cells .now) (s .args .size) (s .args .budget) (length (h .bytes)) (f .a) (g .b) (h .c) third
-          (seconds (s .args .size) (f .a) (g .b + 1) ++ firsts (s .args .size) (f .a + 1)) (w .0 .taken) (w .1 .taken) (h .inv .5)
-          (f .inv .0) first low second (h .inv .0)
-          (subst (CubeMeans (s .args .cells .now) (length (h .bytes)) (f .a) (g .b) (h .c) (s .args .budget)) (w .7 .given .1) (w .3 .ensures .1))),
-    ))
-    (⊎-elim
-    (λ w. subst P (sym (w .2)) (
-      h .inv .4,
-      skip-second (s .args .cells .now) (s .args .size) (s .args .budget) (length (h .bytes)) (f .a) (g .b) (h .c) third
-          (seconds (s .args .size) (f .a) (g .b + 1) ++ firsts (s .args .size) (f .a + 1)) (w .0 .taken) (w .1 .left) (h .inv .5),
-    ))
-    (λ w. subst P (sym (w .1)) (
-      h .inv .4,
-      skip-first (s .args .cells .now) (s .args .size) (s .args .budget) (length (h .bytes)) (f .a) (g .b) (h .c) third
-          (seconds (s .args .size) (f .a) (g .b + 1) ++ firsts (s .args .size) (f .a + 1)) (w .0 .left) (h .inv .5),
-    )))
-    (c .if1 .came) in
-    (omega arith, omega arith, h .inv .2, h .inv .3, x .0, x .1)
+    let h = k .loop2 in
+    let v = made (c .before .before) .check-triple in (
+      omega arith,
+      omega arith,
+      c .enum-told .given .1,
+      v .ensures .0 ∙ h .inv .3,
+      rw (v .ensures .0) (third-holds (a .cells .now) (a .size) (a .budget) (length (h .bytes)) (f .a) (g .b) (h .c)
+          (omega arith) (omega arith) (omega arith) (omega arith) (omega arith) (omega arith) (v .result) (v .ensures .1)
+          (seconds (a .size) (f .a) (g .b + 1) ++ firsts (a .size) (f .a + 1)) (h .inv .4) (c .enum-told .given .1)),
+    )
 
 loop-again : tie.Need-loop-again Inv-loop2 μ-loop2 Inv-loop μ-loop Inv-triples μ-triples
 loop-again c =
-    let k = at-triples (c .before) in
-    let s = start k in
-    let f = k .triples in
-    let g = c .before .before .before .loop in
-    let h = c .before .loop2 in (
+    let k = c .before in
+    let a = start (at-triples k) .args in
+    let g = k .before .before .loop in
+    let h = k .loop2 in (
       omega arith,
-      omega (arith, c .before .before .loop-test .taken),
+      omega arith,
       h .inv .2,
-      h .inv .3,
-      h .inv .4 ∙ g .inv .4,
-      leave-second (s .args .cells .now) (s .args .size) (s .args .budget) (length (h .bytes)) (f .a) (g .b) (h .c) (omega arith) (h .inv .5),
+      h .inv .3 ∙ g .inv .3,
+      leave-second (a .cells .now) (a .size) (a .budget) (length (h .bytes)) (at-triples k .triples .a) (g .b) (h .c) (omega arith) (h .inv .4),
     )
 
 triples-again : tie.Need-triples-again Inv-loop2 μ-loop2 Inv-loop μ-loop Inv-triples μ-triples
 triples-again c =
-    let s = start (c .before .before .before) in
-    let f = c .before .before .before .triples in
+    let k = c .before .before .before in
+    let a = start k .args in
+    let f = k .triples in
     let g = c .before .loop in (
       omega arith,
-      omega (arith, c .before .before .triples-test .taken),
+      omega arith,
+      f .inv .2,
       g .inv .2,
-      g .inv .3,
-      g .inv .4 ∙ f .inv .4,
-      leave-first (s .args .cells .now) (s .args .size) (s .args .budget) (length (g .bytes)) (f .a) (g .b) (omega arith) (g .inv .5),
+      g .inv .3 ∙ f .inv .4,
+      leave-first (a .cells .now) (a .size) (a .budget) (length (g .bytes)) (f .a) (g .b) (omega arith) (g .inv .4),
     )
 
 same-length : tie.Need-same-length Inv-loop2 μ-loop2 Inv-loop μ-loop Inv-triples μ-triples
@@ -177,77 +140,37 @@ same-length c = c .before .triples .inv .4
 
 returns : tie.Need-returns Inv-loop2 μ-loop2 Inv-loop μ-loop Inv-triples μ-triples
 returns c =
-    let s = start (c .before) in
+    let a = start (c .before) .args in
     let f = c .before .triples in (
       f .inv .4,
-      λ T o. ap triplesAs (f .inv .3)
-          ∙ (all-hold (s .args .cells .now) (s .args .size) (s .args .budget) (length (f .bytes)) (f .a) (omega arith) (f .inv .5) T o
-          ∙ ap (λ i. cubeCheck T (s .args .budget) i (triples (s .args .size))) (f .inv .4)),
+      subst (TriplesMean (a .cells .now) (a .size) (length (a .bytes .now)) (a .budget)) (sym (f .inv .3))
+          (subst (λ i. TriplesMean (a .cells .now) (a .size) i (a .budget) Hold) (f .inv .4)
+          (all-hold (a .cells .now) (a .size) (a .budget) (length (f .bytes)) (f .a) (omega arith) (f .inv .5))),
     )
 
 same-length-2 : tie.Need-same-length-2 Inv-loop2 μ-loop2 Inv-loop μ-loop Inv-triples μ-triples
 same-length-2 c =
-    let k = at-loop2 (in-loop2 (after-cube-at (c .before .before))) in
-    let s = start (at-triples k) in
-    let f = at-triples k .triples in
-    let g = k .before .before .loop in
-    let h = k .loop2 in
-    let v = after-cube-at (c .before .before) .cube-at in
-    v .ensures .0 ∙ (h .inv .4 ∙ (g .inv .4 ∙ f .inv .4))
+    let k = at-loop2 (c .before) in
+    made (c .before) .check-triple .ensures .0 ∙ (k .loop2 .inv .3 ∙ (k .before .before .loop .inv .3 ∙ at-triples k .triples .inv .4))
 
 returns-2 : tie.Need-returns-2 Inv-loop2 μ-loop2 Inv-loop μ-loop Inv-triples μ-triples
 returns-2 c =
-    let k = after-cube-at (c .before .before) in
-    let s = start (at-triples (at-loop2 (in-loop2 k))) in
-    let f = at-triples (at-loop2 (in-loop2 k)) .triples in
-    let g = at-loop2 (in-loop2 k) .before .before .loop in
-    let h = at-loop2 (in-loop2 k) .loop2 in
-    let first : f .a ≤ s .args .size = omega (arith, at-loop2 (in-loop2 k) .before .before .before .triples-test .taken) in
-    let second : g .b ≤ s .args .size = omega (arith, at-loop2 (in-loop2 k) .before .loop-test .taken) in
-    let third : h .c ≤ s .args .size = omega (arith, in-loop2 k .loop2-test .taken) in
-    let low : 1 ≤ g .b = omega (arith, f .inv .0, g .inv .0) in
-    let v = k .cube-at in
-    let m = subst (CubeMeans (s .args .cells .now) (length (h .bytes)) (f .a) (g .b) (h .c) (s .args .budget)) (c .enum-told2 .given .1) (v .ensures .1) in (
-      v .ensures .0 ∙ (h .inv .4 ∙ (g .inv .4 ∙ f .inv .4)),
-      λ T o. fail-third (s .args .cells .now) (s .args .size) (s .args .budget) (length (h .bytes)) (f .a) (g .b) (h .c) third
-          (seconds (s .args .size) (f .a) (g .b + 1) ++ firsts (s .args .size) (f .a + 1)) (k .before .before .before .if1 .taken)
-          (k .before .before .if2 .taken) (h .inv .5) (f .inv .0) first low second (h .inv .0) m T o
-          ∙ ap (λ i. cubeCheck T (s .args .budget) i (triples (s .args .size))) (h .inv .4 ∙ (g .inv .4 ∙ f .inv .4)),
-    )
-
-same-length-3 : tie.Need-same-length-3 Inv-loop2 μ-loop2 Inv-loop μ-loop Inv-triples μ-triples
-same-length-3 c =
-    let k = at-loop2 (in-loop2 (after-cube-at (c .before .before .before))) in
-    let s = start (at-triples k) in
+    let k = at-loop2 (c .before) in
+    let a = start (at-triples k) .args in
     let f = at-triples k .triples in
     let g = k .before .before .loop in
     let h = k .loop2 in
-    let v = after-cube-at (c .before .before .before) .cube-at in
-    v .ensures .0 ∙ (h .inv .4 ∙ (g .inv .4 ∙ f .inv .4))
-
-returns-3 : tie.Need-returns-3 Inv-loop2 μ-loop2 Inv-loop μ-loop Inv-triples μ-triples
-returns-3 c =
-    let k = after-cube-at (c .before .before .before) in
-    let s = start (at-triples (at-loop2 (in-loop2 k))) in
-    let f = at-triples (at-loop2 (in-loop2 k)) .triples in
-    let g = at-loop2 (in-loop2 k) .before .before .loop in
-    let h = at-loop2 (in-loop2 k) .loop2 in
-    let first : f .a ≤ s .args .size = omega (arith, at-loop2 (in-loop2 k) .before .before .before .triples-test .taken) in
-    let second : g .b ≤ s .args .size = omega (arith, at-loop2 (in-loop2 k) .before .loop-test .taken) in
-    let third : h .c ≤ s .args .size = omega (arith, in-loop2 k .loop2-test .taken) in
-    let low : 1 ≤ g .b = omega (arith, f .inv .0, g .inv .0) in
-    let v = k .cube-at in
-    let m = subst (CubeMeans (s .args .cells .now) (length (h .bytes)) (f .a) (g .b) (h .c) (s .args .budget))
-    (c .before .verdict .given .1) (v .ensures .1) in (
-      v .ensures .0 ∙ (h .inv .4 ∙ (g .inv .4 ∙ f .inv .4)),
-      λ T o. halt-third (s .args .cells .now) (s .args .size) (s .args .budget) (length (h .bytes)) (f .a) (g .b) (h .c) third
-          (seconds (s .args .size) (f .a) (g .b + 1) ++ firsts (s .args .size) (f .a + 1)) (k .before .before .before .if1 .taken)
-          (k .before .before .if2 .taken) (h .inv .5) (f .inv .0) first low second (h .inv .0) (c .before .verdict .given .0 .0) m T o
-          ∙ ap (λ i. cubeCheck T (s .args .budget) i (triples (s .args .size))) (h .inv .4 ∙ (g .inv .4 ∙ f .inv .4)),
+    let v = made (c .before) .check-triple in
+    let e = h .inv .3 ∙ (g .inv .3 ∙ f .inv .4) in (
+      v .ensures .0 ∙ e,
+      subst (λ i. TriplesMean (a .cells .now) (a .size) i (a .budget) (v .result)) e
+          (third-ends (a .cells .now) (a .size) (a .budget) (length (h .bytes)) (f .a) (g .b) (h .c) (omega arith) (omega arith) (omega arith) (omega arith)
+          (omega arith) (omega arith) (v .result) (v .ensures .1) (seconds (a .size) (f .a) (g .b + 1) ++ firsts (a .size) (f .a + 1)) (h .inv .4)
+          (c .match .keys2)),
     )
 
 pub check-triples-spec : {M : Type 1} → statement M
 check-triples-spec =
-    tie.close (tie.spec Inv-loop2 μ-loop2 Inv-loop μ-loop Inv-triples μ-triples triples-holds (λ c. omega arith) loop-holds loop2-holds cube-at-requires
-    (λ c. search needs) (λ c. search needs) (λ c. search needs) (λ c. omega arith) (λ c. omega arith) loop2-again (λ c. omega arith) (λ c. omega arith)
-    loop-again (λ c. omega arith) (λ c. omega arith) triples-again same-length returns same-length-2 returns-2 same-length-3 returns-3)
+    tie.close (tie.spec Inv-loop2 μ-loop2 Inv-loop μ-loop Inv-triples μ-triples add-end triples-holds (λ c. omega arith) loop-holds loop2-holds
+    check-triple-requires (λ c. search needs) (λ c. omega arith) (λ c. omega arith) loop2-again (λ c. omega arith) (λ c. omega arith) loop-again
+    (λ c. omega arith) (λ c. omega arith) triples-again same-length returns same-length-2 returns-2)
