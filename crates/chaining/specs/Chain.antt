@@ -18,7 +18,7 @@ use Rattle.comparing.specs.Compare.{Ended, CompareSays}
 abbrev pub EndsSame : List ℕ → ℕ → List ℕ → List ℕ → ℕ → ℕ → Type 0
 EndsSame cells size first second room relations =
     (T : Presentation) → Of cells size T → (u v : Positive) → readForward size first ≡ answered u → readForward size second ≡ answered v
-    → (budget budget : ℕ) × Ended T u v budget room budget relations
+    → (budget steps : ℕ) × Ended T u v budget room steps relations
 
 -- a chain between them stands in the answer area, with an entry for each
 abbrev pub ProgramsListed : List ℕ → ℕ → List ℕ → List ℕ → ℕ → List ℕ → List ℕ → Type 0

@@ -52,9 +52,9 @@ from c T o u v eu ev =
     let p = s .pre .0 .pair in
     let e = s .pre .1 .0 T o u v eu ev in
     let l = c .load-programs in
-    listed-from (a .cells .now) (a .size) T o u v (a .first .now) (a .second .now) (a .m) (a .n) (p .one) (p .two)
+    listed-from (a .cells .now) (a .size) T o u v (a .first .now) (a .second .now) (a .firsts) (a .seconds) (p .one) (p .two)
     (same-answer (p .one .word) u (sym (p .one .read) ∙ eu)) (same-answer (p .two .word) v (sym (p .two .read) ∙ ev)) (e .0)
-    (length (a .workspace .now)) (e .1) (a .relations) (e .2) (l .last .1 .1 .1 .1 .1 .0) (length (a .workspace .now) - a .n) (l .ensures .same-length)
+    (length (a .workspace .now)) (e .1) (a .relations) (e .2) (l .last .1 .1 .1 .1 .1 .0) (length (a .workspace .now) - a .seconds) (l .ensures .same-length)
     (l .ensures .loads (a .cells .now) T o u v eu ev) (length (a .answer .now)) (s .pre .1 .1)
 
 sub-right : tie.Need-sub-right
