@@ -18,7 +18,7 @@ use Rattle.model.specs.Images.{mostSize}
 use Rattle.cells.specs.Layout.{weightAt}
 use Rattle.cells.specs.Stands.{Stands}
 use Rattle.cells.proofs.Rules.{held-weight, light-letter}
-use Rattle.signed_comparing.specs.Weight.{Stand}
+use Rattle.signed_comparing.specs.Weight.{Stand, evenLead}
 
 -- the first letters of a word weigh no more than the whole
 part-lighter : (T : Presentation) (u : Positive) (i : ℕ) → weigh T (take i u) ≤ weigh T u
@@ -86,10 +86,10 @@ module _ (cells bytes : List ℕ) (middle end : ℕ) (T : Presentation) (u v : P
         ap (λ k. weigh T (take k v)) {x = j + 1 - middle} {y = j - middle + 1} (omega (arith, low))
         ∙ weight-more cells T (s .stands) v (s .v-named) (j - middle) (getD bytes j 0) here (second-letter j low h)
 
-  -- what was gone through, with the lead of the first word beyond 16
-  module _ (i j lead : ℕ) (passed : weigh T (take i u) + 16 ≡ weigh T (take (j - middle) v) + lead) where
+  -- what was gone through, with the lead of the first word beyond that of even weights
+  module _ (i j lead : ℕ) (passed : weigh T (take i u) + evenLead ≡ weigh T (take (j - middle) v) + lead) where
     -- the first word is through, and as heavy as what was gone through of the second, which is through too
-    pub weights-same : middle ≤ i → end ≤ j → lead ≡ 16 → true ≡ eqb (weigh T u) (weigh T v)
+    pub weights-same : middle ≤ i → end ≤ j → lead ≡ evenLead → true ≡ eqb (weigh T u) (weigh T v)
     weights-same all both even =
         sym (eq-eqb (weigh T u) (weigh T v)
         (omega (
@@ -101,13 +101,13 @@ module _ (cells bytes : List ℕ) (middle end : ℕ) (T : Presentation) (u v : P
         )))
 
     -- the first word is through, and lighter than what was gone through of the second, or the second goes on
-    pub first-lighter : middle ≤ i → (lead < 16) → false ≡ eqb (weigh T u) (weigh T v)
+    pub first-lighter : middle ≤ i → (lead < evenLead) → false ≡ eqb (weigh T u) (weigh T v)
     first-lighter all less = sym (ne-eqb (weigh T u) (weigh T v) (λ e. below e))
       where
         below : weigh T u ≡ weigh T v → ⊥
         below e = omega (arith, e, passed, less, ap (weigh T) (take-all i u (omega (arith, all, first-long))), part-lighter T v (j - middle))
 
-    pub second-goes-on : middle ≤ i → lead ≡ 16 → middle ≤ j → j < end → false ≡ eqb (weigh T u) (weigh T v)
+    pub second-goes-on : middle ≤ i → lead ≡ evenLead → middle ≤ j → j < end → false ≡ eqb (weigh T u) (weigh T v)
     second-goes-on all even low more = sym (ne-eqb (weigh T u) (weigh T v) (λ e. below e))
       where
         below : weigh T u ≡ weigh T v → ⊥
@@ -121,14 +121,14 @@ module _ (cells bytes : List ℕ) (middle end : ℕ) (T : Presentation) (u v : P
         )
 
     -- the second word is through, and lighter than what was gone through of the first
-    pub second-lighter : end ≤ j → 16 < lead → false ≡ eqb (weigh T u) (weigh T v)
+    pub second-lighter : end ≤ j → evenLead < lead → false ≡ eqb (weigh T u) (weigh T v)
     second-lighter both more = sym (ne-eqb (weigh T u) (weigh T v) (λ e. below e))
       where
         below : weigh T u ≡ weigh T v → ⊥
         below e = omega (arith, e, passed, more, ap (weigh T) (take-all (j - middle) v (omega (arith, both, second-long, s .ordered))), part-lighter T u i)
 
     -- the first word is through, and as heavy as what was gone through of the second
-    pub even-ends : middle ≤ i → lead ≡ 16 → middle ≤ j → j ≤ end → eqb j end ≡ eqb (weigh T u) (weigh T v)
+    pub even-ends : middle ≤ i → lead ≡ evenLead → middle ≤ j → j ≤ end → eqb j end ≡ eqb (weigh T u) (weigh T v)
     even-ends all even low high = go (decLt j end)
       where
         go : Dec (j < end) → eqb j end ≡ eqb (weigh T u) (weigh T v)

@@ -1,8 +1,12 @@
 // Whether two words that stand one after the other weigh the same.
 ghost use Rattle.signed_comparing.specs.Weight.{TwoWords, FirstNext, FirstPassed, SecondNext, SecondPassed, SameWeight};
 use cells::weights::letter_weight;
+use model::plain::MOST_WEIGHT;
 
-// How far the two words are gone through: the places of their next letters, and the lead of the first, which begins at 16.
+// The lead of the first word while both weigh the same: so much that it does not fall below 0 when one letter of the second is passed.
+pub const EVEN: u16 = 2 * MOST_WEIGHT as u16;
+
+// How far the two words are gone through: the places of their next letters, and the lead of the first, which begins at `EVEN`.
 pub struct Balance {
     pub first: usize,
     pub second: usize,
@@ -35,7 +39,8 @@ pub fn pass_second(cells: &[u8], bytes: &[u8], at: Balance) -> Balance
     }
 }
 
-// The two words are gone through together, always on the side that is lighter so far, so that the lead stays within 8 and 24 however long they are.
+// The two words are gone through together, always on the side that is lighter so far, so that the lead stays within one
+// letter's weight of `EVEN`, however long they are.
 pub fn same_weight(cells: &[u8], bytes: &[u8], middle: usize, end: usize) -> bool
     requires { ⌜ TwoWords (now cells) (now bytes) middle end ⌝ }
     ensures { λ r. ⌜ SameWeight (now (cells .entry)) (now (bytes .entry)) middle end r ⌝ }
@@ -43,12 +48,12 @@ pub fn same_weight(cells: &[u8], bytes: &[u8], middle: usize, end: usize) -> boo
     let mut at = Balance {
         first: 0,
         second: middle,
-        lead: 16,
+        lead: EVEN,
     };
     loop {
-        if at.lead <= 16 {
+        if at.lead <= EVEN {
             if at.first == middle {
-                return at.lead == 16 && at.second == end;
+                return at.lead == EVEN && at.second == end;
             }
             at = pass_first(cells, bytes, at);
         } else {

@@ -213,7 +213,7 @@ returns-4 c =
     let passed = c .before .loop-test .left in
     subst (ProgramDone (s .args .image .now) (s .args .cells .now) (s .args .size)) (sym (c .ended .ensures))
     (by-filling (ProgramDone (s .args .image .now) (s .args .cells .now) (s .args .size)) (count l) (l .loop .tally) (filling (from
-        (s .args .image .now) at)) (λ f.
+    (s .args .image .now) at)) (λ f.
     let h = whole-held (program (s .args .size)) (s .args .image .now) (count l) (count-at (wide l .before)) at (l .loop .i) v passed f in
     record {
       program = record { word = v .done; read = h .read; count-is = h .count-is };

@@ -6,7 +6,7 @@ use lib.Arith.{lt-of-le-ne}
 use lib.ListN.{take}
 use borrow.Author.Tests.{ne-eqb}
 use Rattle.model.specs.Presentation.{weigh}
-use Rattle.signed_comparing.specs.Weight.{Balanced}
+use Rattle.signed_comparing.specs.Weight.{evenLead, Balanced}
 use Rattle.signed_comparing.proofs.Weighing.{first-lighter, second-lighter, even-ends}
 use Rattle.signed_comparing.proofs.weight.same_weight.Statement.{statement}
 use Rattle.signed_comparing.proofs.weight.same_weight.Tie as tie
@@ -35,7 +35,7 @@ loop-holds c =
       second-inside = s .pre .3 .ordered;
       low = omega arith;
       high = omega arith;
-      even = λ T u v t. ap (λ k. weigh T (take k v) + 16) {x = 0} {y = s .args .middle - s .args .middle} (omega arith);
+      even = λ T u v t. ap (λ k. weigh T (take k v) + evenLead) {x = 0} {y = s .args .middle - s .args .middle} (omega arith);
     }
 
 returns : tie.Need-returns Inv-loop μ-loop
@@ -51,7 +51,7 @@ returns-2 c =
     let k = c .before .before in
     let a = start (first (k .before)) .args in
     let l = first (k .before) .loop in
-    λ T u v t. ne-eqb (l .at .lead) 16 (c .if3 .left)
+    λ T u v t. ne-eqb (l .at .lead) evenLead (c .if3 .left)
     ∙ first-lighter (a .cells .now) (a .bytes .now) (a .middle) (a .end) T u v t (l .at .first) (l .at .second) (l .at .lead) (l .inv .even T u v t)
     (omega (arith, k .if2 .taken)) (lt-of-le-ne (k .before .before .if1 .taken) (c .if3 .left))
 
