@@ -1,7 +1,7 @@
 #!/bin/sh
-# How code and proofs are laid out: no line of a crate is over 160 characters, no function has more statements than `most`, and a path of more than three
-# `.before` stands alone as the body of an accessor, so that each place that a proof names is named once. Then a case for each fault that these looks must find.
-# The last line is 'N passed, M failed'.
+# How code and proofs are laid out: no line of a crate is over 160 characters, no function has more statements than `most`, a limit stands in definitions and
+# proofs by its constant, and a path of more than three `.before` stands alone as the body of an accessor, so that each place that a proof names is named once.
+# Then a case for each fault that these looks must find. The last line is 'N passed, M failed'.
 cd "$(dirname "$0")/.." || exit 1
 . tests/made.sh
 work=$(mktemp -d) || exit 1
@@ -39,7 +39,16 @@ large() {
     done
 }
 
+# numbers TREE: each limit of a format that stands as a number in a definition or proof: the most letters of a program and one more, and the bytes of the cells.
+# The computed cases are left out.
+numbers() {
+    crates "$1" | grep '\.antt$' | grep -v -e 'Cases\.antt$' -e '/Sheet\.antt$' | while IFS= read -r file; do
+        sed 's/--.*//' "$file" | grep -nwE '4095|4096|20480' | sed "s|^\([0-9]*\):.*|${file#"$1"/}: line \1 has a limit as a number|"
+    done
+}
+
 held 'the lines of the crates' '' "$(long .)"
+held 'the limits in the proofs' '' "$(numbers .)"
 held 'the functions of the crates' '' "$(large .)"
 held 'the paths of the proofs' '' "$(deep .)"
 
@@ -58,6 +67,10 @@ planted 'returns c =\n    f (c .before .before\n    .before .before)\n'
 held 'a path over two lines' "$fault" "$(deep "$work")"
 planted "start c = d$path\n"
 held 'an accessor of another place than its own' "$fault" "$(deep "$work")"
+planted 'few : n < 4096\n'
+held 'a limit as a number' 'crates/x/proofs/A.antt: line 1 has a limit as a number' "$(numbers "$work")"
+planted 'few : n < 2 ^ countWidth -- 4096\n'
+held 'a limit by its constant' '' "$(numbers "$work")"
 planted "$(printf '%161s' '' | tr ' ' u)\n"
 held 'a line that is too long' 'crates/x/proofs/A.antt: line 1 is longer than 160 characters' "$(long "$work")"
 planted "$(printf '%160s' '' | sed 's/ /λ/g')\n"
