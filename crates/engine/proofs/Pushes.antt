@@ -1,6 +1,6 @@
 -- Letters are written just before `right`, one at a time: what each turn of the two writing loops adds.
 use mathlib.Core.Path.{_≡_, refl, sym, ap, ap₂, subst, _∙_}
-use mathlib.Core.List.{List, [], _∷_, _++_, map, map-append, reverse-append}
+use mathlib.Core.List.{List, [], _∷_, _++_, append-assoc, map, map-append, reverse-append}
 use Prim.Native.Nat.{ℕ, suc, _+_, _-_, _≤_, _<_}
 use native.Mathlib.Omega.{arith}
 use native.Mathlib.Numerals.{add-one}
@@ -157,3 +157,15 @@ pub pushed-kept : {w : Word} {bytes after : List ℕ} {right count : ℕ} → Pu
     → take k after ≡ take k bytes
 pushed-kept {bytes} {after} {right} {count} p k h =
     sym (take-take k (right - count) after h) ∙ (ap (take k) (p .before) ∙ take-take k (right - count) bytes h)
+
+-- a word that was pushed before another one is one word with it
+pub pushed-both : {u v : Word} {bytes mid after : List ℕ} {right middle m n : ℕ} → middle ≡ right - n → Pushed v bytes right n mid
+    → Pushed u mid middle m after → Pushed (u ++ v) bytes right (m + n) after
+pushed-both {u} {v} {bytes} {mid} {after} {right} {middle} {m} {n} em p q =
+    let place : right - (m + n) ≡ middle - m = omega arith in
+    let below : middle - m ≤ right - n = omega arith in
+    record {
+      same-length = q .same-length ∙ p .same-length;
+      before = rw place (q .before ∙ pushed-kept p (middle - m) below);
+      pushed = rw (place, append-assoc) (q .pushed ∙ ap (λ w. u ++ w) (ap (λ i. letters (drop i mid)) em ∙ p .pushed));
+    }

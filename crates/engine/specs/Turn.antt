@@ -3,7 +3,7 @@ use mathlib.Core.List.{List, _++_}
 use mathlib.Core.Path.{_≡_}
 use Prim.Native.Nat.{ℕ, _+_, _-_, _≤_, _<_}
 use lib.ListN.{length, take, drop, getD}
-use Rattle.model.specs.Word.{Word}
+use Rattle.model.specs.Word.{Word, inverse}
 use Rattle.model.specs.Presentation.{Presentation}
 use Rattle.model.specs.Reversing.{at, site, next, no-site, blocked, step}
 use Rattle.engine.specs.Gap.{letters, wordAt, Searched, AtEnd}
@@ -22,6 +22,26 @@ pub record CellFits (cells : List ℕ) (at : ℕ) (bytes : List ℕ) (right : �
   pub held : at + getD cells at 0 < length cells
   pub room : getD cells at 0 ≤ right
   pub inside : right ≤ length bytes
+
+-- what a step puts in place of a site: the word of one cell, and behind it the inverse of the other's
+abbrev pub complements : List ℕ → ℕ → ℕ → Word
+complements cells to from = cellLetters cells to ++ inverse (cellLetters cells from)
+
+-- how many letters these are
+abbrev pub complementsLength : List ℕ → ℕ → ℕ → ℕ
+complementsLength cells to from = getD cells to 0 + getD cells from 0
+
+-- the words of two cells lie inside the cells, and there is room for both before `right`
+pub record CellsFit (cells : List ℕ) (to from : ℕ) (bytes : List ℕ) (right : ℕ) : Type 0 where
+  pub to-held : to + getD cells to 0 < length cells
+  pub from-held : from + getD cells from 0 < length cells
+  pub room : complementsLength cells to from ≤ right
+  pub inside : right ≤ length bytes
+
+-- a and b are the letters of a site: that of the back letter at one place, and that of the forward letter at another
+pub record PairAt (bytes : List ℕ) (at next a b : ℕ) : Type 0 where
+  pub before : a ≡ getD bytes at 0 - 128
+  pub after : b ≡ getD bytes next 0
 
 -- `word`, of `count` letters, was written just before `right`, and no byte before it or from `right` on has changed
 pub record Pushed (word : Word) (bytes : List ℕ) (right count : ℕ) (after : List ℕ) : Type 0 where

@@ -1,10 +1,10 @@
 ghost use mathlib.Core.Path.{_≡_};
-ghost use Prim.Native.Nat.{_-_};
+ghost use Prim.Native.Nat.{_-_, _≤_, _<_};
 ghost use lib.ListN.{length, getD};
 ghost use Rattle.model.specs.Word.{inverse};
 ghost use Rattle.engine.specs.Gap.{wordAt, Searched, AtLeftmost};
 ghost use Rattle.cells.specs.Stands.{Ready};
-ghost use Rattle.engine.specs.Turn.{cellLetters, CellFits, Pushed, TurnMeans};
+ghost use Rattle.engine.specs.Turn.{cellLetters, complements, complementsLength, CellFits, CellsFit, PairAt, Pushed, TurnMeans};
 use crate::gap::Gap;
 use crate::gap::Sought;
 use crate::gap::seek;
@@ -57,6 +57,36 @@ pub fn push_inverse(bytes: &mut [u8], right: usize, cells: &[u8], at: usize) -> 
     next
 }
 
+// Writes what a step puts in place of a site just before `right`: the word of one cell, and behind it the inverse of the other's; the place where it begins.
+pub fn push_complements(
+    bytes: &mut [u8],
+    right: usize,
+    cells: &[u8],
+    to: usize,
+    from: usize,
+) -> usize
+    requires { ⌜ CellsFit (now cells) to from (now bytes) right ⌝ }
+    ensures place { λ r. ⌜ r ≡ right - complementsLength (now (cells .entry)) to from ⌝ }
+    ensures pushed { λ r. ⌜ Pushed (complements (now (cells .entry)) to from) (now (bytes .entry)) right (complementsLength (now (cells .entry)) to from)
+        (now (bytes .exit)) ⌝ }
+{
+    let middle = push_inverse(bytes, right, cells, from);
+    push_word(bytes, middle, cells, to)
+}
+
+// The two letters of a site, of which the back letter is at `at` and the forward letter at `next`.
+pub fn pair_at(bytes: &[u8], at: usize, next: usize) -> Pair
+    requires at { ⌜ at < length (now bytes) ⌝ }
+    requires next { ⌜ next < length (now bytes) ⌝ }
+    requires back { ⌜ 128 ≤ getD (now bytes) at 0 ⌝ }
+    ensures { λ r. ⌜ PairAt (now (bytes .entry)) at next (r .a) (r .b) ⌝ }
+{
+    Pair {
+        a: bytes[at] - BACK,
+        b: bytes[next],
+    }
+}
+
 // One step at the leftmost site, or why there is none; `remaining` steps of the budget are left.
 pub fn step(cells: &[u8], bytes: &mut [u8], site: Gap, remaining: u16) -> Turn
     requires site { ⌜ AtLeftmost (now bytes) (site .left) (site .right) ⌝ }
@@ -65,27 +95,24 @@ pub fn step(cells: &[u8], bytes: &mut [u8], site: Gap, remaining: u16) -> Turn
     ensures step { λ r. ⌜ TurnMeans (now (cells .entry)) (wordAt (now (bytes .entry)) (site .left) (site .right)) remaining (now (bytes .exit)) r ⌝ }
 {
     let at = site.left - 1;
-    let next = site.right;
-    let a = bytes[at] - BACK;
-    let b = bytes[next];
-    let to = cell_at(a, b);
-    let from = cell_at(b, a);
+    let pair = pair_at(bytes, at, site.right);
+    let to = cell_at(pair.a, pair.b);
+    let from = cell_at(pair.b, pair.a);
     let x = cells[to] as usize;
     let y = cells[from] as usize;
     if x == UNDEFINED_LENGTH {
-        return Turn::Undefined(Pair { a, b });
+        return Turn::Undefined(pair);
     }
     if remaining == 0 {
         return Turn::Stopped(Stop::Budget);
     }
-    if next + 1 - at < x + y {
+    if site.right + 1 - at < x + y {
         return Turn::Stopped(Stop::Room);
     }
-    let middle = push_inverse(bytes, next + 1, cells, from);
-    let right = push_word(bytes, middle, cells, to);
+    let right = push_complements(bytes, site.right + 1, cells, to, from);
     Turn::Stepped {
         gap: Gap { left: at, right },
-        pair: Pair { a, b },
+        pair,
     }
 }
 

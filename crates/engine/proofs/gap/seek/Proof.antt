@@ -24,9 +24,6 @@ at-loop c = c .before .before .before
 loop-holds : tie.Need-loop-holds Inv-loop μ-loop
 loop-holds c = (begun (c .args .bytes .now) (c .args .gap .left) (c .args .gap .right) (c .pre .0) (c .pre .1), refl)
 
-slice-read-last : tie.Need-slice-read-last Inv-loop μ-loop
-slice-read-last c = omega arith
-
 same-length : tie.Need-same-length Inv-loop μ-loop
 same-length c = at-loop (c .before .before .before) .loop .inv .1
 
@@ -55,5 +52,5 @@ returns-2 c = (c .before .loop .inv .1, none-left (c .before .loop .inv .0) (ome
 
 pub seek-spec : {M : Type 1} → statement M
 seek-spec =
-    tie.close (tie.spec Inv-loop μ-loop loop-holds (λ c. search needs) (λ c. search needs) slice-read-last same-length returns (λ c. omega arith)
+    tie.close (tie.spec Inv-loop μ-loop loop-holds (λ c. search needs) (λ c. search needs) (λ c. search needs) same-length returns (λ c. omega arith)
     (λ c. omega arith) (λ c. omega arith) (λ c. omega arith) loop-again same-length-2 returns-2)
