@@ -32,7 +32,7 @@ deep() {
 }
 
 # large TREE: each function with too many statements
-most=18
+most=10
 large() {
     crates "$1" | grep '/src/.*\.rt$' | while IFS= read -r file; do
         awk -v most="$most" -f tests/statements.awk "$file" | sed "s|^$1/||"
