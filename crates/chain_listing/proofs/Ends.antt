@@ -10,7 +10,7 @@ use native.Mathlib.Nat.{le-trans}
 use lib.ListN.{length}
 use Rattle.model.specs.Word.{Word, Positive, forward, back, positive, negative}
 use Rattle.model.specs.Presentation.{Presentation, Complement, undefined, complement, complete}
-use Rattle.model.specs.Reversing.{Site, nowhere, at, site, beyond, replaced, Next, no-site, blocked, step, next, byComplement, bySite, no-budget, finished}
+use Rattle.model.specs.Reversing.{Site, nowhere, at, site, beyond, replaced, Next, no-site, blocked, step, next, byComplement, bySite, finished}
 use Rattle.model.specs.Reversing.{ended, count, run}
 use Rattle.model.proofs.Impossible.{impossible}
 use Rattle.model.proofs.Words.{negative-cons, fraction-at, fraction-nowhere, denominator-of}

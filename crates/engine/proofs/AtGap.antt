@@ -3,7 +3,7 @@ use mathlib.Core.Path.{_≡_, refl, sym, ap, ap₂, subst, _∙_}
 use mathlib.Core.List.{List, _∷_, _++_, append-assoc}
 use Prim.Native.Nat.{ℕ, _+_, _-_, _≤_, _<_}
 use native.Mathlib.Omega.{arith}
-use lib.ListN.{length, take, drop, getD, length-append, length-take, length-drop}
+use lib.ListN.{length, take, drop, length-append, length-take, length-drop}
 use Rattle.model.specs.Word.{Word, Positive, forward, back, positive, negative}
 use Rattle.model.specs.Presentation.{Presentation, undefined, complement, complete}
 use Rattle.model.specs.Reversing.{at, site, replaced, next, no-site, blocked, step, byComplement, bySite}

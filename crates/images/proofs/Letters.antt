@@ -1,22 +1,19 @@
 -- The letters of an accepted program, one by one. What the forward test and the unpacking of a program make of them.
 use mathlib.Core.Path.{_≡_, sym, ap, subst, _∙_}
-use mathlib.Core.List.{List, _∷_, _++_, append-assoc}
-use mathlib.Core.Bool.{true, false, cond}
-use Prim.Native.Nat.{ℕ, _^_, suc, _+_, _*_, _≤_, _<_}
+use mathlib.Core.List.{List, _++_, append-assoc}
+use Prim.Native.Nat.{ℕ, _^_, _+_, _*_, _≤_, _<_}
 use native.Mathlib.Omega.{arith}
 use native.Mathlib.Numerals.{add-one}
 use native.Mathlib.Nat.{mul-le-mul-left}
-use borrow.Author.Tests.{eq-eqb, ne-eqb}
 use lib.ListN.{length, take, drop, set, getD, length-map, List·getD-map}
-use lib.Seq.{drop-cons, drop-length, paste, paste-suc, take-all}
-use Rattle.model.specs.Word.{forward, back, Word, byte}
+use lib.Seq.{paste, paste-suc, take-all}
+use Rattle.model.specs.Word.{forward, Word, byte}
 use Rattle.model.specs.Outcome.{unplaced, answered, refused}
 use Rattle.model.specs.Bits.{letterWidth}
-use Rattle.model.specs.Images.{signed, signedField, readProgram, countWidth, sizeWidth}
+use Rattle.model.specs.Images.{signedField, readProgram, countWidth, sizeWidth}
 use Rattle.model.specs.Plain.{plainProgram}
-use Rattle.model.specs.Services.{isForward}
 use Rattle.bits.proofs.Width.{width-small}
-use Rattle.images.specs.Fields.{from, Before, FieldAt}
+use Rattle.images.specs.Fields.{from}
 use Rattle.images.specs.Programs.{SignedAt, Accepted, HasLetter}
 use Rattle.model.specs.Areas.{written}
 use Rattle.model.proofs.Impossible.{same-answer}

@@ -1,6 +1,6 @@
 -- Reading a table and a program, as reverse, enquire and commit begin, ways and tray with a program of forward moves; and a table and two programs, as compare,
 -- chain and check do, and compare_signed with programs of either sign.
-use mathlib.Core.Path.{_≡_, refl, sym, ap, _∙_}
+use mathlib.Core.Path.{_≡_, refl, ap, _∙_}
 use mathlib.Core.List.{List}
 use mathlib.Core.Bool.{Bool}
 use Prim.Native.Nat.{ℕ}

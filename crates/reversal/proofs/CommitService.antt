@@ -13,10 +13,8 @@ use Rattle.model.specs.Outcome.{unplaced, Outcome, answered, refused, _>>=_, ma
 use Rattle.model.specs.Images.{readProgram}
 use Rattle.model.specs.Services.{readTableWith, Fraction, fractionOf, reverse, Sizes, sizes, sizesOf, enquire, agree, committedOf, commit}
 use Rattle.model.specs.Areas.{fractionBytes, outputAfter, workspaceAfter}
-use Rattle.model.specs.Stated.{refusal}
 use Rattle.model.specs.declared.answers.Ending.{Ending as EndingAnswer}
 use Rattle.model.specs.declared.answers.Ending.the-variants.{Finished, Undefined, Stopped}
-use Rattle.model.specs.declared.answers.Refusal.{Refusal}
 use Rattle.model.specs.declared.answers.Refusal.the-variants.{OtherNumbers}
 use Rattle.model.specs.declared.answers.Reversed.{Reversed}
 use Rattle.model.specs.declared.answers.Reversed.the-variants.{Refused}
@@ -25,7 +23,7 @@ use Rattle.model.proofs.Outcomes.{goes-on}
 use Rattle.engine.specs.Run.{Reverses}
 use Rattle.engine.proofs.Ended.{end, done, met, halted}
 use Rattle.reversal.specs.Asked.{Answers}
-use Rattle.reversal.specs.Commit.{CommitSays, CommitPromise}
+use Rattle.reversal.specs.Commit.{CommitPromise}
 use Rattle.loading.proofs.Late.{Late, late-refusal, late-cond, late-then}
 use Rattle.reversal.proofs.Answers.{fraction-late}
 use Rattle.reversal.proofs.EnquireService.{sizes-late}

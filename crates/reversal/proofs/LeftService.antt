@@ -9,13 +9,11 @@ use Rattle.model.specs.Word.{Word}
 use Rattle.model.specs.Presentation.{Presentation}
 use Rattle.model.specs.Reversing.{Ending, finished, open-pair, stopped, no-budget, no-room, reversing}
 use Rattle.model.specs.Outcome.{Outcome, answered, unless, mapped}
-use Rattle.model.specs.Images.{readTable, readProgram}
 use Rattle.model.specs.Mirror.{mirror, mirrorCheck, leftReversing}
 use Rattle.model.specs.Services.{Sizes, sizes, Fraction, fractionOf, leftFraction, leftReverse}
 use Rattle.model.specs.Areas.{fractionBytes, outputAfter, workspaceAfter}
 use Rattle.model.specs.Stated.{refusal}
 use Rattle.model.specs.declared.answers.Pair.{Pair}
-use Rattle.model.specs.declared.answers.Refusal.{Refusal}
 use Rattle.model.specs.declared.answers.Refusal.the-variants.{NoMirror}
 use Rattle.model.specs.declared.answers.Reversed.{Reversed}
 use Rattle.model.specs.declared.answers.Reversed.the-variants.{Refused}

@@ -1,29 +1,21 @@
 -- A program loaded backward, and an answer read backward.
-use mathlib.Core.Path.{_≡_, refl, sym, ap, ap₂, subst, _∙_}
-use mathlib.Core.List.{List, [], _++_, append-assoc, reverse}
+use mathlib.Core.Path.{_≡_, refl, sym, ap, ap₂, _∙_}
+use mathlib.Core.List.{List, _++_, append-assoc, reverse}
 use mathlib.Core.Bool.{Bool, true, false}
-use Prim.Native.Nat.{ℕ, _+_, _-_, _^_, _≤_, _<_}
+use Prim.Native.Nat.{ℕ, _+_, _-_, _≤_}
 use native.Mathlib.Omega.{arith}
 use lib.Dec.{ltb}
-use borrow.Rule.Slice.PartMut.{putMid}
-use lib.ListN.{length, take, drop, length-append, length-drop, length-map, length-reverse}
-use lib.Seq.{take-at, drop-at, length-take-le, take-all, drop-length}
-use Rattle.model.specs.Word.{Word, byte}
+use lib.ListN.{length, take, drop, length-append, length-reverse}
+use lib.Seq.{take-at, drop-at}
+use Rattle.model.specs.Word.{Word}
 use Rattle.model.specs.Presentation.{Presentation}
 use Rattle.model.specs.Reversing.{Ending, finished, open-pair, stopped, reversing}
-use Rattle.model.specs.Range.{LetterInRange, ProgramInRange}
-use Rattle.model.specs.Images.{countWidth}
-use Rattle.model.specs.Plain.{plainProgram}
 use Rattle.model.specs.Outcome.{Outcome, answered, refused, unless, mapped}
 use Rattle.model.specs.Services.{sizes, Fraction, fractionOf}
-use Rattle.model.specs.Areas.{written, fractionBytes, outputAfter}
+use Rattle.model.specs.Areas.{fractionBytes, outputAfter}
 use Rattle.model.specs.declared.answers.Refusal.{Refusal}
 use Rattle.model.specs.declared.answers.Reversed.the-variants.{Answer, Refused}
-use Rattle.model.proofs.Lists.{all-reverse}
-use Rattle.model.proofs.Words.{map-reverse}
-use Rattle.areas.proofs.Parts.{part-back}
 use Rattle.theory.specs.Mirrors.{readBackward}
-use Rattle.loading.proofs.Programs.{written-end}
 use Rattle.reversal.specs.Asked.{Answers}
 use Rattle.reversal.proofs.Told.{mapped-refused, mapped-answered}
 use Rattle.reversal.specs.Backward.{WordsTurned}

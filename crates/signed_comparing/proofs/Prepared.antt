@@ -5,11 +5,10 @@ use Prim.Native.Nat.{ℕ}
 use lib.ListN.{length, replicate}
 use Rattle.model.specs.Presentation.{Presentation}
 use Rattle.model.specs.Enumeration.{triples}
-use Rattle.model.specs.Outcome.{answered, _>>=_, mapped}
+use Rattle.model.specs.Outcome.{answered, _>>=_}
 use Rattle.model.specs.Checks.{cubeCheck, cleared}
 use Rattle.model.specs.Mirror.{mirror, mirrorCheck}
 use Rattle.model.specs.Services.{ofMirror}
-use Rattle.model.specs.Signed.{grownSet}
 use Rattle.model.specs.Areas.{workspaceAfter}
 use Rattle.model.specs.Stated.{refusal, clearedAs}
 use Rattle.model.specs.declared.answers.Pair.{Pair}

@@ -1,9 +1,9 @@
 -- The comparison after what comes before it, and the outcome of compare_signed after its reading.
 use mathlib.Core.Path.{_≡_, refl, sym, ap, subst, _∙_}
-use mathlib.Core.List.{List, [], _∷_, _++_}
+use mathlib.Core.List.{List, _++_}
 use Prim.Native.Nat.{ℕ}
 use lib.ListN.{length}
-use Rattle.model.specs.Word.{Word, positive, negative, inverse}
+use Rattle.model.specs.Word.{Word, inverse}
 use Rattle.model.specs.Presentation.{Presentation}
 use Rattle.model.specs.Enumeration.{triples}
 use Rattle.model.specs.Reversing.{Ending, finished, open-pair, stopped, reversing}
@@ -11,7 +11,7 @@ use Rattle.model.specs.Outcome.{Outcome, answered, refused, _>>=_, mapped}
 use Rattle.model.specs.Checks.{cubeCheck, cleared}
 use Rattle.model.specs.Mirror.{mirror, mirrorCheck}
 use Rattle.model.specs.Images.{readTable, readProgram}
-use Rattle.model.specs.Services.{ofMirror, verdictOf, forwardVerdict, Images, readImages}
+use Rattle.model.specs.Services.{ofMirror, forwardVerdict, Images, readImages}
 use Rattle.model.specs.Signed.{SignedVerdict, grownSet, afterFirst, signedOf, signedComparison, compareSigned}
 use Rattle.model.specs.Stated.{refusal, stopRefusal, compared, comparedSigned}
 use Rattle.model.specs.declared.answers.Stop.{Stop as StopAnswer}

@@ -1,6 +1,6 @@
 -- `bits::read_run` meets its contract.
 use mathlib.Core.Path.{_≡_, ap, _∙_}
-use Prim.Native.Nat.{_*_, _-_, _/_, _%_, _^_, _<_}
+use Prim.Native.Nat.{_*_, _-_, _/_, _%_, _^_}
 use native.Mathlib.Omega.{arith}
 use lib.ListN.{getD}
 use lib.Pow.{pow-pos}

@@ -1,5 +1,5 @@
 -- `images::next_signed` meets its contract.
-use mathlib.Core.Path.{_≡_, sym, ap, subst}
+use mathlib.Core.Path.{_≡_, ap, subst}
 use native.Mathlib.Omega.{arith}
 use Prim.Native.Nat.{ℕ, _+_, _*_, _/_, _%_, _^_, _<_}
 use Rattle.images.specs.BitReader.{place, TakenAt, TakenDone}

@@ -16,7 +16,6 @@ use Rattle.images.specs.BitReader.{place, ReadsFrom, TakenAt, TakenDone}
 use Rattle.images.specs.Programs.{SignedTaken, HasLetter}
 use Rattle.images.specs.Widths.{WidthOf}
 use Rattle.images.specs.declared.bit_reader.BitReader.{BitReader}
-use Rattle.images.specs.declared.bit_reader.Taken.{Taken}
 use Rattle.bits.proofs.Width.{width-small}
 use Rattle.images.proofs.Placed.{count-inside}
 use Rattle.images.proofs.BitReader.{span, span-some}

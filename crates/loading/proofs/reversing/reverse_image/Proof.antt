@@ -12,7 +12,6 @@ use Rattle.engine.specs.Run.{Reverses}
 use Rattle.loading.specs.Reversing.{faced}
 use Rattle.loading.proofs.Programs.{too-long, word-searched, word-served, word-reverses}
 use Rattle.loading.proofs.Facing.{faced-length, faced-in-range}
-use borrow.Author.Needs.{needs}
 use Rattle.loading.proofs.reversing.reverse_image.Statement.{statement}
 use Rattle.loading.proofs.reversing.reverse_image.Tie as tie
 

@@ -1,5 +1,5 @@
 -- `writers::measuring::pair_bits` meets its contract.
-use mathlib.Core.Path.{_≡_, refl, sym, ap, ap₂, _∙_}
+use mathlib.Core.Path.{_≡_, sym, ap, ap₂, _∙_}
 use Prim.Native.Nat.{_+_, _*_, _≤_, _<_}
 use native.Mathlib.Omega.{arith}
 use native.Mathlib.Nat.{mul-le-mul}
@@ -8,7 +8,6 @@ use Rattle.model.specs.Word.{Positive}
 use Rattle.model.specs.Presentation.{Complement, complement}
 use Rattle.model.specs.Images.{wordLengths}
 use Rattle.cells.specs.Layout.{cellAt}
-use Rattle.cells.specs.Stands.{HoldsWord}
 use Rattle.cells.specs.Kept.{HoldsPair}
 use Rattle.bits.proofs.Digits.{length-digits}
 use Rattle.writers.specs.Forms.{pairAs}

@@ -1,7 +1,7 @@
 -- `writers::measuring::table_bits` meets its contract. The loop's invariant: the bits of the size, the weights and the rows passed.
-use mathlib.Core.Path.{_≡_, ap, _∙_}
+use mathlib.Core.Path.{_≡_, ap}
 use mathlib.Core.List.{List, []}
-use Prim.Native.Nat.{_+_, _-_, _*_, _≤_, _<_}
+use Prim.Native.Nat.{_+_, _-_, _*_, _≤_}
 use native.Mathlib.Omega.{arith}
 use native.Mathlib.Nat.{mul-le-mul}
 use lib.ListN.{length, take, getD, length-append}
@@ -12,7 +12,6 @@ use Rattle.images.specs.Tables.{RowsHeld}
 use Rattle.writers.specs.Forms.{pairAs}
 use Rattle.writers.proofs.Lengths.{table-length}
 use Rattle.writers.proofs.Parts.{some-row, table-row, table-width, table-more, table-all}
-use borrow.Author.Needs.{needs}
 use Rattle.writers.proofs.measuring.table_bits.Statement.{statement}
 use Rattle.writers.proofs.measuring.table_bits.Tie as tie
 

@@ -10,7 +10,6 @@ use Rattle.cells.specs.Layout.{cellAt, cellLength}
 use Rattle.cells.specs.Kept.{HoldsPair}
 use Rattle.writers.specs.BitWriter.{Puts}
 use Rattle.writers.specs.Forms.{pairAs}
-use Rattle.writers.specs.Held.{HoldsSomeWord}
 use Rattle.writers.proofs.BitWriter.{puts-more}
 use Rattle.writers.proofs.Parts.{both-words, open-pair}
 use borrow.Author.Needs.{needs}

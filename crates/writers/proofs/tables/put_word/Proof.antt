@@ -1,8 +1,8 @@
 -- `writers::tables::put_word` meets its contract. The loop's invariant: after the length, the letters passed are put.
-use mathlib.Core.Path.{_≡_, subst, _∙_}
+use mathlib.Core.Path.{subst, _∙_}
 use Prim.Native.Nat.{_+_, _-_, _≤_, _<_}
 use native.Mathlib.Omega.{arith}
-use lib.ListN.{length, take, getD}
+use lib.ListN.{take, getD}
 use Rattle.model.specs.Word.{Positive}
 use Rattle.model.specs.Enumeration.{concatMap}
 use Rattle.model.specs.Range.{InRange}
