@@ -85,7 +85,8 @@ module _ (cells : List ℕ) (T : Presentation) (s : Stands cells T) (a b : ℕ) 
     near_second n = decided_false λ h. n (ap (λ i. get_or cells i 0) {x = cell_at a b + 2} {y = cell_at a b + 1 + 1} (omega arith)
         ∙ (near_held h).letters 1 (omega arith))
 
-    pub near_decided : get_or cells (cell_at a b + 1) 0 ≡ b → get_or cells (cell_at a b + 2) 0 ≡ a → Decides (eqb (get_or cells (cell_at a b) 0) 2) (HasBraidWord T a b)
+    pub near_decided : get_or cells (cell_at a b + 1) 0 ≡ b → get_or cells (cell_at a b + 2) 0 ≡ a
+        → Decides (eqb (get_or cells (cell_at a b) 0) 2) (HasBraidWord T a b)
     near_decided first second =
         record {
           holds = λ e.

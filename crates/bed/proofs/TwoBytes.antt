@@ -122,5 +122,6 @@ module _ (old : List ℕ) (at k : ℕ) (ts : List ℤ) (more : k < length ts) (r
           {x = at + length (concat_map total_bytes (take (k + 1) ts))} {y = suc (suc (at + 2 * k))}
           (omega (arith, bytes_length (take (k + 1) ts), length-take-le (k + 1) ts (omega arith)))
           ∙ (ap (λ b. take at old ++ (b ++ drop (suc (suc (at + 2 * k))) old)) bytes_are
-          ∙ (ap (λ b. take at old ++ b) (append_assoc (concat_map total_bytes (take k ts)) (total_bytes (get_or ts k (pos 0))) (drop (suc (suc (at + 2 * k))) old))
+          ∙ (ap (λ b. take at old ++ b) (append_assoc (concat_map total_bytes (take k ts)) (total_bytes (get_or ts k (pos 0)))
+          (drop (suc (suc (at + 2 * k))) old))
           ∙ sym (append_assoc (take at old) (concat_map total_bytes (take k ts)) (total_bytes (get_or ts k (pos 0)) ++ drop (suc (suc (at + 2 * k))) old))))

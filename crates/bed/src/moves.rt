@@ -18,7 +18,7 @@ pub const MOST_BOBBINS: usize = 17;
 pub const MOST_PAIRS: usize = 136;
 
 // A table of n letters has the first n + 1 bobbins, and the totals of their pairs in order come first.
-#[derive(Drop)]
+#[derive(Clone, Copy)]
 pub struct Bed {
     pub bobbins: [u8; MOST_BOBBINS],
     pub totals: [i16; MOST_PAIRS],

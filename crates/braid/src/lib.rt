@@ -1,3 +1,5 @@
 // The services for C: thin functions over the proved ones, on areas and integers.
+#![tactic(auto)]
+
 pub mod calls;
 mod numbers;

@@ -1,6 +1,7 @@
 // How an answer is told in numbers: 0 or the refusal's number, then four values.
 ghost use Rattle.std.specs.Prelude.{◌≡◌};
-ghost use Rattle.model.specs.Stated.{refusal, reversed, cleared_as, compared, compared_signed, chained, remaining, checked, packed_as, listed_as, tray_compared};
+ghost use Rattle.model.specs.Stated.{refusal, reversed, cleared_as, compared, compared_signed, chained, remaining, checked, packed_as, listed_as};
+ghost use Rattle.model.specs.Stated.{tray_compared};
 ghost use Rattle.braid.specs.Told.{told, sizes_told, passed_told, verdict_told, signed_told, chain_told, remainder_told, passage_told, bytes_told, counts_told};
 ghost use Rattle.braid.specs.Told.{logs_told};
 
@@ -10,7 +11,7 @@ use model::answers::{
 };
 use numbering::refusals::refusal_numbers;
 
-#[derive(Drop)]
+#[derive(Clone, Copy)]
 pub struct Numbers {
     pub code: u8,
     pub first: u64,

@@ -85,7 +85,8 @@ module _ (before : List ℕ) (a b : ℕ) (letters : Letters a b) where
               get_or-set_other (set before (cell_at a b) 255) (cell_at b a) (cell_at a b) 255 0
               (λ e. differ (omega (arith, letters.0.low, letters.0.high, letters.1.low, letters.1.high)))
               ∙ get_or-set_same before (cell_at a b) 255 0 (omega (arith, cell_inside a b letters));
-          back = get_or-set_same (set before (cell_at a b) 255) (cell_at b a) 255 0 (omega (arith, cell_inside b a turned, length-set before (cell_at a b) 255));
+          back = get_or-set_same (set before (cell_at a b) 255) (cell_at b a) 255 0
+              (omega (arith, cell_inside b a turned, length-set before (cell_at a b) 255));
         }
 
   pub undefined_kept : KeptPair before a b (set (set before (cell_at a b) 255) (cell_at b a) 255)

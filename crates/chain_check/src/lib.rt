@@ -1,2 +1,4 @@
 // The service that checks a chain.
+#![tactic(auto)]
+
 pub mod check;

@@ -162,7 +162,8 @@ module _ (n total : ℕ) (area answer : List ℕ) (entries : List Entry) (h : La
   unfolding image zeros
   all_bits =
       h.bits
-      ∙ (ap (λ g. digits chain_count_width total ++ (concat_map (entry_bits n) entries ++ (g ++ (zeros ++ drop (8 * chain_bytes n total) (bits_of area))))) no_gap
+      ∙ (ap (λ g. digits chain_count_width total ++ (concat_map (entry_bits n) entries ++ (g ++ (zeros ++ drop (8 * chain_bytes n total) (bits_of area)))))
+      no_gap
       ∙ (sym (append_assoc (digits chain_count_width total) (concat_map (entry_bits n) entries) (zeros ++ drop (8 * chain_bytes n total) (bits_of area)))
       ∙ sym (append_assoc image zeros (drop (8 * chain_bytes n total) (bits_of area)))))
 

@@ -146,7 +146,8 @@ module _ (n total : ℕ) (area : List ℕ) (entries : List Entry) where
       pub top_read : drop (entry_position n index) (bits_of answer) ≡ entry_bits n s ++ (concat_map (entry_bits n) slots ++ tail_bits n total area)
       top_read = ap (drop (entry_position n index)) top_bits ∙ drop_at (head ++ h.gap) _ (entry_position n index) before_top
 
-      pub changed : (e : Entry) {after : List ℕ} → Appended answer (entry_position n index) (entry_bits n e) after → Layout n total area entries (e ∷ slots) after
+      pub changed : (e : Entry) {after : List ℕ} → Appended answer (entry_position n index) (entry_bits n e) after
+          → Layout n total area entries (e ∷ slots) after
       changed e p =
           record {
             same_length = p.same_length ∙ h.same_length;

@@ -43,7 +43,8 @@ first_letter bytes left a rest h e =
     (ap (λ i. letters (take i bytes)) m
     ∙ (ap letters (take-suc bytes (left - 1) 0 (omega arith))
     ∙ (letters_append (take (left - 1) bytes) (get_or bytes (left - 1) 0 ∷ [])
-    ∙ ap (λ w. letters (take (left - 1) bytes) ++ w) (letters_cons (get_or bytes (left - 1) 0) [] ∙ ap (λ w. letter (get_or bytes (left - 1) 0) ∷ w) letters_nil))))
+    ∙ ap (λ w. letters (take (left - 1) bytes) ++ w)
+    (letters_cons (get_or bytes (left - 1) 0) [] ∙ ap (λ w. letter (get_or bytes (left - 1) 0) ∷ w) letters_nil))))
     ∙ (e ∙ negative_cons a rest) in
     let l : length (letters (take (left - 1) bytes)) ≡ left - 1 =
     length_letters (take (left - 1) bytes) ∙ length-take-le (left - 1) bytes (omega arith) in

@@ -11,7 +11,7 @@ use model::plain::BACK;
 
 // How far a listing has come. The bytes before `left` are the inverse of the first word's rest, those from `right` on the letters left of
 // the second; `passed` letters stand before the rest in the word that the `emitted` entries have led to, and `stacked` faces are not done.
-#[derive(Drop)]
+#[derive(Clone, Copy)]
 pub struct Progress {
     pub left: usize,
     pub right: usize,

@@ -13,7 +13,8 @@ use Rattle.model.specs.Presentation.{Presentation, complete, weight_of, weigh}
 use Rattle.model.specs.Reversing.{finished, reversing}
 use Rattle.model.specs.Outcome.{Outcome, answered, refused, ◌>>=◌, unless, mapped}
 use Rattle.model.specs.Images.{read_program, chain_image, most_size}
-use Rattle.model.specs.Services.{Verdict, same_after, different_after, read_forward, comparison, chain_bytes, listable, ChainAnswer, listed_after, unlisted_after}
+use Rattle.model.specs.Services.{Verdict, same_after, different_after, read_forward, comparison, chain_bytes, listable, ChainAnswer, listed_after}
+use Rattle.model.specs.Services.{unlisted_after}
 use Rattle.model.specs.Services.{chain_answer, verdict_in, chain, Images, read_images}
 use Rattle.model.specs.Areas.{Compares, Listed, ChainArea, workspace_after}
 use Rattle.model.specs.Stated.{refusal}

@@ -3,7 +3,8 @@ use Rattle.std.specs.Prelude.{List, ◌≡◌, ℕ, ◌≤◌, length}
 use Rattle.model.specs.Word.{Positive}
 use Rattle.model.specs.Presentation.{Presentation, weigh}
 use Rattle.model.specs.Outcome.{Outcome, answered, refused, ◌>>=◌, mapped}
-use Rattle.model.specs.Services.{Verdict, same_after, different_after, read_forward, comparison, chain_bytes, listable, ChainAnswer, listed_after, unlisted_after}
+use Rattle.model.specs.Services.{Verdict, same_after, different_after, read_forward, comparison, chain_bytes, listable, ChainAnswer, listed_after}
+use Rattle.model.specs.Services.{unlisted_after}
 use Rattle.model.specs.Services.{joins, check, chain, verdict_in}
 use Rattle.model.specs.Areas.{begins, Compares, Listed, workspace_after, ChainArea}
 use Rattle.model.specs.Stated.{compared}

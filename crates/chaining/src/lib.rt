@@ -1,2 +1,4 @@
 // The service chain.
+#![tactic(auto)]
+
 pub mod chain;

@@ -10,7 +10,7 @@ use model::answers::{Cleared, Place, Refusal, Stop, Triple};
 use table_checks::table::{Triples, Weights, check_triples, check_weights};
 
 // Whose triples the cube check goes through.
-#[derive(Drop)]
+#[derive(Clone, Copy)]
 pub enum TriplesOf {
     Table,
     Mirror,

@@ -1,4 +1,6 @@
 // The services clear and mirror_clear.
+#![tactic(auto)]
+
 pub mod both_checks;
 pub mod clear;
 pub mod clearing;

@@ -1,2 +1,4 @@
 // The service compare.
+#![tactic(auto)]
+
 pub mod compare;

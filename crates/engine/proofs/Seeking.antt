@@ -162,4 +162,5 @@ none_left {place} {word} {bytes} {left} {right} s all =
         ∙ finds_none (front bytes left) (letter (last bytes left)))
     go (no none) =
         let z : left ≡ 0 = omega arith in
-        ap (site_from (place_before left)) (all_before bytes left right all ∙ (ap (λ i. letters (take i bytes)) z ∙ letters_nil)) ∙ empty_none (place_before left)
+        ap (site_from (place_before left)) (all_before bytes left right all ∙ (ap (λ i. letters (take i bytes)) z ∙ letters_nil))
+        ∙ empty_none (place_before left)

@@ -11,7 +11,7 @@ use model::answers::{Pair, Stop};
 use model::plain::BACK;
 
 // What the next word of a reversing comes to.
-#[derive(Drop)]
+#[derive(Clone, Copy)]
 pub enum Turn {
     Final(Gap),
     Undefined(Pair),

@@ -13,7 +13,7 @@ pub const OFFSET_BITS: usize = 15;
 
 // An entry (specification 2.3): which side of the relation of a, b is exchanged, and where. While a chain is listed, an entry may stand for a
 // face that is not done, with the number of its letters left as the offset.
-#[derive(Drop)]
+#[derive(Clone, Copy)]
 pub struct ChainEntry {
     pub offset: u16,
     pub a: u8,

@@ -9,7 +9,8 @@ use lib.Dec.{ltb, leb, eqb}
 use Rattle.model.specs.Presentation.{undefined}
 use Rattle.model.specs.Outcome.{Outcome, answered, refused, ◌>>=◌, unless}
 use Rattle.model.specs.Bits.{Read, bits_of, field, letter_width}
-use Rattle.model.specs.Images.{weight_width, several, rows_of, letter_field, word_field, defined_field, pair_field, read_table, word_lengths, length_width, most_size}
+use Rattle.model.specs.Images.{weight_width, several, rows_of, letter_field, word_field, defined_field, pair_field, read_table, word_lengths, length_width}
+use Rattle.model.specs.Images.{most_size}
 use Rattle.model.specs.Images.{size_width}
 use Rattle.bits.proofs.Digits.{AreBits}
 use Rattle.bits.proofs.Bytes.{bits_are_bits}
@@ -119,7 +120,8 @@ module _ (size : ℕ) where
 
   word_agrees : (bits : List ℕ) → AreBits bits → AgreeBits (word_in (image_form size) size bits) (word_field size bits)
   word_agrees bits b =
-      then_agree same AreBits (number_in length_width 0 word_lengths bits) (field 1 length_width bits) _ _ (all_said length_width bits b word_lengths (omega arith))
+      then_agree same AreBits (number_in length_width 0 word_lengths bits) (field 1 length_width bits) _ _
+      (all_said length_width bits b word_lengths (omega arith))
       (λ k rest h. several_agree same AreBits (letter_in (image_form size) size) (letter_field 1 2 size) letter_agrees k rest h)
 
   words_agree : (bits : List ℕ) → AreBits bits → AgreeBits (words_in (image_form size) size bits) (defined_field size bits)

@@ -4,7 +4,7 @@ use mathlib.Core.List.{List, ◌++◌}
 use Prim.Native.Nat.{ℕ, suc, ◌+◌, ◌-◌, ◌*◌, ◌/◌, ◌%◌, ◌^◌, ◌≤◌, ◌<◌}
 use native.Mathlib.Omega.{arith}
 use lib.Dec.{eqb}
-use lib.ListN.{length, take, drop, get_or, length-drop, take-append-drop}
+use lib.ListN.{length, take, drop, get_or, take-append-drop}
 use lib.Seq.{take_at, drop_at, take-append-add, length-take-le}
 use native.Mathlib.Nat.{one-mul, mod-lt, mod-eq_of_lt}
 use lib.Pow.{high, low, mod-pow-add, pow-lt, pow_pos}
@@ -12,7 +12,7 @@ use Rattle.model.specs.Bits.{bits_of, digits, number, filling}
 use Rattle.bits.proofs.Digits.{length_digits, number_append, number_after, number_digits}
 use Rattle.bits.proofs.Bytes.{bits_split, length_bits_take}
 use Rattle.images.specs.Fields.{from}
-use Rattle.images.specs.BitReader.{place, Holds, Reads, Splits, TakenAt, TakenDone}
+use Rattle.images.specs.BitReader.{place, Holds, Reads, Splits, TakenDone}
 use Rattle.images.specs.declared.bit_reader.BitReader.{BitReader}
 use Rattle.images.specs.declared.bit_reader.Taken.{Taken}
 use Rattle.images.specs.declared.bit_reader.Taken.TheVariants.{Value, Ends}

@@ -53,7 +53,8 @@ module _ (image : List ℕ) (at size width : ℕ) where
           → entry_field size (from image at) ≡ refused n unplaced
       second_refused n e = after_first_lem ∙ ap (λ o. o >>= last offset a) e
 
-      pub entry_read : (b : ℕ) → LetterAt image (at + offset_width + width) size width b → EntryAt image at size width (record { offset = offset; a = a; b = b })
+      pub entry_read : (b : ℕ) → LetterAt image (at + offset_width + width) size width b
+          → EntryAt image at size width (record { offset = offset; a = a; b = b })
       unfolding last
       entry_read b y = record { inside = y.inside; read = after_first_lem ∙ ap (λ o. o >>= last offset a) (y.read 4 5) }
 

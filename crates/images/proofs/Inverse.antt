@@ -13,7 +13,8 @@ use Rattle.model.specs.Equivalence.{Entry}
 use Rattle.model.specs.Enumeration.{concat_map}
 use Rattle.model.specs.Outcome.{Outcome, answered, ◌>>=◌, unless}
 use Rattle.model.specs.Bits.{Read, field, digits, letter_width}
-use Rattle.model.specs.Images.{several, letter_field, letter_bits, word_field, word_bits, pair_field, pair_bits, defined_field, signed, signed_field, signed_bits}
+use Rattle.model.specs.Images.{several, letter_field, letter_bits, word_field, word_bits, pair_field, pair_bits, defined_field, signed, signed_field}
+use Rattle.model.specs.Images.{signed_bits}
 use Rattle.model.specs.Images.{entry_field, entry_bits, offset_width}
 use Rattle.bits.proofs.Digits.{AreBits}
 use Rattle.bits.proofs.Width.{letter_fits}

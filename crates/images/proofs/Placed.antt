@@ -11,7 +11,8 @@ use Rattle.model.specs.Word.{Letter, forward, back, Word}
 use Rattle.model.specs.Equivalence.{Entry}
 use Rattle.model.specs.Outcome.{unplaced, Outcome, answered, refused, ◌>>=◌}
 use Rattle.model.specs.Bits.{Read, field, finish, filling, bits_of, letter_width}
-use Rattle.model.specs.Images.{several, signed_field, signed_bits, read_program, entry_width, entry_position, entry_field, entry_bits, read_chain, count_width, most_size}
+use Rattle.model.specs.Images.{several, signed_field, signed_bits, read_program, entry_width, entry_position, entry_field, entry_bits, read_chain, count_width}
+use Rattle.model.specs.Images.{most_size}
 use Rattle.model.proofs.Impossible.{answer_of, same_answer}
 use Rattle.model.specs.Images.{chain_count_width}
 use Rattle.bits.proofs.Digits.{AreBits, length_digits}
@@ -92,7 +93,8 @@ module _ (n : ℕ) (few : n ≤ most_size) (image : List ℕ) where
       → signed_field n (from image (count_width + i * (1 + letter_width n))) ≡ answered
       (record { value = get_or w i d; rest = from image (count_width + i * (1 + letter_width n) + (1 + letter_width n)) })
   unfolding read_program
-  letter_placed w e i h d = placed count_width 6 4 (1 + letter_width n) (signed_field n) (signed_bits n) _ (signed_codec n few) (length_signed n) image w e i h d
+  letter_placed w e i h d = placed count_width 6 4 (1 + letter_width n) (signed_field n) (signed_bits n) _ (signed_codec n few) (length_signed n) image w e i h
+      d
 
   pub letter_inside : (w : Word) → read_program n image ≡ answered w → (i : ℕ) → i < length w
       → count_width + i * (1 + letter_width n) + (1 + letter_width n) ≤ 8 * length image

@@ -12,7 +12,8 @@ use Rattle.model.specs.Equivalence.{Entry}
 use Rattle.model.specs.Enumeration.{concat_map}
 use Rattle.model.specs.Outcome.{unplaced, Outcome, answered, refused, ◌>>=◌}
 use Rattle.model.specs.Bits.{Read, field, finish, filling, digits, bits_of, bytes_for, pack, letter_width}
-use Rattle.model.specs.Images.{weight_width, several, rows_of, letter_bits, word_bits, pair_field, pair_bits, signed_field, signed_bits, entry_field, entry_bits}
+use Rattle.model.specs.Images.{weight_width, several, rows_of, letter_bits, word_bits, pair_field, pair_bits, signed_field, signed_bits, entry_field}
+use Rattle.model.specs.Images.{entry_bits}
 use Rattle.model.specs.Images.{read_table, table_image, read_program, program_image, read_chain, chain_image, count_width, offset_width}
 use Rattle.bits.proofs.Digits.{AreBits, digits_are_bits, bits_append}
 use Rattle.bits.proofs.Bytes.{bits_are_bits}

@@ -6,7 +6,7 @@ ghost use Rattle.model.specs.Bits.{filling};
 ghost use Rattle.images.specs.Fields.{from};
 
 // The bytes before `next` were read. Of their bits the last `held` are not taken yet, and the last `held` digits of `bits` are these.
-#[derive(Drop)]
+#[derive(Clone, Copy)]
 pub struct BitReader {
     pub next: usize,
     pub held: u32,
@@ -14,7 +14,7 @@ pub struct BitReader {
 }
 
 // What is taken: a field's number, and the reader behind it; or the image has too few bits.
-#[derive(Drop)]
+#[derive(Clone, Copy)]
 pub enum Taken {
     Value { value: u32, reader: BitReader },
     Ends,
@@ -85,7 +85,7 @@ pub fn take(image: &[u8], reader: BitReader, width: u32) -> Taken
 }
 
 // What is taken: one of so many numbers, counted from 0, and the reader behind it; too few bits; or a field that says none of them.
-#[derive(Drop)]
+#[derive(Clone, Copy)]
 pub enum TakenNumber {
     Number { number: u8, reader: BitReader },
     Ends,

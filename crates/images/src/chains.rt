@@ -13,14 +13,14 @@ use entries::entry::{COUNT_BITS, ChainEntry, OFFSET_BITS, read_entry};
 use model::answers::Refusal;
 
 // What stands at a position: an entry, too few bits, or a field that names no letter.
-#[derive(Drop)]
+#[derive(Clone, Copy)]
 pub enum EntryField {
     Found(ChainEntry),
     Ends,
     Wrong,
 }
 
-#[derive(Drop)]
+#[derive(Clone, Copy)]
 pub enum ChainRead {
     Chain { count: u16 },
     Refused(Refusal),

@@ -6,14 +6,14 @@ ghost use Rattle.model.specs.Images.{most_size};
 ghost use Rattle.images.specs.Fields.{FieldDone, LetterDone, Position};
 
 // What stands at a position: a field's number, or too few bits.
-#[derive(Drop)]
+#[derive(Clone, Copy)]
 pub enum Field {
     Value(u16),
     Ends,
 }
 
 // What stands at a position: a letter, too few bits, or a field that names no letter.
-#[derive(Drop)]
+#[derive(Clone, Copy)]
 pub enum LetterField {
     Letter(u8),
     Ends,

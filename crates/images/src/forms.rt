@@ -19,7 +19,7 @@ const LENGTH_BITS: u32 = 4;
 const BYTE_BITS: u32 = 8;
 
 // Which of the forms a table has.
-#[derive(Drop)]
+#[derive(Clone, Copy)]
 pub enum Kind {
     Image,
     Plain,
@@ -27,7 +27,7 @@ pub enum Kind {
 
 // The widths of the fields, and what is written in them: a number of letters, a weight and a letter, of which `low` says the first, `mark` for an
 // undefined pair, `head` before the two words of any other pair, and the length of a word.
-#[derive(Drop)]
+#[derive(Clone, Copy)]
 pub struct Form {
     pub sizes: u32,
     pub weights: u32,

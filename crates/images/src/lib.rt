@@ -1,3 +1,5 @@
+#![tactic(auto)]
+
 pub mod bit_reader;
 pub mod chains;
 pub mod fields;

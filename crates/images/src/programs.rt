@@ -27,7 +27,7 @@ pub const SIGN_BITS: usize = 1;
 
 // What stands at a reader's place: a letter by its sign, 1 of a back letter, and its number, and the reader behind it; too few bits; or a field that
 // names no letter.
-#[derive(Drop)]
+#[derive(Clone, Copy)]
 pub enum SignedField {
     Letter {
         sign: u8,
@@ -39,7 +39,7 @@ pub enum SignedField {
 }
 
 // A program: how many letters it has, whether all of them are forward, and the sum of the letters' weights.
-#[derive(Drop)]
+#[derive(Clone, Copy)]
 pub enum ProgramRead {
     Program {
         count: u16,
@@ -75,7 +75,7 @@ pub fn next_signed(image: &[u8], reader: BitReader, size: u8, width: u32) -> Sig
 }
 
 // Of the letters that were passed: how many are back, and what all weigh.
-#[derive(Drop)]
+#[derive(Clone, Copy)]
 pub struct Tally {
     pub backs: u16,
     pub weight: u16,
@@ -186,7 +186,7 @@ pub fn unpack_letters(image: &[u8], size: u8, count: u16, area: &mut [u8], at: u
 }
 
 // The letters that a service takes: of either sign, or forward letters alone.
-#[derive(Drop)]
+#[derive(Clone, Copy)]
 pub enum Signs {
     Any,
     Forward,

@@ -20,14 +20,14 @@ pub const MOST_SIZE: u8 = 16;
 pub const WORD_LENGTHS: u8 = 16;
 
 // The reader behind a part of a table, or why there is none.
-#[derive(Drop)]
+#[derive(Clone, Copy)]
 pub enum TablePart {
     Next(BitReader),
     Ends,
     Wrong,
 }
 
-#[derive(Drop)]
+#[derive(Clone, Copy)]
 pub enum TableRead {
     Table { size: u8 },
     Refused(Refusal),
@@ -77,7 +77,7 @@ pub fn read_word(
 }
 
 // What a pair begins with: the mark of an undefined one, or what stands before the words of any other; with the reader behind it.
-#[derive(Drop)]
+#[derive(Clone, Copy)]
 pub enum Head {
     Undefined(BitReader),
     Words(BitReader),

@@ -29,7 +29,7 @@ use Rattle.engine.proofs.Letters.{letter_forward, letter_back}
 use Rattle.importing.specs.declared.reading.Span.{Span}
 use Rattle.importing.specs.Reading.{capped, kept_pattern}
 use Rattle.importing.specs.Laying.{WordPut, PatternFits, PatternLaid}
-use Rattle.importing.specs.Import.{TextOf, text_outcome, Answers, TextIs, Comes, ImportSays, ImportPromise}
+use Rattle.importing.specs.Import.{TextOf, text_outcome, Answers, TextIs, Comes, ImportPromise}
 use Rattle.importing.proofs.Keeping.{Answered, kept_answered, kept_refused, capped_low, capped_high}
 
 -- THE WHOLE TEXT
@@ -147,7 +147,8 @@ pub text_fits : (text : List ℕ) (s : Span) (t : TextOf text s) (room : ℕ) �
     → PatternFits (read_pattern most_nested text) 0 room
 text_fits text s t room few inside = subst (λ o. PatternFits o 0 room) (sym t.pattern_read) (few, omega (arith, inside))
 
-pub text_laid : (text : List ℕ) (s : Span) (t : TextOf text s) (before after : List ℕ) (end : ℕ) → PatternLaid (read_pattern most_nested text) before 0 after end
+pub text_laid : (text : List ℕ) (s : Span) (t : TextOf text s) (before after : List ℕ) (end : ℕ)
+    → PatternLaid (read_pattern most_nested text) before 0 after end
     → WordPut before 0 (meaning t.pattern) after
 text_laid text s t before after end laid = (subst (λ o. PatternLaid o before 0 after end) t.pattern_read laid).0
 

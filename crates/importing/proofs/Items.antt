@@ -9,7 +9,8 @@ use native.Mathlib.Omega.{arith}
 use lib.ListN.{length, drop}
 use Rattle.model.specs.Outcome.{Outcome, answered, ◌>>=◌}
 use Rattle.model.specs.Bits.{Read}
-use Rattle.model.specs.Notation.{larger, Item, item_moves, item_highest, space_byte, opening_byte, no_pattern, read_minus, read_move, read_body, read_item, read_on}
+use Rattle.model.specs.Notation.{larger, Item, item_moves, item_highest, space_byte, opening_byte, no_pattern, read_minus, read_move, read_body, read_item}
+use Rattle.model.specs.Notation.{read_on}
 use Rattle.model.specs.Notation.{read_pattern}
 use Rattle.importing.specs.Reading.{stands_first, ends_first, capped, Kept, kept_body, kept_item, kept_pattern, closing, counting, within}
 use Rattle.model.proofs.Impossible.{impossible}

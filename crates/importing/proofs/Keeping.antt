@@ -13,7 +13,8 @@ use borrow.Author.Tests.{ltb-true, ltb-false, eq-eqb, ne_eqb}
 use Rattle.model.specs.Outcome.{Outcome, answered, refused, ◌>>=◌, unless, mapped}
 use Rattle.model.specs.Bits.{Read}
 use Rattle.model.specs.Notation.{Pattern, nothing, ◌then◌, Item, item, Body, move, bracket, times, moves, item_moves, body_moves, larger, highest, item_highest}
-use Rattle.model.specs.Notation.{body_highest, closing_byte, count_byte, no_pattern, read_number, read_minus, read_count, read_move, read_close, read_body, read_item}
+use Rattle.model.specs.Notation.{body_highest, closing_byte, count_byte, no_pattern, read_number, read_minus, read_count, read_move, read_close, read_body}
+use Rattle.model.specs.Notation.{read_item}
 use Rattle.model.proofs.Impossible.{impossible}
 use Rattle.model.proofs.Numbers.{below_or}
 use Rattle.model.specs.Plain.{most_letters}
@@ -124,7 +125,8 @@ bracket_kept (answered p) = close p.value p.rest
         test false = refl
 
 -- what is kept of an item is that of its body, with its count
-pub item_kept : (inner : List ℕ → Outcome (Read Pattern)) (t : List ℕ) → kept_item (read_item inner t) ≡ counting (kept_body (read_body inner (read_minus t).rest))
+pub item_kept : (inner : List ℕ → Outcome (Read Pattern)) (t : List ℕ) → kept_item (read_item inner t)
+    ≡ counting (kept_body (read_body inner (read_minus t).rest))
 unfolding read_item
 item_kept inner t = body (read_body inner (read_minus t).rest)
   where

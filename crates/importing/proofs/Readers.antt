@@ -8,7 +8,8 @@ use lib.Dec.{eqb}
 use lib.ListN.{length, drop}
 use Rattle.model.specs.Outcome.{Outcome, answered, ◌>>=◌}
 use Rattle.model.specs.Bits.{Read}
-use Rattle.model.specs.Notation.{Pattern, nothing, ◌then◌, Item, Body, space_byte, opening_byte, minus_byte, zero_byte, count_byte, no_pattern, is_digit, second_digit}
+use Rattle.model.specs.Notation.{Pattern, nothing, ◌then◌, Item, Body, space_byte, opening_byte, minus_byte, zero_byte, count_byte, no_pattern, is_digit}
+use Rattle.model.specs.Notation.{second_digit}
 use Rattle.model.specs.Notation.{read_number, read_minus, read_count, read_move, read_close, read_body, read_on, read_items, read_in, read_pattern}
 use Rattle.model.proofs.Impossible.{impossible}
 use Rattle.importing.specs.Reading.{stands_first, digit_first, ends_first, within}

@@ -10,8 +10,10 @@ use lib.Dec.{eqb}
 use lib.ListN.{length}
 use Rattle.model.specs.Outcome.{Outcome, answered, refused, ◌>>=◌, unless}
 use Rattle.model.specs.Bits.{Read}
-use Rattle.model.specs.Notation.{Pattern, nothing, ◌then◌, Item, move, bracket, space_byte, opening_byte, closing_byte, minus_byte, zero_byte, count_byte, no_pattern}
-use Rattle.model.specs.Notation.{is_digit, second_digit, read_number, read_minus, read_count, read_move, read_close, read_body, read_item, read_on, read_items, read_in}
+use Rattle.model.specs.Notation.{Pattern, nothing, ◌then◌, Item, move, bracket, space_byte, opening_byte, closing_byte, minus_byte, zero_byte, count_byte}
+use Rattle.model.specs.Notation.{no_pattern}
+use Rattle.model.specs.Notation.{is_digit, second_digit, read_number, read_minus, read_count, read_move, read_close, read_body, read_item, read_on, read_items}
+use Rattle.model.specs.Notation.{read_in}
 use Rattle.model.specs.Notation.{read_pattern}
 use Rattle.importing.specs.Reading.{within}
 use Rattle.importing.proofs.Readers.{with_count, close_after, before, all_items}
@@ -52,7 +54,8 @@ second_shortens a (x ∷ xs) =
 number_shortens : Shortens read_number
 number_shortens [] = tt
 number_shortens (x ∷ xs) =
-    leaves_either (suc (length xs)) (is_digit x) (answered (cond (eqb x zero_byte) (record { value = 0; rest = xs }) (second_digit (x - zero_byte) xs))) no_pattern
+    leaves_either (suc (length xs)) (is_digit x) (answered (cond (eqb x zero_byte) (record { value = 0; rest = xs }) (second_digit (x - zero_byte) xs)))
+    no_pattern
     (left_either (suc (length xs)) (eqb x zero_byte) (record { value = 0; rest = xs }) (second_digit (x - zero_byte) xs) (omega arith)
     (omega (arith, second_shortens (x - zero_byte) xs)))
     tt
@@ -84,7 +87,8 @@ move_shortens t = leaves_bind (length t) (read_number t) (λ a. unless (eqb a.va
 
 close_shortens : (p : Pattern) → Shortens (read_close p)
 close_shortens p [] = tt
-close_shortens p (x ∷ xs) = leaves_either (suc (length xs)) (eqb x closing_byte) (answered (record { value = bracket p; rest = xs })) no_pattern (omega arith) tt
+close_shortens p (x ∷ xs) = leaves_either (suc (length xs)) (eqb x closing_byte) (answered (record { value = bracket p; rest = xs })) no_pattern (omega arith)
+    tt
 
 module _ (inner : List ℕ → Outcome (Read Pattern)) (shortens : Shortens inner) where
   body_shortens : Shortens (read_body inner)

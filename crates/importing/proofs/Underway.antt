@@ -51,7 +51,8 @@ pub record Underway (text : List ℕ) (at depth from : ℕ) (first area : List �
   pub to_come : all_items (within depth) (drop laid.next text) ≡ answered left
   pub all : meaning whole.value ≡ done ++ meaning left.value
 
-pub begun : (text : List ℕ) (at depth from : ℕ) (a : List ℕ) → ends_first (drop at text) ≡ false → PatternFits (read_pattern depth (drop at text)) from (length a)
+pub begun : (text : List ℕ) (at depth from : ℕ) (a : List ℕ) → ends_first (drop at text) ≡ false
+    → PatternFits (read_pattern depth (drop at text)) from (length a)
     → Underway text at depth from a a (record { next = at; end = from })
 begun text at depth from a e fits = record {
   whole = f.pattern;

@@ -8,7 +8,8 @@ use Rattle.model.specs.Images.{read_table}
 use Rattle.model.specs.Plain.{most_letters, plain_program}
 use Rattle.model.specs.Areas.{output_after}
 use Rattle.model.specs.Stated.{packed_as}
-use Rattle.model.specs.Notation.{Pattern, most_nested, PatternInRange, meaning, moves, highest, pattern_text, no_pattern, read_pattern, read_text, imported, import}
+use Rattle.model.specs.Notation.{Pattern, most_nested, PatternInRange, meaning, moves, highest, pattern_text, no_pattern, read_pattern, read_text, imported}
+use Rattle.model.specs.Notation.{import}
 use Rattle.theory.specs.Notation.{NotationMeaning}
 use Rattle.importing.specs.declared.reading.Span.{Span}
 use Rattle.importing.specs.declared.reading.Reading.{Reading}

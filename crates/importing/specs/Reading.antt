@@ -4,7 +4,8 @@ use Rattle.std.proofs.Math.Option.{Option, none, some}
 use Rattle.model.specs.Outcome.{Outcome, answered, ◌>>=◌, mapped}
 use Rattle.model.specs.Bits.{Read}
 use Rattle.model.specs.Plain.{most_letters}
-use Rattle.model.specs.Notation.{Pattern, Item, Body, moves, item_moves, body_moves, larger, highest, item_highest, body_highest, closing_byte, no_pattern, is_digit}
+use Rattle.model.specs.Notation.{Pattern, Item, Body, moves, item_moves, body_moves, larger, highest, item_highest, body_highest, closing_byte, no_pattern}
+use Rattle.model.specs.Notation.{is_digit}
 use Rattle.model.specs.Notation.{read_count, read_pattern}
 use Rattle.importing.specs.declared.numbers.NumberRead.{NumberRead}
 use Rattle.importing.specs.declared.numbers.NumberRead.TheVariants.{Number, NotNumber}

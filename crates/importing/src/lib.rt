@@ -1,4 +1,6 @@
 // The service import (specification 6.17): a pattern is read from its text, and its moves are laid out in the answer area.
+#![tactic(auto)]
+
 pub mod bytes;
 pub mod import;
 pub mod numbers;

@@ -6,7 +6,7 @@ ghost use Rattle.importing.specs.Reading.{number_stated};
 use crate::bytes::{ZERO, digit_stands};
 
 // A number, and where the text goes on.
-#[derive(Drop)]
+#[derive(Clone, Copy)]
 pub enum NumberRead {
     Number { value: u8, next: usize },
     NotNumber,

@@ -8,14 +8,14 @@ use crate::numbers::{NumberRead, read_number};
 use model::plain::MOST_LETTERS;
 
 // What was read: where the text goes on, how many moves it means, and the highest move number in it.
-#[derive(Drop)]
+#[derive(Clone, Copy)]
 pub struct Span {
     pub next: usize,
     pub moves: u16,
     pub highest: u8,
 }
 
-#[derive(Drop)]
+#[derive(Clone, Copy)]
 pub enum Reading {
     Read(Span),
     NotPattern,

@@ -11,7 +11,7 @@ use areas::bytes::copy_on;
 use engine::words::invert;
 
 // Where the text goes on, and where the moves end.
-#[derive(Drop)]
+#[derive(Clone, Copy)]
 pub struct Laid {
     pub next: usize,
     pub end: usize,

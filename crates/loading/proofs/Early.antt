@@ -11,7 +11,8 @@ use lib.ListN.{length, take, drop, replicate}
 use Rattle.model.specs.Word.{forwards}
 use Rattle.model.specs.Outcome.{unplaced, Outcome, answered, refused, ◌>>=◌, unless}
 use Rattle.model.specs.Bits.{Read, bits_of, field, finish, filling, letter_width, number}
-use Rattle.model.specs.Images.{weight_width, offset_width, letter_field, several, rows_of, word_field, defined_field, pair_field, signed_field, entry_field, read_table}
+use Rattle.model.specs.Images.{weight_width, offset_width, letter_field, several, rows_of, word_field, defined_field, pair_field, signed_field, entry_field}
+use Rattle.model.specs.Images.{read_table}
 use Rattle.model.specs.Images.{read_program, read_chain}
 use Rattle.model.specs.Services.{is_forward, read_forward}
 use Rattle.model.specs.Areas.{workspace_after}

@@ -2,12 +2,11 @@
 use mathlib.Core.Path.{◌≡◌, sym, ap, ◌∙◌}
 use mathlib.Core.List.{List}
 use Prim.Native.Nat.{ℕ}
-use Rattle.model.specs.Word.{Positive, positive}
+use Rattle.model.specs.Word.{positive}
 use Rattle.model.specs.Presentation.{Presentation}
 use Rattle.model.proofs.Impossible.{same_answer}
-use Rattle.cells.specs.Stands.{Of}
 use Rattle.cells.proofs.Rules.{of_few}
-use Rattle.images.specs.Programs.{cells_weigh, ForwardMeasured}
+use Rattle.images.specs.Programs.{ForwardMeasured}
 use Rattle.images.proofs.RoundTrip.{program_in_range}
 use Rattle.images.proofs.Measuring.{cells_weigh_lem}
 use Rattle.loading.specs.Weighing.{Weighs}

@@ -6,7 +6,7 @@ use images::tables::{TableRead, read_table};
 use model::answers::Refusal;
 
 // A table of so many letters, and two programs of `firsts` and `seconds` letters, with what these weigh.
-#[derive(Drop)]
+#[derive(Clone, Copy)]
 pub enum ProgramsRead {
     Programs {
         size: u8,
@@ -19,7 +19,7 @@ pub enum ProgramsRead {
 }
 
 // A table of so many letters, and a program of `count` letters, with what these weigh.
-#[derive(Drop)]
+#[derive(Clone, Copy)]
 pub enum TableProgram {
     Loaded { size: u8, count: u16, weight: u16 },
     Refused(Refusal),

@@ -83,47 +83,49 @@ module _ (cells : List ℕ) (a cell count : ℕ) (small : count ≤ most_length)
             ∙ (get_or-set_same mirror (to + count - k) next 0 (omega (arith, p.same_length)) ∙ (p.next_is ∙ ap (side_at cells a cell) (sym e)))
 
     -- one letter more, at the place that was worked out for it
-    pub put_more : k < count → (place : ℕ) → place ≡ to + count - k → Putting cells a cell count begun to (set mirror place next) (get_or cells (cell + 1 + k) 0)
+    pub put_more : k < count → (place : ℕ) → place ≡ to + count - k
+        → Putting cells a cell count begun to (set mirror place next) (get_or cells (cell + 1 + k) 0)
         (k + 1)
     put_more h place e = rw e (one_put h)
 
-    module _ (done : count ≤ k) (counted : get_or cells cell 0 ≡ count) (size : ℕ) (x : Positive) (named : InRange size a) (h : HoldsWord size cells cell x) where
-      word_long : length x ≡ count
-      word_long = sym h.count ∙ counted
+    module _ (done : count ≤ k) (counted : get_or cells cell 0 ≡ count) (size : ℕ) (x : Positive) (named : InRange size a) (h : HoldsWord size cells cell x)
+      where
+        word_long : length x ≡ count
+        word_long = sym h.count ∙ counted
 
-      long : length (from_end a x).before ≡ count
-      long = before_length a x ∙ word_long
+        long : length (from_end a x).before ≡ count
+        long = before_length a x ∙ word_long
 
-      many : length (reverse (from_end a x).before) ≡ count
-      many = length-reverse (from_end a x).before ∙ long
+        many : length (reverse (from_end a x).before) ≡ count
+        many = length-reverse (from_end a x).before ∙ long
 
-      -- the letter at i, counted from the end of the cell's word
-      letter_back : (i j : ℕ) → i + j + 1 ≡ count → get_or mirror (to + 1 + j) 0 ≡ get_or (reverse (from_end a x).before) j 0
-      letter_back i j e =
-          ap (λ k. get_or mirror k 0) (there i j e)
-          ∙ (p.letters i (omega arith)
-          ∙ (side_letter cells a cell size x h i (omega (arith, word_long))
-          ∙ (sym (get_or-take (length x) (a ∷ x) i 0 (omega (arith, word_long)))
-          ∙ (ap (λ u. get_or u i 0) (sym (before_is a x))
-          ∙ (ap (λ k. get_or (from_end a x).before k 0) (from i j e) ∙ sym (reverse_at (from_end a x).before j 0 (omega (arith, long))))))))
-        where
-          there : (i j : ℕ) → i + j + 1 ≡ count → to + 1 + j ≡ to + count - i
-          there i j e = omega arith
+        -- the letter at i, counted from the end of the cell's word
+        letter_back : (i j : ℕ) → i + j + 1 ≡ count → get_or mirror (to + 1 + j) 0 ≡ get_or (reverse (from_end a x).before) j 0
+        letter_back i j e =
+            ap (λ k. get_or mirror k 0) (there i j e)
+            ∙ (p.letters i (omega arith)
+            ∙ (side_letter cells a cell size x h i (omega (arith, word_long))
+            ∙ (sym (get_or-take (length x) (a ∷ x) i 0 (omega (arith, word_long)))
+            ∙ (ap (λ u. get_or u i 0) (sym (before_is a x))
+            ∙ (ap (λ k. get_or (from_end a x).before k 0) (from i j e) ∙ sym (reverse_at (from_end a x).before j 0 (omega (arith, long))))))))
+          where
+            there : (i j : ℕ) → i + j + 1 ≡ count → to + 1 + j ≡ to + count - i
+            there i j e = omega arith
 
-          from : (i j : ℕ) → i + j + 1 ≡ count → i ≡ length (from_end a x).before - 1 - j
-          from i j e = omega (arith, long)
+            from : (i j : ℕ) → i + j + 1 ≡ count → i ≡ length (from_end a x).before - 1 - j
+            from i j e = omega (arith, long)
 
-      pub put_held : HoldsWord size mirror to (reverse (from_end a x).before)
-      put_held =
-          record {
-            count = p.first ∙ sym many;
-            letters = λ j l. letter_back (count - 1 - j) j (omega (arith, many));
-            in_range =
-                record {
-                  short = omega (arith, many);
-                  letters = all_reverse (InRange size) (from_end a x).before (before_named size a x named h.in_range.letters);
-                };
-          }
+        pub put_held : HoldsWord size mirror to (reverse (from_end a x).before)
+        put_held =
+            record {
+              count = p.first ∙ sym many;
+              letters = λ j l. letter_back (count - 1 - j) j (omega (arith, many));
+              in_range =
+                  record {
+                    short = omega (arith, many);
+                    letters = all_reverse (InRange size) (from_end a x).before (before_named size a x named h.in_range.letters);
+                  };
+            }
 
 -- the whole, where the length was stored before the letters
 pub put_whole : (cells : List ℕ) (a cell : ℕ) (before : List ℕ) (to : ℕ) → get_or cells cell 0 ≤ most_length → to + cell_length ≤ length before

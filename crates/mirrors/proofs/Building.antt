@@ -186,34 +186,35 @@ begun cells size T o mid c =
 
 -- WHERE NO PAIR IS LEFT
 
-module _ (cells : List ℕ) (size : ℕ) (T : Presentation) (o : Of cells size T) (after : List ℕ) (full : length after ≡ cell_bytes) (h : Building T after []) where
-  all_entered : h.earlier ≡ pairs T.size
-  all_entered = sym (h.split ∙ append-nil h.earlier)
+module _ (cells : List ℕ) (size : ℕ) (T : Presentation) (o : Of cells size T) (after : List ℕ) (full : length after ≡ cell_bytes) (h : Building T after [])
+  where
+    all_entered : h.earlier ≡ pairs T.size
+    all_entered = sym (h.split ∙ append-nil h.earlier)
 
-  cell_held : (a b : ℕ) → InRange T.size a → InRange T.size b → Dec (a ≡ b) → HoldsFirst T.size after (cell_at a b) (complete (mirror T) a b)
-  cell_held a b ra rb (yes e) =
-      let empty : HoldsWord T.size after (cell_at a a) [] =
-      record { count = h.same a ra; letters = λ k l. absurd (omega arith); in_range = record { short = omega arith; letters = tt } }
-      in
-      rw (← e, complete_same (mirror T) a) empty
-  cell_held a b ra rb (no d) =
-      subst (HoldsFirst T.size after (cell_at a b))
-      (ap (λ rs. backward (found T a b rs)) all_entered
-      ∙ sym (mirror_different T a b d ∙ ap backward (left_found T a b ra.low ra.high rb.low rb.high d)))
-      (h.different a b ra rb d)
+    cell_held : (a b : ℕ) → InRange T.size a → InRange T.size b → Dec (a ≡ b) → HoldsFirst T.size after (cell_at a b) (complete (mirror T) a b)
+    cell_held a b ra rb (yes e) =
+        let empty : HoldsWord T.size after (cell_at a a) [] =
+        record { count = h.same a ra; letters = λ k l. absurd (omega arith); in_range = record { short = omega arith; letters = tt } }
+        in
+        rw (← e, complete_same (mirror T) a) empty
+    cell_held a b ra rb (no d) =
+        subst (HoldsFirst T.size after (cell_at a b))
+        (ap (λ rs. backward (found T a b rs)) all_entered
+        ∙ sym (mirror_different T a b d ∙ ap backward (left_found T a b ra.low ra.high rb.low rb.high d)))
+        (h.different a b ra rb d)
 
-  pub built : (mirror_check T ≡ answered tt) × Of after size (mirror T)
-  built = (
-    h.checked,
-    record {
-      stands =
-          record {
-            full = full;
-            some = o.stands.some;
-            few = o.stands.few;
-            weights = h.weights;
-            cell = λ a b ra rb. cell_held a b ra rb (ℕ_discrete a b);
-          };
-      sized = o.sized;
-    },
-  )
+    pub built : (mirror_check T ≡ answered tt) × Of after size (mirror T)
+    built = (
+      h.checked,
+      record {
+        stands =
+            record {
+              full = full;
+              some = o.stands.some;
+              few = o.stands.few;
+              weights = h.weights;
+              cell = λ a b ra rb. cell_held a b ra rb (ℕ_discrete a b);
+            };
+        sized = o.sized;
+      },
+    )

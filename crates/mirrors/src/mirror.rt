@@ -9,7 +9,7 @@ use cells::layout::{UNDEFINED, cell_at, weight_at};
 use model::answers::Pair;
 
 // Whether the mirror is made, or the first pair whose relation offends.
-#[derive(Drop)]
+#[derive(Clone, Copy)]
 pub enum Mirrored {
     Made,
     Offends(Pair),

@@ -248,7 +248,8 @@ remainders =
     (remainder braid_bytes first_bytes [] 65535 32768 32768 gives refused 7 unplaced) ∷
     (remainder braid_bytes [] first_bytes 65535 32768 32768 gives refused 4 unplaced) ∷
     -- the area begins with the moves, and is as it was after none
-    (output_after remainder_bytes (remainder braid_bytes (pattern 3 (2 ∷ [])) (pattern 3 (1 ∷ 2 ∷ 1 ∷ [])) 65535 32768 3) (7 ∷ 8 ∷ 9 ∷ []) gives 1 ∷ 2 ∷ 9 ∷ []) ∷
+    (output_after remainder_bytes (remainder braid_bytes (pattern 3 (2 ∷ [])) (pattern 3 (1 ∷ 2 ∷ 1 ∷ [])) 65535 32768 3) (7 ∷ 8 ∷ 9 ∷ []) gives 1 ∷ 2 ∷ 9 ∷ [])
+    ∷
     (output_after remainder_bytes (remainder braid_bytes (pattern 3 (1 ∷ [])) (pattern 3 (2 ∷ [])) 65535 32768 3) (7 ∷ 8 ∷ 9 ∷ []) gives 7 ∷ 8 ∷ 9 ∷ []) ∷
     (workspace_after (remainder braid_bytes (pattern 3 (1 ∷ [])) (pattern 3 []) 65535 32768 3) (7 ∷ 8 ∷ 9 ∷ []) gives 0 ∷ 0 ∷ 0 ∷ []) ∷ []
 
@@ -311,19 +312,22 @@ pub record Further : Type 0 where
   pub areas_hold : All areas
 
 endings_hold : All endings
-unfolding table_image program_image chain_image plain_table field finish read_table read_program read_chain read_forward read_plain_table read_plain_program reverse compare
+unfolding table_image program_image chain_image plain_table field finish read_table read_program read_chain read_forward read_plain_table read_plain_program
+    reverse compare
     comparison chain remainder finishing check followed applied clear cleared pack_table unpack_table pack_program unpack_program under side against cube_at
     reversing run next complete
 endings_hold = (refl, (refl, (refl, (refl, (refl, (refl, (refl, (refl, (refl, (refl, (refl, (refl, (refl, (refl, (refl, tt)))))))))))))))
 
 triples_hold : All triples
-unfolding table_image program_image chain_image plain_table field finish read_table read_program read_chain read_forward read_plain_table read_plain_program reverse compare
+unfolding table_image program_image chain_image plain_table field finish read_table read_program read_chain read_forward read_plain_table read_plain_program
+    reverse compare
     comparison chain remainder finishing check followed applied clear cleared pack_table unpack_table pack_program unpack_program under side against cube_at
     reversing run next complete
 triples_hold = (refl, (refl, (refl, (refl, (refl, (refl, (refl, (refl, (refl, (refl, (refl, (refl, (refl, (refl, (refl, (refl, (refl, tt)))))))))))))))))
 
 tables_hold : All tables
-unfolding table_image program_image chain_image plain_table field finish read_table read_program read_chain read_forward read_plain_table read_plain_program reverse compare
+unfolding table_image program_image chain_image plain_table field finish read_table read_program read_chain read_forward read_plain_table read_plain_program
+    reverse compare
     comparison chain remainder finishing check followed applied clear cleared pack_table unpack_table pack_program unpack_program under side against cube_at
     reversing run next complete
 tables_hold = (
@@ -395,7 +399,8 @@ tables_hold = (
 )
 
 programs_hold : All programs
-unfolding table_image program_image chain_image plain_table field finish read_table read_program read_chain read_forward read_plain_table read_plain_program reverse compare
+unfolding table_image program_image chain_image plain_table field finish read_table read_program read_chain read_forward read_plain_table read_plain_program
+    reverse compare
     comparison chain remainder finishing check followed applied clear cleared pack_table unpack_table pack_program unpack_program under side against cube_at
     reversing run next complete
 programs_hold = (
@@ -419,13 +424,15 @@ programs_hold = (
 )
 
 comparisons_hold : All comparisons
-unfolding table_image program_image chain_image plain_table field finish read_table read_program read_chain read_forward read_plain_table read_plain_program reverse compare
+unfolding table_image program_image chain_image plain_table field finish read_table read_program read_chain read_forward read_plain_table read_plain_program
+    reverse compare
     comparison chain remainder finishing check followed applied clear cleared pack_table unpack_table pack_program unpack_program under side against cube_at
     reversing run next complete
 comparisons_hold = (refl, (refl, (refl, (refl, (refl, (refl, (refl, (refl, (refl, (refl, (refl, (refl, (refl, (refl, (refl, (refl, tt))))))))))))))))
 
 remainders_hold : All remainders
-unfolding table_image program_image chain_image plain_table field finish read_table read_program read_chain read_forward read_plain_table read_plain_program reverse compare
+unfolding table_image program_image chain_image plain_table field finish read_table read_program read_chain read_forward read_plain_table read_plain_program
+    reverse compare
     comparison chain remainder finishing check followed applied clear cleared pack_table unpack_table pack_program unpack_program under side against cube_at
     reversing run next complete
 remainders_hold = (
@@ -458,7 +465,8 @@ remainders_hold = (
 )
 
 chains_hold : All chains
-unfolding table_image program_image chain_image plain_table field finish read_table read_program read_chain read_forward read_plain_table read_plain_program reverse compare
+unfolding table_image program_image chain_image plain_table field finish read_table read_program read_chain read_forward read_plain_table read_plain_program
+    reverse compare
     comparison chain remainder finishing check followed applied clear cleared pack_table unpack_table pack_program unpack_program under side against cube_at
     reversing run next complete
 chains_hold = (
@@ -470,7 +478,8 @@ chains_hold = (
 )
 
 areas_hold : All areas
-unfolding table_image program_image chain_image plain_table field finish read_table read_program read_chain read_forward read_plain_table read_plain_program reverse compare
+unfolding table_image program_image chain_image plain_table field finish read_table read_program read_chain read_forward read_plain_table read_plain_program
+    reverse compare
     comparison chain remainder finishing check followed applied clear cleared pack_table unpack_table pack_program unpack_program under side against cube_at
     reversing run next complete
 areas_hold = (refl, (refl, (refl, (refl, (refl, (refl, (refl, (refl, tt))))))))

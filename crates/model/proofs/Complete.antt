@@ -84,6 +84,8 @@ module _ (T : Presentation) where
 
 rows_at : {A : Type 0} (P : A → Type 0) (d : A) → P d → (k : ℕ) (rows : List (List A)) → Rows P k rows → (i j : ℕ) → P (get_or (get_or rows i []) j d)
 rows_at P d p zero [] h i j = p
+rows_at P d p zero (row ∷ rows) h i j = elim h [ ]
+rows_at P d p (suc k) [] h i j = elim h [ ]
 rows_at P d p (suc k) (row ∷ rows) h zero j = all_default P d p row h.1 j
 rows_at P d p (suc k) (row ∷ rows) h (suc i) j = rows_at P d p k rows h.2 i j
 

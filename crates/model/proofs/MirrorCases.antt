@@ -114,7 +114,8 @@ pub record MirrorCases : Type 0 where
   pub mirror_clears_hold : All mirror_clears
 
 mirrors_hold : All mirrors
-unfolding complete mirror_check left_complete left_next left_run left_reversing left_fraction left_reverse mirror_cleared mirror_clear clear cleared reversing run next
+unfolding complete mirror_check left_complete left_next left_run left_reversing left_fraction left_reverse mirror_cleared mirror_clear clear cleared reversing
+    run next
     under side against cube_at read_table read_program table_image program_image field finish
 mirrors_hold = (
   refl,
@@ -125,17 +126,20 @@ mirrors_hold = (
 )
 
 left_reversings_hold : All left_reversings
-unfolding complete mirror_check left_complete left_next left_run left_reversing left_fraction left_reverse mirror_cleared mirror_clear clear cleared reversing run next
+unfolding complete mirror_check left_complete left_next left_run left_reversing left_fraction left_reverse mirror_cleared mirror_clear clear cleared reversing
+    run next
     under side against cube_at read_table read_program table_image program_image field finish
 left_reversings_hold = (refl, (refl, (refl, (refl, (refl, (refl, (refl, (refl, (refl, tt)))))))))
 
 left_reverses_hold : All left_reverses
-unfolding complete mirror_check left_complete left_next left_run left_reversing left_fraction left_reverse mirror_cleared mirror_clear clear cleared reversing run next
+unfolding complete mirror_check left_complete left_next left_run left_reversing left_fraction left_reverse mirror_cleared mirror_clear clear cleared reversing
+    run next
     under side against cube_at read_table read_program table_image program_image field finish
 left_reverses_hold = (refl, (refl, (refl, (refl, (refl, (refl, (refl, (refl, (refl, (refl, (refl, tt)))))))))))
 
 mirror_clears_hold : All mirror_clears
-unfolding complete mirror_check left_complete left_next left_run left_reversing left_fraction left_reverse mirror_cleared mirror_clear clear cleared reversing run next
+unfolding complete mirror_check left_complete left_next left_run left_reversing left_fraction left_reverse mirror_cleared mirror_clear clear cleared reversing
+    run next
     under side against cube_at read_table read_program table_image program_image field finish
 mirror_clears_hold = (refl, (refl, (refl, (refl, (refl, (refl, (refl, (refl, (refl, (refl, (refl, (refl, (refl, (refl, tt))))))))))))))
 

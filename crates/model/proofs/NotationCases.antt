@@ -160,7 +160,8 @@ calls =
     -- -(1 2)^2
     (import braid_bytes (45 ∷ 40 ∷ 49 ∷ 32 ∷ 50 ∷ 41 ∷ 94 ∷ 50 ∷ []) 4 gives answered (back 2 ∷ back 1 ∷ back 2 ∷ back 1 ∷ [])) ∷
     -- its bytes, in an area of five
-    (output_after plain_program (import braid_bytes (45 ∷ 40 ∷ 49 ∷ 32 ∷ 50 ∷ 41 ∷ 94 ∷ 50 ∷ []) 5) (7 ∷ 7 ∷ 7 ∷ 7 ∷ 7 ∷ []) gives 130 ∷ 129 ∷ 130 ∷ 129 ∷ 7 ∷ [])
+    (output_after plain_program (import braid_bytes (45 ∷ 40 ∷ 49 ∷ 32 ∷ 50 ∷ 41 ∷ 94 ∷ 50 ∷ []) 5) (7 ∷ 7 ∷ 7 ∷ 7 ∷ 7 ∷ []) gives 130 ∷ 129 ∷ 130 ∷ 129 ∷ 7
+    ∷ [])
     ∷
     -- 13 by the moves, and the area as it was
     (import braid_bytes (45 ∷ 40 ∷ 49 ∷ 32 ∷ 50 ∷ 41 ∷ 94 ∷ 50 ∷ []) 3 gives refused 13 unplaced) ∷

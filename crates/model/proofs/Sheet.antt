@@ -48,6 +48,7 @@ sheet =
     (compare (image heavy2) (pattern 2 []) (pattern 2 []) 65535 32768 gives answered (same_after 0 0)) ∷ []
 
 pub sheet_holds : All sheet
-unfolding table_image program_image chain_image field finish read_table read_program read_chain read_forward reverse compare comparison check followed applied clear
+unfolding table_image program_image chain_image field finish read_table read_program read_chain read_forward reverse compare comparison check followed applied
+    clear
     cleared under side against cube_at reversing run next complete
 sheet_holds = (refl, (refl, (refl, (refl, (refl, (refl, (refl, (refl, (refl, (refl, (refl, (refl, (refl, (refl, (refl, (refl, (refl, tt)))))))))))))))))

@@ -1,5 +1,6 @@
 -- Specification 2.4 and 6.11: the braid table, and the bed of a program under it: which bobbin stands at each place, and how often each two crossed.
-use Rattle.std.specs.Prelude.{List, [], ◌∷◌, ◌++◌, Bool, true, false, not, ◌&&◌, ◌||◌, cond, ◌≡◌, ℕ, zero, suc, ◌-◌, ◌/◌, ◌%◌, ◌≤◌, eqb, length, take, get_or, set, replicate, ℤ, pos, negsuc, nat_abs, ◌+ℤ◌}
+use Rattle.std.specs.Prelude.{List, [], ◌∷◌, ◌++◌, Bool, true, false, not, ◌&&◌, ◌||◌, cond, ◌≡◌, ℕ, zero, suc, ◌-◌, ◌/◌, ◌%◌, ◌≤◌, eqb, length, take, get_or}
+use Rattle.std.specs.Prelude.{set, replicate, ℤ, pos, negsuc, nat_abs, ◌+ℤ◌}
 use Rattle.model.specs.Word.{Letter, forward, back, Word, Positive}
 use Rattle.model.specs.Presentation.{Presentation, Complement, undefined, complement, complete}
 use Rattle.model.specs.Equivalence.{equal}

@@ -8,7 +8,7 @@ use model::answers::{Pair, Place, Refusal, Triple};
 // `place` is what the place is: 0 none or the programs, 1 a pair, 2 a triple of the table, 3 a triple of the mirror, 4 the set. `count` of `number`, `a`, `b`
 // and `c` are the numbers to tell; the
 // others are 0.
-#[derive(Drop)]
+#[derive(Clone, Copy)]
 pub struct RefusalNumbers {
     pub number: u8,
     pub place: u8,

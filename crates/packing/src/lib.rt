@@ -1,4 +1,6 @@
 // The packing services (specification 6.8): tables and programs between their plain form and their image.
+#![tactic(auto)]
+
 pub mod pack_program;
 pub mod pack_table;
 pub mod unpack_program;

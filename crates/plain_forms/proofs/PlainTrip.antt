@@ -13,7 +13,8 @@ use Rattle.model.specs.Enumeration.{concat_map}
 use Rattle.model.specs.Outcome.{Outcome, answered, ◌>>=◌, unless}
 use Rattle.model.specs.Bits.{Read}
 use Rattle.model.specs.Images.{weight_width, several, rows_of, offset_width, most_size}
-use Rattle.model.specs.Plain.{plain_word, plain_pair, plain_table, plain_program, next_byte, plain_letter, plain_weight, plain_letters, plain_defined, plain_pair_at}
+use Rattle.model.specs.Plain.{plain_word, plain_pair, plain_table, plain_program, next_byte, plain_letter, plain_weight, plain_letters, plain_defined}
+use Rattle.model.specs.Plain.{plain_pair_at}
 use Rattle.model.specs.Plain.{read_plain_table, names_letter, plain_letters_signed, read_plain_program, most_letters}
 use Rattle.model.specs.Range.{AreBytes, All, Rows, InRange, LetterInRange, WordInRange, PairInRange, ProgramInRange, TableInRange}
 use Rattle.model.proofs.Booleans.{both}
@@ -289,7 +290,8 @@ letters_read_back n (x ∷ w) few h =
 pub plain_program_reads_back : (n : ℕ) → n ≤ most_size → (w : Word) → ProgramInRange n w → read_plain_program n (plain_program w) ≡ answered w
 unfolding read_plain_program
 plain_program_reads_back n few w h =
-    ap (λ t. unless t 4 (plain_program w) >>= plain_letters_signed n) (le-ltb most_letters (length (plain_program w)) (omega (arith, h.short, length-map w byte)))
+    ap (λ t. unless t 4 (plain_program w) >>= plain_letters_signed n)
+    (le-ltb most_letters (length (plain_program w)) (omega (arith, h.short, length-map w byte)))
     ∙ letters_read_back n w few h.letters
 
 -- a byte is that of the letter it names

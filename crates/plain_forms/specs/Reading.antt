@@ -4,7 +4,7 @@ use Rattle.model.specs.Word.{letter}
 use Rattle.model.specs.Outcome.{answered}
 use Rattle.model.specs.Plain.{names_letter, read_plain_table, read_plain_program, most_letters}
 use Rattle.model.specs.Stated.{refusal}
-use Rattle.images.specs.Tables.{Loaded, LoadedAs}
+use Rattle.images.specs.Tables.{LoadedAs}
 use Rattle.images.specs.declared.tables.TableRead.{TableRead}
 use Rattle.plain_forms.specs.declared.reading.PlainRead.{PlainRead}
 use Rattle.plain_forms.specs.declared.reading.PlainRead.TheVariants.{Accepted, Refused}

@@ -9,7 +9,7 @@ use images::tables::{TableRead, read_form};
 use model::answers::Refusal;
 use model::plain::{BACK, MOST_LETTERS};
 
-#[derive(Drop)]
+#[derive(Clone, Copy)]
 pub enum PlainRead {
     Accepted,
     Refused(Refusal),

@@ -1,2 +1,4 @@
 // The service remainder.
+#![tactic(auto)]
+
 pub mod remainder;

@@ -40,7 +40,8 @@ module _ (T : Presentation) (w : Word) (budget room area : ℕ) where
 
   under_mirror_lem : mirror_check T ≡ answered tt → left_fraction T w budget room area ≡ under_mirror T w budget room area
   unfolding left_fraction
-  under_mirror_lem e = goes_on (mirror_check T) tt e (λ ok. fraction_of area (left_reversing T budget room w)) ∙ ap (fraction_of area) (left_is_right T budget room w)
+  under_mirror_lem e = goes_on (mirror_check T) tt e (λ ok. fraction_of area (left_reversing T budget room w))
+      ∙ ap (fraction_of area) (left_is_right T budget room w)
 
 module _ (T : Presentation) (w : Word) (budget : ℕ) (workspace before : List ℕ) where
   -- 16 comes before the work
@@ -54,7 +55,8 @@ module _ (T : Presentation) (w : Word) (budget : ℕ) (workspace before : List �
       → Answers (under_mirror T w budget (length workspace) (length before)) before after r
       → States (left_fraction T w budget (length workspace) (length before)) workspace workspace' before after r
   has_mirror e workspace' after r =
-      answered_states LeftReverse (reversing (mirror T) budget (length workspace) (reverse w)) _ (under_mirror_lem T w budget (length workspace) (length before) e)
+      answered_states LeftReverse (reversing (mirror T) budget (length workspace) (reverse w)) _
+      (under_mirror_lem T w budget (length workspace) (length before) e)
 
 -- THE ANSWER READ BACKWARD AGAIN
 

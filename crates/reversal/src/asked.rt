@@ -1,7 +1,7 @@
 // What is asked of a program.
 
 // The three numbers that a caller hands in, any of 64 bits.
-#[derive(Drop)]
+#[derive(Clone, Copy)]
 pub struct Handed {
     pub numerator: u64,
     pub denominator: u64,
@@ -9,7 +9,7 @@ pub struct Handed {
 }
 
 // Its reversing, its reversing from the finished end, or its reversing where the numbers handed in are its own.
-#[derive(Drop)]
+#[derive(Clone, Copy)]
 pub enum Asked {
     Reverse,
     LeftReverse,

@@ -1,4 +1,6 @@
 // The services reverse, enquire, commit and left_reverse.
+#![tactic(auto)]
+
 pub mod answering;
 pub mod asked;
 pub mod backward;

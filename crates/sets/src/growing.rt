@@ -11,7 +11,7 @@ use model::answers::{Ending, Pair, Stop};
 pub const MOST_WORDS: usize = 256;
 
 // How growing the set ends: every pair was taken; one met an open pair; one word more than the most would be listed; or a reversing was stopped.
-#[derive(Drop)]
+#[derive(Clone, Copy)]
 pub enum Grown {
     Closed,
     OpenPair(Pair),
@@ -20,14 +20,14 @@ pub enum Grown {
 }
 
 // So many words are listed, in so many bytes.
-#[derive(Drop)]
+#[derive(Clone, Copy)]
 pub struct Held {
     pub used: usize,
     pub words: usize,
 }
 
 // Growing goes on, or has ended.
-#[derive(Drop)]
+#[derive(Clone, Copy)]
 pub enum Step {
     Going(Held),
     Ended(Grown),

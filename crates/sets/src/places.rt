@@ -9,7 +9,7 @@ use crate::words::Span;
 use spans::ends::word_end;
 
 // Which of the two words of a pair the later one is.
-#[derive(Drop)]
+#[derive(Clone, Copy)]
 pub enum Side {
     Second,
     First,

@@ -4,7 +4,7 @@ ghost use Rattle.model.specs.Equivalence.{equal};
 ghost use Rattle.sets.specs.Words.{spanned};
 
 // A word of the area: where it begins, and how many letters it has.
-#[derive(Drop)]
+#[derive(Clone, Copy)]
 pub struct Span {
     pub at: usize,
     pub letters: usize,

@@ -68,7 +68,8 @@ module _ (size : ℕ) (few : size ≤ most_size) (w v : Word) (pw : ProgramInRan
           (length-append (take right start) (take m part) ∙ omega (arith, front_long, length-take-le m part (omega (arith, part_long))))
 
       nothing_behind : drop (right + m + length (plain_program v)) turned ≡ []
-      nothing_behind = ap (λ k. drop k turned) {x = right + m + length (plain_program v)} {y = length turned} (omega (arith, plain_long v, vn, turned_long, fit))
+      nothing_behind = ap (λ k. drop k turned) {x = right + m + length (plain_program v)} {y = length turned}
+          (omega (arith, plain_long v, vn, turned_long, fit))
           ∙ drop-length turned
 
       append_shape : written turned (right + m) (plain_program v) ≡ take right start ++ (take m part ++ plain_program v)

@@ -1,4 +1,6 @@
 // The service compare_signed (specification 6.18): two programs of any signs.
+#![tactic(auto)]
+
 pub mod compare_signed;
 pub mod fraction;
 pub mod preparing;

@@ -8,7 +8,7 @@ use model::plain::MOST_WEIGHT;
 pub const EVEN: u16 = 2 * MOST_WEIGHT as u16;
 
 // How far the two words are gone through: the places of their next letters, and the lead of the first, which begins at `EVEN`.
-#[derive(Drop)]
+#[derive(Clone, Copy)]
 pub struct Balance {
     pub first: usize,
     pub second: usize,

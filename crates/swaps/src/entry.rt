@@ -11,7 +11,7 @@ use engine::gap::Gap;
 use entries::entry::ChainEntry;
 
 // The word after an entry; that the entry breaks the chain; or that its word is longer than the area.
-#[derive(Drop)]
+#[derive(Clone, Copy)]
 pub enum Applied {
     Word(Gap),
     Breaks,

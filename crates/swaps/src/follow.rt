@@ -13,7 +13,7 @@ use images::chains::entry_at;
 use images::programs::letter_at;
 
 // The word after the last entry; the number of the entry that breaks the chain; or that a word is longer than the area.
-#[derive(Drop)]
+#[derive(Clone, Copy)]
 pub enum Followed {
     Ended(Gap),
     Breaks(u16),

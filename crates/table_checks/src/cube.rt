@@ -13,7 +13,7 @@ use engine::words::{invert, move_to_end};
 use model::answers::{Ending, Stop};
 
 // What one triple shows: the rule holds, fails, or a reversing was stopped.
-#[derive(Drop)]
+#[derive(Clone, Copy)]
 pub enum CubeVerdict {
     Holds,
     Fails,

@@ -11,7 +11,7 @@ use engine::step::{push_inverse, push_word};
 use model::answers::{Ending, Stop};
 
 // u\v: a word, which stands at the workspace's start; an undefined pair was met; or the reversing was stopped.
-#[derive(Drop)]
+#[derive(Clone, Copy)]
 pub enum Residual {
     Word(usize),
     Missing,

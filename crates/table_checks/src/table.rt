@@ -10,14 +10,14 @@ use cells::weights::letter_weight;
 use model::answers::{Pair, Stop, Triple};
 
 // Whether both sides of every relation weigh the same, or the first pair where they do not.
-#[derive(Drop)]
+#[derive(Clone, Copy)]
 pub enum Weights {
     Equal,
     Unequal(Pair),
 }
 
 // Whether the cube rule holds at every triple, or the first one where it fails or a reversing was stopped.
-#[derive(Drop)]
+#[derive(Clone, Copy)]
 pub enum Triples {
     Hold,
     Fail(Triple),

@@ -157,11 +157,11 @@ module _ (T : Presentation) where
             ∙ ap (λ c. or_else c (found T u.last v.last rs)) (ending_own u v)));
       }
 
-  own_each : (earlier : List Two) {rs : List Two} → mirrored T earlier rs ≡ answered tt → {r : Two} → Memᴰ r rs
+  own_each : {r : Two} (earlier : List Two) {rs : List Two} → mirrored T earlier rs ≡ answered tt → Memᴰ r rs
       → {x y : Positive} → complete T r.a r.b ≡ complement x y → Own T (earlier ++ rs) (from_end r.a x) (from_end r.b y)
-  own_each earlier h {r} (Memᴰ.head {x = z} {xs = zs} e) {x} {y} rule =
+  own_each {r} earlier h (Memᴰ.head {x = z} {xs = zs} e) {x} {y} rule =
       rw e (own_first earlier z zs {x = x} {y = y} (ap (λ r. complete T r.a r.b) (sym e) ∙ rule) (passed earlier z zs h).0)
-  own_each earlier h {r} (Memᴰ.tail {x = z} {xs = zs} m) {x} {y} rule =
+  own_each {r} earlier h (Memᴰ.tail {x = z} {xs = zs} m) {x} {y} rule =
       let more = own_each (earlier ++ (z ∷ [])) (passed earlier z zs h).1 m rule in
       record {
         apart = more.apart;

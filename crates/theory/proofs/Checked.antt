@@ -16,7 +16,8 @@ use Rattle.model.specs.Enumeration.{Two, Three, pairs, triples}
 use Rattle.model.specs.Range.{All}
 use Rattle.model.specs.Outcome.{Place, pair_of, Outcome, answered, refused, ◌>>=◌}
 use Rattle.model.specs.Checks.{balanced, weight_check, Side, CubeRule, both_undefined, both_defined, Residual, residual, missing, halted, and_then, CubeVerdict}
-use Rattle.model.specs.Checks.{holds, fails, halts, empties, both_missing, both_there, where_defined, reported, under, side, against, cube_at, cube_check, cleared}
+use Rattle.model.specs.Checks.{holds, fails, halts, empties, both_missing, both_there, where_defined, reported, under, side, against, cube_at, cube_check}
+use Rattle.model.specs.Checks.{cleared}
 use Rattle.theory.specs.Cube.{Obeys, Says, FirstBroken, CubeMeaning}
 use Rattle.model.proofs.Impossible.{impossible}
 use Rattle.model.proofs.Leftmost.{open_unfinished}
@@ -184,7 +185,7 @@ pub went_on : {A B : Type 0} (o : Outcome A) (f : A → Outcome B) {y : B} → (
 went_on (answered x) f e = (x, refl, e)
 went_on (refused n place) f e = impossible (cc)
 
-weight_each : (T : Presentation) {ps : List Two} {p : Two} → weight_check T ps ≡ answered tt → Memᴰ p ps
+weight_each : (T : Presentation) {p : Two} {ps : List Two} → weight_check T ps ≡ answered tt → Memᴰ p ps
     → balanced T p.a p.b (complete T p.a p.b) ≡ true
 weight_each T {p} h (Memᴰ.head {x} {xs} e) = rw e (passes x (balanced T x.a x.b (complete T x.a x.b)) (weight_check T xs) h).0
 weight_each T {p} h (Memᴰ.tail {x} {xs} m) = weight_each T (passes x (balanced T x.a x.b (complete T x.a x.b)) (weight_check T xs) h).1 m

@@ -21,7 +21,7 @@ all_second P [] ys p = p
 all_second P (x ∷ xs) ys p = all_second P xs ys p.1
 
 -- and of one that is in a list
-pub all_have : {A : Type 0} (P : A → Type 0) {xs : List A} {x : A} → All P xs → Memᴰ x xs → P x
+pub all_have : {A : Type 0} (P : A → Type 0) {x : A} {xs : List A} → All P xs → Memᴰ x xs → P x
 all_have P h (Memᴰ.head e) = subst P (sym e) h.0
 all_have P h (Memᴰ.tail m) = all_have P h.1 m
 

@@ -99,7 +99,8 @@ module _ (M : Presentation) (budget room a b c : ℕ) where
     where
       go : (v : CubeVerdict) → (of_mirror (cube_check M budget room ts) ≡ refused 17 (mirror_triple_of a b c)
           → cube_check M budget room ts ≡ refused 9 (triple_of a b c))
-          → of_mirror (reported t v (cube_check M budget room ts)) ≡ refused 17 (mirror_triple_of a b c) → reported t v (cube_check M budget room ts) ≡ refused 9
+          → of_mirror (reported t v (cube_check M budget room ts)) ≡ refused 17 (mirror_triple_of a b c) → reported t v (cube_check M budget room ts)
+          ≡ refused 9
           (triple_of a b c)
       go holds rest e = rest e
       go fails rest e =

@@ -12,7 +12,8 @@ use Rattle.model.specs.Word.{Letter, forward, back, Word, Positive, flip, positi
 use Rattle.model.specs.Presentation.{Presentation, Complement, undefined, complement, swapped}
 use Rattle.model.specs.Reversing.{Site, nowhere, at, beyond, site_after, site, replaced, Next, no_site, blocked, step, by_complement, by_site, next, Ending}
 use Rattle.model.specs.Reversing.{finished, stopped, no_room, ended, count, spent, onward, run, reversing}
-use Rattle.model.specs.Mirror.{backward, mirror, left_of, left_site, left_complete, left_replaced, left_by_complement, left_by_site, left_next, left_run, left_reversing}
+use Rattle.model.specs.Mirror.{backward, mirror, left_of, left_site, left_complete, left_replaced, left_by_complement, left_by_site, left_next, left_run}
+use Rattle.model.specs.Mirror.{left_reversing}
 use Rattle.model.proofs.Words.{beyond_at, beyond_nowhere, forwards_append, backs_append, map_reverse}
 use Rattle.model.proofs.Mirrors.{mirror_complete}
 use Rattle.model.proofs.Impossible.{impossible}

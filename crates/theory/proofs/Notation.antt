@@ -12,7 +12,8 @@ use Rattle.model.specs.Word.{Word, flip}
 use Rattle.model.specs.Outcome.{unplaced, Outcome, answered, refused, ◌>>=◌, unless}
 use Rattle.model.specs.Bits.{Read}
 use Rattle.model.specs.Notation.{Pattern, nothing, ◌then◌, Item, item, Body, move, bracket, most_nested, repeated, times, undone, meaning, item_meaning}
-use Rattle.model.specs.Notation.{body_meaning, moves, item_moves, body_moves, space_byte, opening_byte, closing_byte, count_byte, is_digit, read_number, read_minus}
+use Rattle.model.specs.Notation.{body_meaning, moves, item_moves, body_moves, space_byte, opening_byte, closing_byte, count_byte, is_digit, read_number}
+use Rattle.model.specs.Notation.{read_minus}
 use Rattle.model.specs.Notation.{read_count, read_move, read_close, read_body, read_item, read_on, read_items, read_in, read_pattern, read_text}
 use Rattle.model.proofs.Impossible.{impossible, same_answer}
 use Rattle.theory.specs.Notation.{NotationMeaning}

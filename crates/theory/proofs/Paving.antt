@@ -81,7 +81,7 @@ module _ (T : Presentation) (In : Positive → Type 0) (closed : (u v : Positive
   row {u} i none = record { n = []; d = u; k = 0; grid = any_bottom u; above = none; beyond = i }
   row {u} i (tile {u = v} {w = w} j t) =
       let first = closed u v i j in
-      let rest = row first.beyond t in
+      let rest = row {u = first.d} first.beyond t in
       record {
         n = first.n ++ rest.n;
         d = rest.d;

@@ -13,8 +13,10 @@ use borrow.Author.Tests.{ltb-false, eqb-true, eqb-false}
 use Rattle.model.specs.Outcome.{Outcome, answered, ◌>>=◌, unless}
 use Rattle.model.specs.Bits.{Read}
 use Rattle.model.specs.Notation.{Pattern, nothing, ◌then◌, Item, item, Body, move, bracket, most_number, most_nested, CountInRange, PatternInRange, ItemInRange}
-use Rattle.model.specs.Notation.{BodyInRange, space_byte, opening_byte, closing_byte, minus_byte, zero_byte, count_byte, decimal, minus_text, count_text, pattern_text}
-use Rattle.model.specs.Notation.{text_after, item_text, body_text, no_pattern, is_digit, second_digit, read_number, read_minus, read_count, read_move, read_close}
+use Rattle.model.specs.Notation.{BodyInRange, space_byte, opening_byte, closing_byte, minus_byte, zero_byte, count_byte, decimal, minus_text, count_text}
+use Rattle.model.specs.Notation.{pattern_text}
+use Rattle.model.specs.Notation.{text_after, item_text, body_text, no_pattern, is_digit, second_digit, read_number, read_minus, read_count, read_move}
+use Rattle.model.specs.Notation.{read_close}
 use Rattle.model.specs.Notation.{read_body, read_item, read_on, read_items, read_in, read_pattern, read_text}
 use Rattle.model.proofs.Impossible.{impossible, answer_of, same_answer, not_refused}
 use Rattle.theory.proofs.Digits.{digit_from, decimal_one, decimal_two}

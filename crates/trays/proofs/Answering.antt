@@ -127,7 +127,8 @@ module _ (cells : List ℕ) (size : ℕ) (tray : List ℕ) (pattern : List ℕ) 
             (after : List ℕ) (long : length after ≡ length area)
             (put : Under cells size pattern (λ T v. after ≡ written area place (log_bytes (log_verdict size T v budget room (image_at tray at))))) where
           this : r ≡ record { value = image_at tray at; rest = drop (end_at tray at) tray }
-          this = same_answer r (record { value = image_at tray at; rest = drop (end_at tray at) tray }) (sym here ∙ log_read tray at (log_inside tray at r here))
+          this = same_answer r (record { value = image_at tray at; rest = drop (end_at tray at) tray })
+              (sym here ∙ log_read tray at (log_inside tray at r here))
 
           todo_is : r.value ∷ rs.value ≡ p.todo
           todo_is = ap (λ r. r.value) (same_answer (record { value = r.value ∷ rs.value; rest = rs.rest }) (record { value = p.todo; rest = [] }) both)

@@ -6,7 +6,7 @@ ghost use Rattle.trays.specs.Logs.{length_at, LogsDecided, TrayDone};
 pub const MOST_LOGS: u8 = 64;
 
 // What a tray is: so many logs; too many by its first byte; or one that ends early or goes on.
-#[derive(Drop)]
+#[derive(Clone, Copy)]
 pub enum TrayRead {
     Logs { count: u8 },
     TooMany,

@@ -234,7 +234,8 @@ opened_list before after bytes xs cs rest e room o =
     old_third i =
         ap (λ l. get_or l (length xs + (length cs + i)) 0) e ∙ (get_or-append-add xs (cs ++ rest) (length cs + i) 0 ∙ get_or-append-add cs rest i 0)
 
-    further : (i j : ℕ) → i ≡ length xs + j → get_or (xs ++ (bytes ++ (cs ++ drop (length bytes) rest))) i 0 ≡ get_or (bytes ++ (cs ++ drop (length bytes) rest)) j
+    further : (i j : ℕ) → i ≡ length xs + j → get_or (xs ++ (bytes ++ (cs ++ drop (length bytes) rest))) i 0
+        ≡ get_or (bytes ++ (cs ++ drop (length bytes) rest)) j
         0
     further i j p =
         ap (λ k. get_or (xs ++ (bytes ++ (cs ++ drop (length bytes) rest))) k 0) p ∙ get_or-append-add xs (bytes ++ (cs ++ drop (length bytes) rest)) j 0

@@ -43,7 +43,8 @@ entry_letter T w d v h =
     sym (ap (λ l. get_or l d.offset 0) s.left ∙ (get_or_at s.before s.a (s.x ++ s.after) 0 d.offset place ∙ letter))
 
 -- so there is one at most
-pub only_entry : (T : Presentation) (w : Positive) (o b : ℕ) (d : Entry) (v : Positive) → Toward o b d → applied T w d ≡ some v → d ≡ entry_at o (get_or w o 0) b
+pub only_entry : (T : Presentation) (w : Positive) (o b : ℕ) (d : Entry) (v : Positive) → Toward o b d → applied T w d ≡ some v → d
+    ≡ entry_at o (get_or w o 0) b
 only_entry T w o b d v p h =
     let letter : d.a ≡ get_or w o 0 = entry_letter T w d v h ∙ ap (λ i. get_or w i 0) p.0 in
     λ i. record { offset = p.0 i; a = letter i; b = p.1 i }
@@ -180,7 +181,8 @@ module _ {cells : List ℕ} {size : ℕ} (g : Work cells size) (area : List ℕ)
               letters_is = omega (arith, long);
             }
 
-        new_is : take o (held_word area h) ++ ((b ∷ take (get_or cells from 0) (drop (from + 1) cells)) ++ drop (o + (1 + get_or cells to 0)) (held_word area h))
+        new_is : take o (held_word area h) ++ ((b ∷ take (get_or cells from 0) (drop (from + 1) cells))
+            ++ drop (o + (1 + get_or cells to 0)) (held_word area h))
             ≡ new_word area cells swap
         unfolding new_word
         new_is =

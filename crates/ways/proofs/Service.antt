@@ -45,7 +45,7 @@ use Rattle.theory.proofs.Letters.{lettered_positive}
 use Rattle.theory.proofs.Ways.{listing_lists, listing_meaning, words_in_order, finding_within}
 use Rattle.cells.proofs.Rules.{of_few}
 use Rattle.ways.specs.Marks.{untried}
-use Rattle.ways.specs.Area.{words, Legible}
+use Rattle.ways.specs.Area.{Legible}
 use Rattle.ways.specs.State.{current}
 use Rattle.ways.specs.Listing.{Task, State, ListedAll}
 use Rattle.ways.specs.Service.{Answers, Passed, WaysMeaning, WaysSays, WaysPromise}

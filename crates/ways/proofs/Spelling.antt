@@ -40,7 +40,8 @@ spelled_last (m ∷ ms) l h = go (dec_lt 0 (length (spelled ms))) (spelled_last 
     go : Dec (0 < length (spelled ms)) → (0 < length (spelled ms) → is_ending (get_or (spelled ms) (length (spelled ms) - 1) 0) ≡ true)
         → is_ending (get_or (spelled (m ∷ ms)) (length (spelled (m ∷ ms)) - 1) 0) ≡ true
     go (yes p) rest =
-        let at : length (spelled (m ∷ ms)) - 1 ≡ length (entry_bytes m) + (length (spelled ms) - 1) = omega (arith, length-append (entry_bytes m) (spelled ms)) in
+        let at : length (spelled (m ∷ ms)) - 1 ≡ length (entry_bytes m) + (length (spelled ms) - 1) = omega
+        (arith, length-append (entry_bytes m) (spelled ms)) in
         ap (λ i. is_ending (get_or (spelled (m ∷ ms)) i 0)) at
         ∙ (ap is_ending (get_or-append-add (entry_bytes m) (spelled ms) (length (spelled ms) - 1) 0) ∙ rest p)
     go (no p) rest =

@@ -14,7 +14,6 @@ use lib.Seq.{get_or-take, get_or-append-add, take-set-lt, drop-set-lt, set_at}
 use borrow.Author.Tests.{eq-eqb, ne_eqb}
 use Rattle.model.specs.Word.{Positive}
 use Rattle.model.specs.Equivalence.{Entry, applied, Joined}
-use Rattle.model.specs.Areas.{begins}
 use Rattle.model.specs.Ways.{Ordered, listing, listing_bytes}
 use Rattle.model.proofs.Impossible.{impossible}
 use Rattle.theory.specs.Ways.{Lists}
@@ -333,7 +332,8 @@ module _ {cells : List ℕ} {size : ℕ} (k : Task cells size) (area : List ℕ)
   pub next_word : Positive
   next_word = next.word
 
-  pub next_busy : (start : ℕ) → StartFound area 0 end start → Busy (work_on k next_word count) area (record { word = start; letters = end - start; used = used })
+  pub next_busy : (start : ℕ) → StartFound area 0 end start
+      → Busy (work_on k next_word count) area (record { word = start; letters = end - start; used = used })
   unfolding next_word
   next_busy start s = busy_at k area used count t.0 t.1 end next start s
 

@@ -7,14 +7,14 @@ use crate::trying::{Held, Tried, try_word};
 use spans::ends::word_start;
 
 // The listing stands in the area, with so many words in so many bytes; or it is longer than the area.
-#[derive(Drop)]
+#[derive(Clone, Copy)]
 pub enum Listing {
     Whole { words: usize, bytes: usize },
     Long,
 }
 
 // So many bytes are used after one word more was tried; or the listing is longer than the area.
-#[derive(Drop)]
+#[derive(Clone, Copy)]
 pub enum NextTried {
     Used(usize),
     Full,

@@ -7,7 +7,7 @@ use crate::swap::{Order, Swap, compare};
 use spans::ends::{word_end, word_start};
 
 // The word is there already, or belongs at a byte.
-#[derive(Drop)]
+#[derive(Clone, Copy)]
 pub enum Place {
     There,
     At(usize),

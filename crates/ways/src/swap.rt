@@ -4,7 +4,7 @@ ghost use Rattle.ways.specs.Swap.{Readable, new_length, new_word, OrderMeans};
 
 // In the word that begins at `word`, after `offset` letters, `taken` letters give way to `put` others, and `rest` letters follow: the letter
 // `first`, then those of the word in the cell at `cell`.
-#[derive(Drop)]
+#[derive(Clone, Copy)]
 pub struct Swap {
     pub word: usize,
     pub offset: usize,
@@ -16,7 +16,7 @@ pub struct Swap {
 }
 
 // How the new word stands to a listed one.
-#[derive(Drop)]
+#[derive(Clone, Copy)]
 pub enum Order {
     Earlier,
     Same,

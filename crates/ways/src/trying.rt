@@ -10,7 +10,7 @@ use cells::layout::{UNDEFINED_LENGTH, cell_at};
 use swaps::side::stands_at;
 
 // The word under trial begins at `word` and has so many letters; so many bytes of the area are used.
-#[derive(Drop)]
+#[derive(Clone, Copy)]
 pub struct Held {
     pub word: usize,
     pub letters: usize,
@@ -18,14 +18,14 @@ pub struct Held {
 }
 
 // Where the word is after a trial, or that the listing is longer than the area.
-#[derive(Drop)]
+#[derive(Clone, Copy)]
 pub enum Tried {
     Going(Held),
     Full,
 }
 
 // The swap that a relation allows at a place of the word, or that it allows none.
-#[derive(Drop)]
+#[derive(Clone, Copy)]
 pub enum Fitting {
     One(Swap),
     None,

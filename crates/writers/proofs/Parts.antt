@@ -57,7 +57,8 @@ module _ (size : ℕ) (cells : List ℕ) (a : ℕ) (row : List Complement) (hold
 
 module _ (f : Complement → List ℕ) (size : ℕ) (cells : List ℕ) (a : ℕ) (row : List Complement) (holds : HoldsRow size cells a row)
     (wide : length row + a ≡ size) where
-  pub row_more : (b : ℕ) → a < b → b ≤ size → concat_map f (take (b - a - 1) row) ++ f (get_or row (b - a - 1) undefined) ≡ concat_map f (take (b + 1 - a - 1) row)
+  pub row_more : (b : ℕ) → a < b → b ≤ size → concat_map f (take (b - a - 1) row) ++ f (get_or row (b - a - 1) undefined)
+      ≡ concat_map f (take (b + 1 - a - 1) row)
   row_more b low high =
       let e : suc (b - a - 1) ≡ b + 1 - a - 1 = omega arith in
       ap (λ l. concat_map f (take (b - a - 1) row) ++ l) (sym (append-nil (f (get_or row (b - a - 1) undefined))))

@@ -52,7 +52,8 @@ image_bits T size e =
     ap pack
     (ap₂ (λ l r. digits size_width (size - 1) ++ (l ++ r))
     (concat_same (weight_as (image_form size)) (digits weight_width) (λ e. ap (digits weight_width) {x = e + 0} {y = e} (omega arith)) T.excess)
-    (concat_same (concat_map (pair_as (image_form size))) (concat_map (pair_bits size)) (concat_same (pair_as (image_form size)) (pair_bits size) (pair_image size))
+    (concat_same (concat_map (pair_as (image_form size))) (concat_map (pair_bits size))
+    (concat_same (pair_as (image_form size)) (pair_bits size) (pair_image size))
     T.rows))
     ∙ ap (λ n. pack (digits size_width (n - 1) ++ (concat_map (digits weight_width) T.excess ++ concat_map (concat_map (pair_bits n)) T.rows))) (sym e)
 
@@ -90,7 +91,8 @@ letters_plain (a ∷ x) =
 pair_plain : (pair : Complement) → pair_as plain_form pair ≡ bits_of (plain_pair pair)
 pair_plain undefined = sym (append-nil (digits 8 255))
 pair_plain (complement x y) =
-    ap₂ (λ l r. (digits 8 (length x) ++ l) ++ (digits 8 (length y) ++ r)) (letters_plain x) (letters_plain y) ∙ sym (bits_of_append (plain_word x) (plain_word y))
+    ap₂ (λ l r. (digits 8 (length x) ++ l) ++ (digits 8 (length y) ++ r)) (letters_plain x) (letters_plain y)
+    ∙ sym (bits_of_append (plain_word x) (plain_word y))
 
 weights_plain : (excess : List ℕ) → concat_map (weight_as plain_form) excess ≡ bits_of (map suc excess)
 weights_plain [] = refl
@@ -134,7 +136,8 @@ pair_bytes : (n : ℕ) → n ≤ most_size → (pair : Complement) → PairInRan
 pair_bytes n few undefined r = bytes_cons 255 [] (omega arith) bytes_none
 pair_bytes n few (complement x y) r = bytes_append (plain_word x) (plain_word y) (word_bytes n few x r.0) (word_bytes n few y r.1)
 
-rows_bytes : (n : ℕ) → n ≤ most_size → (k : ℕ) (rows : List (List Complement)) → Rows (PairInRange n) k rows → AreBytes (concat_map (concat_map plain_pair) rows)
+rows_bytes : (n : ℕ) → n ≤ most_size → (k : ℕ) (rows : List (List Complement)) → Rows (PairInRange n) k rows
+    → AreBytes (concat_map (concat_map plain_pair) rows)
 rows_bytes n few zero [] r = bytes_none
 rows_bytes n few zero (row ∷ rows) r = absurd r
 rows_bytes n few (suc k) [] r = absurd r
@@ -156,4 +159,5 @@ plain_bytes T r =
 pub plain_packed : (T : Presentation) (size : ℕ) → T.size ≡ size → TableInRange T → pack (table_as plain_form size T.excess T.rows) ≡ plain_table T
 plain_packed T size e r =
     ap pack (plain_bits T size e)
-    ∙ sym (packed_of (plain_table T) (bits_of (plain_table T)) [] (plain_bytes T r) (bits_are_bits (plain_table T)) (sym (append-nil (bits_of (plain_table T)))) refl)
+    ∙ sym (packed_of (plain_table T) (bits_of (plain_table T)) [] (plain_bytes T r) (bits_are_bits (plain_table T)) (sym (append-nil (bits_of (plain_table T))))
+    refl)

@@ -5,7 +5,7 @@ ghost use Rattle.model.specs.Bits.{digits};
 ghost use Rattle.writers.specs.BitWriter.{Writes, Puts, Closed};
 
 // The bytes before `next` are written. The last `held` bits are not written yet, and `bits` is the number that these write.
-#[derive(Drop)]
+#[derive(Clone, Copy)]
 pub struct BitWriter {
     pub next: usize,
     pub held: u32,

@@ -13,11 +13,11 @@ use Rattle.bits.specs.Fields.{most_width}
 span : (c : tie.Start) → (1 * 2 ^ c.args.count) % 65536 ≡ 2 ^ c.args.count
 span c = shifted_one most_width c.args.count (omega (arith, c.requires.1))
 
-cast-result : tie.Need-overflow-cast-result
-cast-result c = omega (arith, c.shared-slice-known.given (c.before.args.at / 8))
+overflow_cast-result : tie.Need-overflow_cast-result
+overflow_cast-result c = omega (arith, c.shared_slice_known-1.given (c.args.at / 8))
 
-rem-result : tie.Need-nonzero-rem-result
-rem-result c = omega (arith, span c.before, pow_pos c.before.args.count)
+nonzero_rem-result : tie.Need-nonzero_rem-result
+nonzero_rem-result c = omega (arith, span c.before, pow_pos c.args.count)
 
 returns : tie.Need-returns
 returns c =
@@ -25,7 +25,8 @@ returns c =
     ap (λ n. get_or s.args.bytes.now (s.args.at / 8) 0 / 2 ^ (8 - s.args.at % 8 - s.args.count) % n) (span s)
     ∙ run_read s.args.bytes.now s.args.at s.args.count 0 s.requires.0 s.requires.1
 
-pub read-run-spec : {M : Type 1} → statement M
-read-run-spec =
-    tie.close (tie.spec (λ c. search rules) (λ c. search rules) (λ c. search rules) (λ c. search rules) (λ c. search rules) cast-result (λ c. search rules)
-    (λ c. search rules) rem-result returns)
+pub read_run_spec : {M : Type 1} → statement M
+read_run_spec =
+    tie.close (tie.spec (λ c. search rules) (λ c. search rules) (λ c. search rules) (λ c. search rules) (λ c. search rules) overflow_cast-result
+    (λ c. search rules)
+    (λ c. search rules) nonzero_rem-result returns)

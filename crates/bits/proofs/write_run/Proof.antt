@@ -7,42 +7,43 @@ use borrow.Author.Rules.{rules}
 use Rattle.bits.proofs.write_run.Statement.{statement}
 use Rattle.bits.proofs.write_run.Tie as tie
 
-byte : (c : tie.After-slice-known) → get_or c.before.args.bytes.now (c.before.args.at / 8) 0 < 2 ^ 8
-byte c = omega (arith, c.slice-known.given (c.before.args.at / 8))
+byte : (c : tie.After-slice_known-1) → get_or c.args.bytes.now (c.args.at / 8) 0 < 2 ^ 8
+byte c = omega (arith, c.slice_known-1.given (c.args.at / 8))
 
-fits : (c : tie.After-slice-known) → RunFits c.before.args.bytes.now c.before.args.at c.before.args.count c.before.args.value
-fits c = run_fits c.before.args.bytes.now c.before.args.at c.before.args.count c.before.args.value c.before.requires.1 (byte c)
+fits : (c : tie.After-slice_known-1) → RunFits c.args.bytes.now c.args.at c.args.count c.args.value
+fits c = run_fits c.args.bytes.now c.args.at c.args.count c.args.value c.requires.1 (byte c)
 
-cast-old : tie.Need-overflow-cast-old
-cast-old c = omega (arith, byte c)
+overflow_cast-old : tie.Need-overflow_cast-old
+overflow_cast-old c = omega (arith, byte c)
 
-mul-bytes : tie.Need-overflow-mul-bytes
-mul-bytes c = omega (arith, fits c)
+overflow_mul-bytes : tie.Need-overflow_mul-bytes
+overflow_mul-bytes c = omega (arith, fits c)
 
-rem-bytes : tie.Need-nonzero-rem-bytes
-rem-bytes c = omega (arith, fits c)
+nonzero_rem-bytes : tie.Need-nonzero_rem-bytes
+nonzero_rem-bytes c = omega (arith, fits c)
 
-add-bytes : tie.Need-overflow-add-bytes
-add-bytes c = omega (arith, fits c)
+overflow_add-bytes : tie.Need-overflow_add-bytes
+overflow_add-bytes c = omega (arith, fits c)
 
-mul-bytes-2 : tie.Need-overflow-mul-bytes-2
-mul-bytes-2 c = omega (arith, fits c)
+overflow_mul-bytes-2 : tie.Need-overflow_mul-bytes-2
+overflow_mul-bytes-2 c = omega (arith, fits c)
 
-rem-bytes-2 : tie.Need-nonzero-rem-bytes-2
-rem-bytes-2 c = omega (arith, fits c)
+nonzero_rem-bytes-2 : tie.Need-nonzero_rem-bytes-2
+nonzero_rem-bytes-2 c = omega (arith, fits c)
 
-add-bytes-2 : tie.Need-overflow-add-bytes-2
-add-bytes-2 c = omega (arith, fits c)
+overflow_add-bytes-2 : tie.Need-overflow_add-bytes-2
+overflow_add-bytes-2 c = omega (arith, fits c)
 
-cast-bytes : tie.Need-overflow-cast-bytes
-cast-bytes c = omega (arith, fits c)
+overflow_cast-bytes : tie.Need-overflow_cast-bytes
+overflow_cast-bytes c = omega (arith, fits c)
 
 returns : tie.Need-returns
-returns c = run_written c.before.args.bytes.now c.before.args.at c.before.args.count c.before.args.value c.before.requires.0
-    c.before.requires.1
+returns c = run_written c.args.bytes.now c.args.at c.args.count c.args.value c.requires.0
+    c.requires.1
 
-pub write-run-spec : {M : Type 1} → statement M
-write-run-spec =
+pub write_run_spec : {M : Type 1} → statement M
+write_run_spec =
     tie.close (tie.spec (λ c. search rules) (λ c. search rules) (λ c. search rules) (λ c. search rules) (λ c. search rules) (λ c. search rules)
-    (λ c. search rules) cast-old (λ c. search rules) (λ c. search rules) mul-bytes rem-bytes add-bytes mul-bytes-2 rem-bytes-2 add-bytes-2 cast-bytes
+    (λ c. search rules) overflow_cast-old (λ c. search rules) (λ c. search rules) overflow_mul-bytes nonzero_rem-bytes overflow_add-bytes overflow_mul-bytes-2
+    nonzero_rem-bytes-2 overflow_add-bytes-2 overflow_cast-bytes
     (λ c. search rules) (λ c. search rules) returns)

@@ -8,70 +8,72 @@ use Rattle.areas.proofs.Copying.{copy_more, paste_written}
 use Rattle.areas.proofs.bytes.copy_on.Statement.{statement}
 use Rattle.areas.proofs.bytes.copy_on.Tie as tie
 
-abbrev invariant-loop : tie.invariant-loop
-invariant-loop area₀ from count to i₀ area i = (i ≤ count) × (length area ≡ length area₀) × (area ≡ paste area₀ to (drop from area₀) i)
+abbrev invariant-loop-i : tie.invariant-loop-i
+invariant-loop-i area₀ from count to i₀ area i = (i ≤ count) × (length area ≡ length area₀) × (area ≡ paste area₀ to (drop from area₀) i)
 
-abbrev decreases-loop : tie.decreases-loop
-decreases-loop area₀ from count to i₀ area i = count - i
+abbrev decreases-loop-i : tie.decreases-loop-i
+decreases-loop-i area₀ from count to i₀ area i = count - i
 
-loop-holds : tie.Need-loop-init invariant-loop decreases-loop
-loop-holds c = (omega arith, refl, paste-zero c.args.area.now c.args.to (drop c.args.from c.args.area.now))
+loop-i-init : tie.Need-loop-i-init invariant-loop-i decreases-loop-i
+loop-i-init c = (omega arith, refl, paste-zero c.args.area.now c.args.to (drop c.args.from c.args.area.now))
 
-add-area : tie.Need-overflow-add-area invariant-loop decreases-loop
-add-area c =
+overflow_add-area : tie.Need-overflow_add-area invariant-loop-i decreases-loop-i
+overflow_add-area c =
     let s = c.before.before in
-    record { fits = omega (arith, c.loop-test.true, s.requires.0, s.ranges.to.fits) }
+    record { fits = omega (arith, c.loop-i-test.true, s.requires.0, s.ranges.to.fits) }
 
-slice-read-area : tie.Need-slice-read-area invariant-loop decreases-loop
-slice-read-area c =
+bounds-area-from : tie.Need-bounds-area-from invariant-loop-i decreases-loop-i
+bounds-area-from c =
     let s = c.before.before.before in
-    omega (arith, c.before.loop-test.true, s.requires.0, s.requires.1, c.before.before.loop.invariant.1)
+    omega (arith, c.loop-i-test.true, s.requires.0, s.requires.1, c.loop-i.invariant.1)
 
-add-area-2 : tie.Need-overflow-add-area-2 invariant-loop decreases-loop
-add-area-2 c =
+overflow_add-area-in-loop-i : tie.Need-overflow_add-area-in-loop-i invariant-loop-i decreases-loop-i
+overflow_add-area-in-loop-i c =
     let s = c.before.before.before in
-    record { fits = omega (arith, c.before.loop-test.true, s.requires.1, s.well-formed.0.0) }
+    record { fits = omega (arith, c.loop-i-test.true, s.requires.1, s.well_formed.0.0) }
 
-slice-write-area : tie.Need-slice-write-area invariant-loop decreases-loop
-slice-write-area c =
+bounds-area-to : tie.Need-bounds-area-to invariant-loop-i decreases-loop-i
+bounds-area-to c =
     let s = c.before.before.before in
-    omega (arith, c.before.loop-test.true, s.requires.1, c.before.before.loop.invariant.1)
+    omega (arith, c.loop-i-test.true, s.requires.1, c.loop-i.invariant.1)
 
-add-i : tie.Need-overflow-add-i invariant-loop decreases-loop
-add-i c = record { fits = omega (arith, c.before.loop-test.true, c.before.before.before.ranges.count.fits) }
+overflow_add-i : tie.Need-overflow_add-i invariant-loop-i decreases-loop-i
+overflow_add-i c = record { fits = omega (arith, c.loop-i-test.true, c.ranges.count.fits) }
 
-loop-less : tie.Need-loop-smaller invariant-loop decreases-loop
-loop-less c = omega (arith, c.before.loop-test.true)
+loop-i-smaller : tie.Need-loop-i-smaller invariant-loop-i decreases-loop-i
+loop-i-smaller c = omega (arith, c.loop-i-test.true)
 
-loop-again : tie.Need-loop-preserved invariant-loop decreases-loop
-loop-again c =
-    let l = c.before.before.loop in
+loop-i-preserved : tie.Need-loop-i-preserved invariant-loop-i decreases-loop-i
+loop-i-preserved c =
+    let l = c.loop-i in
     let s = c.before.before.before in
     let a = s.args.area.now in
     let from = s.args.from in
     let to = s.args.to in (
-      omega (arith, c.before.loop-test.true),
+      omega (arith, c.loop-i-test.true),
       length-set l.area (to + l.i) (get_or l.area (from + l.i) 0) ∙ l.invariant.1,
       ap (λ x. set x (to + l.i) (get_or x (from + l.i) 0)) l.invariant.2
-          ∙ copy_more a from to l.i (omega (arith, c.before.loop-test.true, s.requires.0)) (omega (arith, c.before.loop-test.true, s.requires.1))
+          ∙ copy_more a from to l.i (omega (arith, c.loop-i-test.true, s.requires.0)) (omega (arith, c.loop-i-test.true, s.requires.1))
           ∙ ap (paste a to (drop from a)) {x = suc l.i} {y = l.i + 1} (omega arith),
     )
 
-same_length : tie.Need-same-length invariant-loop decreases-loop
-same_length c = c.before.loop.invariant.1
+shape_of-area : tie.Need-shape_of-area invariant-loop-i decreases-loop-i
+shape_of-area c = c.loop-i.invariant.1
 
-returns : tie.Need-returns invariant-loop decreases-loop
+returns : tie.Need-returns invariant-loop-i decreases-loop-i
 returns c =
-    let l = c.before.loop in
+    let l = c.loop-i in
     let s = c.before.before in
     let a = s.args.area.now in
     let from = s.args.from in
     let to = s.args.to in
-    let e : l.i ≡ s.args.count = omega (arith, l.invariant.0, c.loop-test.false) in (
+    let e : l.i ≡ s.args.count = omega (arith, l.invariant.0, c.loop-i-test.false) in (
       l.invariant.1,
-      l.invariant.2 ∙ ap (paste a to (drop from a)) e ∙ paste_written a to (drop from a) s.args.count (omega (arith, length-drop from a, s.requires.0, s.requires.1)),
+      l.invariant.2 ∙ ap (paste a to (drop from a)) e
+          ∙ paste_written a to (drop from a) s.args.count (omega (arith, length-drop from a, s.requires.0, s.requires.1)),
     )
 
-pub copy-on-spec : {M : Type 1} → statement M
-copy-on-spec =
-    tie.close (tie.spec invariant-loop decreases-loop loop-holds add-area slice-read-area add-area-2 slice-write-area add-i loop-less loop-again same_length returns)
+pub copy_on_spec : {M : Type 1} → statement M
+copy_on_spec =
+    tie.close (tie.spec invariant-loop-i decreases-loop-i loop-i-init overflow_add-area bounds-area-from overflow_add-area-in-loop-i bounds-area-to
+    overflow_add-i loop-i-smaller loop-i-preserved shape_of-area returns)

@@ -14,90 +14,90 @@ use borrow.Author.Rules.{rules}
 use Rattle.bed.proofs.bed.bed.Statement.{statement}
 use Rattle.bed.proofs.bed.bed.Tie as tie
 
-abbrev after-cells2 : tie.At-match-keys1 → tie.After-cells2
-after-cells2 c = c.before
+abbrev after_cells2 : tie.In-Refused → tie.After-cells-2-1
+after_cells2 c = c.before
 
-abbrev start : tie.After-read-braid → tie.Start
+abbrev start : tie.After-read_braid-read → tie.Start
 start c = c.before.before.before.before.before
 
 -- where the table was read, and where the program was
-abbrev at_table : tie.After-known-told2 → tie.After-read-braid
-at_table c = c.before.before.before.before
+abbrev at_table : tie.In-Table → tie.After-read_braid-read
+at_table c = c.before.before
 
-abbrev at_size : tie.After-read-program → tie.After-known-told2
+abbrev at_size : tie.After-read_program-accepted → tie.In-Table
 at_size c = c.before.before
 
-abbrev at-program : tie.After-known-told4 → tie.After-read-program
-at-program c = c.before.before.before
+abbrev at_program : tie.In-Program → tie.After-read_program-accepted
+at_program c = c.before
 
-abbrev cells : tie.After-known-told2 → List ℕ
-cells c = (at_table c).read-braid.new.1.0
+abbrev cells : tie.In-Table → List ℕ
+cells c = c.read_braid-read.new.cells
 
-abbrev size : tie.After-known-told2 → ℕ
-size c = c.before.read2.given.0.0
+abbrev size : tie.In-Table → ℕ
+size c = c.in-Table.size
 
 -- the table and the program that were read
-braid_of : (c : tie.After-known-told2) → BraidOf (start (at_table c)).args.table.now (cells c) (size c)
-braid_of c = subst (BraidDone (start (at_table c)).args.table.now (cells c)) c.before.read2.given.1 (at_table c).read-braid.ensures
+braid_of : (c : tie.In-Table) → BraidOf (start (at_table c)).args.table.now (cells c) (size c)
+braid_of c = subst (BraidDone (start (at_table c)).args.table.now (cells c)) c.in-Table.is c.read_braid-read.ensures
 
-program-of : (c : tie.After-known-told4)
-    → ProgramOf (start (at_table (at_size (at-program c)))).args.program.now (size (at_size (at-program c))) c.before.accepted2.given.0.0
-program-of c =
-    let k = at_size (at-program c) in
-    (subst (ProgramDone (start (at_table k)).args.program.now (cells k) (size k)) c.before.accepted2.given.1
-    (at-program c).read-program.ensures).program
+program_of : (c : tie.In-Program)
+    → ProgramOf (start (at_table (at_size (at_program c)))).args.program.now (size (at_size (at_program c))) c.in-Program.count
+program_of c =
+    let k = at_size (at_program c) in
+    (subst (ProgramDone (start (at_table k)).args.program.now (cells k) (size k)) c.in-Program.is
+    c.read_program-accepted.ensures).program
 
-read-braid-requires : tie.Need-read-braid-requires
-read-braid-requires c κs = blank_zeros
+read_braid-read-requires : tie.Need-read_braid-read-requires
+read_braid-read-requires c κs = blank_zeros
 
-read-program-requires : tie.Need-read-program-requires
-read-program-requires c κs = let b = braid_of c.before in (b.table, b.of)
+read_program-accepted-requires : tie.Need-read_program-accepted-requires
+read_program-accepted-requires c κs = let b = braid_of c.before in (b.table, b.of)
 
-show-program-requires : tie.Need-show-program-requires
-show-program-requires c κs =
-    let b = braid_of (at_size (at-program c.before)) in
-    record { some = of_some b.of; few = of_few b.of; program = program-of c.before }
+show_program-requires : tie.Need-show_program-requires
+show_program-requires c κs =
+    let b = braid_of (at_size (at_program c.before)) in
+    record { some = of_some b.of; few = of_few b.of; program = program_of c.before }
 
-returns : tie.Need-returns
-returns c =
-    let v = (after-cells2 c.before.before).before in
+returns-in-Refused : tie.Need-returns-in-Refused
+returns-in-Refused c =
+    let v = (after_cells2 c).before in
     let s = start v in
-    let r = c.before.read.given.0.0 in
+    let r = c.in-Refused.refusal in
     promised s.args.table.now s.args.program.now s.args.moves s.args.answer.now s.args.answer.now (Refused r)
     (refused_answers _ s.args.answer.now r
     (bed_no_table s.args.table.now s.args.program.now s.args.moves (length s.args.answer.now) r
-    (subst (BraidDone s.args.table.now v.read-braid.last.1.0) c.before.read.given.1 v.read-braid.ensures)))
+    (subst (BraidDone s.args.table.now v.read_braid-read.new.cells) c.in-Refused.is v.read_braid-read.ensures)))
 
-returns-2 : tie.Need-returns-2
-returns-2 c =
-    let v = c.before.before.before in
+returns-in-Refused-accepted : tie.Need-returns-in-Refused-accepted
+returns-in-Refused-accepted c =
+    let v = c.before in
     let k = at_size v in
     let s = start (at_table k) in
-    let r = c.before.accepted.given.0.0 in
+    let r = c.in-Refused-accepted.refusal in
     promised s.args.table.now s.args.program.now s.args.moves s.args.answer.now s.args.answer.now (Refused r)
     (refused_answers _ s.args.answer.now r
     (bed_no_program s.args.table.now s.args.program.now s.args.moves (length s.args.answer.now) (braid_of k).table (braid_of k).read
     (size k) (braid_of k).of.sized r
-    (subst (ProgramDone s.args.program.now (cells k) (size k)) c.before.accepted.given.1 v.read-program.ensures)))
+    (subst (ProgramDone s.args.program.now (cells k) (size k)) c.in-Refused-accepted.is v.read_program-accepted.ensures)))
 
-same_length : tie.Need-same-length
-same_length c = c.before.before.show-program.auto.1.1.1.1.0
+shape_of-answer : tie.Need-shape_of-answer
+shape_of-answer c = c.show_program.auto.answer
 
-returns-3 : tie.Need-returns-3
-returns-3 c =
+returns-in-Program : tie.Need-returns-in-Program
+returns-in-Program c =
     let g = c.before.before in
     let m = g.before.before in
-    let k = at_size (at-program m) in
+    let k = at_size (at_program m) in
     let s = start (at_table k) in
-    let w = (program-of m).word in
-    promised s.args.table.now s.args.program.now s.args.moves s.args.answer.now g.show-program.new.1.1.1.1.0
-    g.show-program.result
-    (subst (λ o. Answers o s.args.answer.now g.show-program.new.1.1.1.1.0 g.show-program.result)
+    let w = (program_of m).word in
+    promised s.args.table.now s.args.program.now s.args.moves s.args.answer.now g.show_program.new.answer
+    g.show_program.result
+    (subst (λ o. Answers o s.args.answer.now g.show_program.new.answer g.show_program.result)
     (sym (bed_shows s.args.table.now s.args.program.now s.args.moves (length s.args.answer.now) (braid_of k).table (braid_of k).read
-    (size k) (braid_of k).of.sized w (program-of m).read))
-    (g.show-program.ensures w (program-of m).read))
+    (size k) (braid_of k).of.sized w (program_of m).read))
+    (g.show_program.ensures w (program_of m).read))
 
-pub bed-spec : {M : Type 1} → statement M
-bed-spec =
-    tie.close (tie.spec (λ c. search rules) read-braid-requires (λ c. search rules) (λ c. search rules) (λ c. search rules) read-program-requires
-    (λ c. search rules) (λ c. search rules) show-program-requires returns returns-2 same_length returns-3)
+pub bed_spec : {M : Type 1} → statement M
+bed_spec =
+    tie.close (tie.spec (λ c. search rules) read_braid-read-requires (λ c. search rules) (λ c. search rules) (λ c. search rules) read_program-accepted-requires
+    (λ c. search rules) (λ c. search rules) show_program-requires returns-in-Refused returns-in-Refused-accepted shape_of-answer returns-in-Program)

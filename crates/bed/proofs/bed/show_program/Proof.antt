@@ -8,35 +8,36 @@ use borrow.Author.Rules.{rules}
 use Rattle.bed.proofs.bed.show_program.Statement.{statement}
 use Rattle.bed.proofs.bed.show_program.Tie as tie
 
-abbrev start : tie.After-write-bed-arg → tie.Start
+abbrev start : tie.After-write_bed-arg-1 → tie.Start
 start c = c.before.before.before.before.before.before
 
-abbrev after-write-bed-arg : tie.After-write-bed → tie.After-write-bed-arg
-after-write-bed-arg c = c.before
+abbrev after_write_bed_arg : tie.After-write_bed → tie.After-write_bed-arg-1
+after_write_bed_arg c = c.before
 
-mul-bytes : tie.Need-overflow-mul-bytes
-mul-bytes c = let s = c.before.before in omega (arith, square_few (s.args.size + 1) (omega (arith, s.requires.few)))
+overflow_mul-bytes : tie.Need-overflow_mul-bytes
+overflow_mul-bytes c = let s = c.before.before in omega (arith, square_few (s.args.size + 1) (omega (arith, s.requires.few)))
+
+returns-then-answer-bytes : tie.Need-returns-then-answer-bytes
+returns-then-answer-bytes c = let s = c.before.before.before in λ w e. bed_short s.args.size s.args.moves w s.args.answer.now (s.args.size + 1) refl
+    c.if-answer-bytes.true
+
+shape_of-answer : tie.Need-shape_of-answer
+shape_of-answer c = c.write_bed.auto.area
 
 returns : tie.Need-returns
-returns c = let s = c.before.before.before in λ w e. bed_short s.args.size s.args.moves w s.args.answer.now (s.args.size + 1) refl
-    c.if1.true
-
-same_length : tie.Need-same-length
-same_length c = c.before.before.write-bed.auto.1.1.0
-
-returns-2 : tie.Need-returns-2
-returns-2 c =
-    let k = after-write-bed-arg c.before.before in
-    let b = c.before.before.write-bed in
-    let m = k.before.laid in
-    let t = k.before.before.moves-made in
+returns c =
+    let k = after_write_bed_arg c.before.before in
+    let b = c.write_bed in
+    let m = k.laid-bed in
+    let t = k.moves_made in
     let s = start k in
     λ w e.
-    bed_answers s.args.size s.args.moves w s.args.answer.now (s.args.size + 1) refl (omega (arith, k.before.before.before.if1.left))
+    bed_answers s.args.size s.args.moves w s.args.answer.now (s.args.size + 1) refl (omega (arith, k.if-answer-bytes.false))
     s.args.count t.result
-    (count_of s.args.program.now s.args.size s.args.count s.pre w e) t.ensures m.result (m.ensures w e) b.new.1.1.0
+    (count_of s.args.program.now s.args.size s.args.count s.requires w e) t.ensures m.result (m.ensures w e) b.new.area
     b.ensures.1
 
-pub show-program-spec : {M : Type 1} → statement M
-show-program-spec =
-    tie.close (tie.spec (λ c. search rules) mul-bytes returns (λ c κs. search rules) (λ c κs. search rules) (λ c κs. search rules) same_length returns-2)
+pub show_program_spec : {M : Type 1} → statement M
+show_program_spec =
+    tie.close (tie.spec (λ c. search rules) overflow_mul-bytes returns-then-answer-bytes (λ c κs. search rules) (λ c κs. search rules) (λ c κs. search rules)
+    shape_of-answer returns)

@@ -4,11 +4,11 @@ use borrow.Author.Rules.{rules}
 use Rattle.bed.proofs.braid_table.are_adjacent.Statement.{statement}
 use Rattle.bed.proofs.braid_table.are_adjacent.Tie as tie
 
+returns-then-a-b : tie.Need-returns-then-a-b
+returns-then-a-b c = adjacent_below c.args.a c.args.b c.if-a-b.true
+
 returns : tie.Need-returns
-returns c = adjacent_below c.before.args.a c.before.args.b c.if1.true
+returns c = adjacent_above c.args.a c.args.b c.if-a-b.false
 
-returns-2 : tie.Need-returns-2
-returns-2 c = adjacent_above c.before.args.a c.before.args.b c.if1.false
-
-pub are-adjacent-spec : {M : Type 1} → statement M
-are-adjacent-spec = tie.close (tie.spec (λ c. search rules) returns (λ c. search rules) returns-2)
+pub are_adjacent_spec : {M : Type 1} → statement M
+are_adjacent_spec = tie.close (tie.spec (λ c. search rules) returns-then-a-b (λ c. search rules) returns)

@@ -9,52 +9,53 @@ use borrow.Author.Rules.{rules}
 use Rattle.bed.proofs.braid_table.has_braid_word.Statement.{statement}
 use Rattle.bed.proofs.braid_table.has_braid_word.Tie as tie
 
-abbrev start : tie.After-cell-at → tie.Start
+abbrev start : tie.After-cell_at-cell → tie.Start
 start c = c.before.before
 
-abbrev then2 : tie.Else3 → tie.Then2
+abbrev then2 : tie.Else-cells-cell-2 → tie.Then-are_adjacent
 then2 c = c.before.before
 
-returns : tie.Need-returns
-returns c =
+returns-then-cells-cell : tie.Need-returns-then-cells-cell
+returns-then-cells-cell c =
     let s = start c.before.before in
     let cells = s.args.cells.now in
     λ T h ra rb. first_letter cells T h s.args.a s.args.b ra rb
-    (λ e. c.if1.true (ap (λ i. get_or cells (i + 1) 0) c.before.before.Cell-at.ensures ∙ e))
+    (λ e. c.if-cells-cell.true (ap (λ i. get_or cells (i + 1) 0) c.cell_at-cell.ensures ∙ e))
 
-returns-2 : tie.Need-returns-2
-returns-2 c =
+returns-then-cells-cell-2 : tie.Need-returns-then-cells-cell-2
+returns-then-cells-cell-2 c =
     let k = c.before.before.before in
     let s = start k.before.before.before in
     let cells = s.args.cells.now in
-    let cell = k.before.before.before.Cell-at in
-    λ T h ra rb. near_second cells T h s.args.a s.args.b ra rb (sym k.are-adjacent.ensures ∙ c.before.before.if2.true)
-    (λ e. c.if3.true (ap (λ i. get_or cells (i + 2) 0) cell.ensures ∙ e))
+    let cell = k.cell_at-cell in
+    λ T h ra rb. near_second cells T h s.args.a s.args.b ra rb (sym k.are_adjacent.ensures ∙ c.if-are_adjacent.true)
+    (λ e. c.if-cells-cell-2.true (ap (λ i. get_or cells (i + 2) 0) cell.ensures ∙ e))
 
-returns-3 : tie.Need-returns-3
-returns-3 c =
+returns-then-are_adjacent : tie.Need-returns-then-are_adjacent
+returns-then-are_adjacent c =
     let k = (then2 c.before).before in
     let s = start k.before.before.before in
     let cells = s.args.cells.now in
-    let cell = k.before.before.before.Cell-at in
+    let cell = k.cell_at-cell in
     λ T h ra rb.
     subst (λ i. Decides (eqb (get_or cells i 0) 2) (HasBraidWord T s.args.a s.args.b)) (sym cell.ensures)
-    (near_decided cells T h s.args.a s.args.b ra rb (sym k.are-adjacent.ensures ∙ c.before.before.before.if2.true)
-    (sym (ap (λ i. get_or cells (i + 1) 0) cell.ensures) ∙ k.before.if1.left)
-    (sym (ap (λ i. get_or cells (i + 2) 0) cell.ensures) ∙ c.before.if3.false))
+    (near_decided cells T h s.args.a s.args.b ra rb (sym k.are_adjacent.ensures ∙ c.if-are_adjacent.true)
+    (sym (ap (λ i. get_or cells (i + 1) 0) cell.ensures) ∙ k.if-cells-cell.false)
+    (sym (ap (λ i. get_or cells (i + 2) 0) cell.ensures) ∙ c.if-cells-cell-2.false))
 
-returns-4 : tie.Need-returns-4
-returns-4 c =
+returns : tie.Need-returns
+returns c =
     let k = c.before.before in
     let s = start k.before.before.before in
     let cells = s.args.cells.now in
-    let cell = k.before.before.before.Cell-at in
+    let cell = k.cell_at-cell in
     λ T h ra rb.
     subst (λ i. Decides (eqb (get_or cells i 0) 1) (HasBraidWord T s.args.a s.args.b)) (sym cell.ensures)
-    (far_decided cells T h s.args.a s.args.b ra rb (sym k.are-adjacent.ensures ∙ c.before.if2.false)
-    (sym (ap (λ i. get_or cells (i + 1) 0) cell.ensures) ∙ k.before.if1.false))
+    (far_decided cells T h s.args.a s.args.b ra rb (sym k.are_adjacent.ensures ∙ c.if-are_adjacent.false)
+    (sym (ap (λ i. get_or cells (i + 1) 0) cell.ensures) ∙ k.if-cells-cell.false))
 
-pub has-braid-word-spec : {M : Type 1} → statement M
-has-braid-word-spec =
-    tie.close (tie.spec (λ c κs. search rules) (λ c. search rules) (λ c. search rules) returns (λ c κs. search rules) (λ c. search rules) (λ c. search rules)
-    returns-2 (λ c. search rules) returns-3 (λ c. search rules) returns-4)
+pub has_braid_word_spec : {M : Type 1} → statement M
+has_braid_word_spec =
+    tie.close (tie.spec (λ c κs. search rules) (λ c. search rules) (λ c. search rules) returns-then-cells-cell (λ c κs. search rules) (λ c. search rules)
+    (λ c. search rules)
+    returns-then-cells-cell-2 (λ c. search rules) returns-then-are_adjacent (λ c. search rules) returns)

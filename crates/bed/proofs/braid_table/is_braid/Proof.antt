@@ -13,48 +13,46 @@ use Rattle.bed.proofs.BraidWords.{one_more}
 use Rattle.bed.proofs.braid_table.is_braid.Statement.{statement}
 use Rattle.bed.proofs.braid_table.is_braid.Tie as tie
 
-abbrev invariant-loop : tie.invariant-loop
-invariant-loop cells size a₀ a =
+abbrev invariant-loop-a : tie.invariant-loop-a
+invariant-loop-a cells size a₀ a =
     (1 ≤ a) × (a ≤ size + 1) × (size ≤ most_size) × ((T : Presentation) → Of cells size T → (k : ℕ) → 0 < k → k < a → BraidRow T size k)
 
-abbrev decreases-loop : tie.decreases-loop
-decreases-loop cells size a₀ a = size + 1 - a
+abbrev decreases-loop-a : tie.decreases-loop-a
+decreases-loop-a cells size a₀ a = size + 1 - a
 
-abbrev start : tie.At-loop invariant-loop decreases-loop → tie.Start invariant-loop decreases-loop
-start c = c.before.before
-
-loop-holds : tie.Need-loop-init invariant-loop decreases-loop
-loop-holds c =
+loop-a-init : tie.Need-loop-a-init invariant-loop-a decreases-loop-a
+loop-a-init c =
     let s = c.before in
     (omega arith, omega arith, of_few s.requires.1, λ T o k l h. absurd (omega arith))
 
-is-braid-row-requires : tie.Need-is-braid-row-requires invariant-loop decreases-loop
-is-braid-row-requires c κs = let s = c.before.before.before in (s.requires, omega arith, omega arith)
+is_braid_row-requires : tie.Need-is_braid_row-requires invariant-loop-a decreases-loop-a
+is_braid_row-requires c κs = let s = c.before.before.before in (s.requires, omega arith, omega arith)
 
-returns : tie.Need-returns invariant-loop decreases-loop
-returns c =
-    let l = c.before.before.before.loop in
+returns-then-not-is_braid_row : tie.Need-returns-then-not-is_braid_row invariant-loop-a decreases-loop-a
+returns-then-not-is_braid_row c =
+    let l = c.loop-a in
     λ T o. sym
     (not_braid T λ each.
-    (c.before.is-braid-row.ensures T o).fails (not-true _ c.if1.true)
+    (c.is_braid_row.ensures T o).fails (not-true _ c.if-not-is_braid_row.true-raw)
     (λ b h k. each l.a b l.invariant.0 h (omega (arith, o.sized))))
 
-loop-again : tie.Need-loop-preserved invariant-loop decreases-loop
-loop-again c =
-    let l = c.before.before.before.loop in
+loop-a-preserved : tie.Need-loop-a-preserved invariant-loop-a decreases-loop-a
+loop-a-preserved c =
+    let l = c.loop-a in
     let s = l.invariant in (
       omega arith,
       omega arith,
       s.2,
       λ T o k h i.
-          one_more (BraidRow T (start c.before.before.before).args.size) l.a 0 (s.3 T o)
-          ((c.before.is-braid-row.ensures T o).holds (not-false _ c.if1.false)) k h i,
+          one_more (BraidRow T c.args.size) l.a 0 (s.3 T o)
+          ((c.is_braid_row.ensures T o).holds (not-false _ c.if-not-is_braid_row.false-raw)) k h i,
     )
 
-returns-2 : tie.Need-returns-2 invariant-loop decreases-loop
-returns-2 c =
-    let l = c.before.loop in
+returns : tie.Need-returns invariant-loop-a decreases-loop-a
+returns c =
+    let l = c.loop-a in
     λ T o. sym (all_braid T λ a b low h high. l.invariant.3 T o a low (omega (arith, o.sized)) b h (omega (arith, o.sized)))
 
-pub is-braid-spec : {M : Type 1} → statement M
-is-braid-spec = tie.close (tie.spec invariant-loop decreases-loop loop-holds is-braid-row-requires returns (λ c. omega arith) (λ c. omega arith) loop-again returns-2)
+pub is_braid_spec : {M : Type 1} → statement M
+is_braid_spec = tie.close (tie.spec invariant-loop-a decreases-loop-a loop-a-init is_braid_row-requires returns-then-not-is_braid_row (λ c. omega arith)
+    (λ c. omega arith) loop-a-preserved returns)

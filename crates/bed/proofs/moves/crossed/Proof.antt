@@ -12,14 +12,14 @@ use Rattle.model.specs.Plain.{most_letters}
 use Rattle.bed.proofs.moves.crossed.Statement.{statement}
 use Rattle.bed.proofs.moves.crossed.Tie as tie
 
-abbrev start : tie.After-x → tie.Start
+abbrev start : tie.After-x-1 → tie.Start
 start c = c.before
 
-total-index-requires : tie.Need-total-index-requires
-total-index-requires c κs =
+total_index-at-requires : tie.Need-total_index-at-requires
+total_index-at-requires c κs =
     let s = c.before.before in
     let h = s.requires.0 in
-    let v = s.args.t1 in
+    let v = s.args.bed in
     let i = s.args.i in (
       bobbin_in v s.args.places h.bed h.shown (i - 1) (omega (arith, h.high)),
       bobbin_in v s.args.places h.bed h.shown i h.high,
@@ -28,43 +28,43 @@ total-index-requires c κs =
     )
 
 -- the total that changes is one of the bed's
-inside : (c : tie.After-total) (B : Bed) → Shown (start c.before.before.before).args.t1 (start c.before.before.before).args.places B
-    → c.before.total-index.result < length B.totals
+inside : (c : tie.After-total-1) (B : Bed) → Shown c.args.bed c.args.places B
+    → c.total_index-at.result < length B.totals
 inside c B h =
     let s = start c.before.before.before in
-    let v = s.args.t1 in
+    let v = s.args.bed in
     let i = s.args.i in
-    let k = s.pre.0 in
+    let k = s.requires.0 in
     let x = bobbin_in v s.args.places B h (i - 1) (omega (arith, k.high)) in
     let y = bobbin_in v s.args.places B h i k.high in
     omega (
       arith,
-      c.before.total-index.ensures.0,
+      c.total_index-at.ensures.0,
       h.sound.many,
       position_inside s.args.places (get_or v.bobbins (i - 1) 0) (get_or v.bobbins i 0) x y
           (bobbins_two v s.args.places B h (i - 1) i (omega (arith, k.low)) k.high),
     )
 
-within : (c : tie.After-total) → nat_abs (get_or (start c.before.before.before).args.t1.totals c.before.total-index.result (pos 0)) ≤ most_letters
+within : (c : tie.After-total-1) → nat_abs (get_or c.args.bed.totals c.total_index-at.result (pos 0)) ≤ most_letters
 within c =
     let s = start c.before.before.before in
-    let k = s.pre.0 in
-    total_within s.args.t1 s.args.places k.bed k.shown c.before.total-index.result (inside c k.bed k.shown)
+    let k = s.requires.0 in
+    total_within s.args.bed s.args.places k.bed k.shown c.total_index-at.result (inside c k.bed k.shown)
 
-add-next : tie.Need-overflow-add-next
-add-next c =
+overflow_add-next : tie.Need-overflow_add-next
+overflow_add-next c =
     let s = start c.before.before.before in
-    sum_fits (get_or s.args.t1.totals c.before.total-index.result (pos 0)) s.args.change (within c) s.pre.1
+    sum_fits (get_or s.args.bed.totals c.total_index-at.result (pos 0)) s.args.change (within c) s.requires.1
 
 returns : tie.Need-returns
 returns c =
     let s = start c.before.before.before in
     λ B h.
-    crossed_shows s.args.t1 s.args.places B h s.args.i c.before.total-index.result s.pre.0.low s.pre.0.high
-    c.before.total-index.ensures.0 (inside c B h) _ s.args.change
-    (sum_stored (get_or s.args.t1.totals c.before.total-index.result (pos 0)) s.args.change (within c) s.pre.1)
+    crossed_shows s.args.bed s.args.places B h s.args.i c.total_index-at.result s.requires.0.low s.requires.0.high
+    c.total_index-at.ensures.0 (inside c B h) _ s.args.change
+    (sum_stored (get_or s.args.bed.totals c.total_index-at.result (pos 0)) s.args.change (within c) s.requires.1)
 
-pub crossed-spec : {M : Type 1} → statement M
-crossed-spec =
-    tie.close (tie.spec (λ c. search rules) (λ c. search rules) (λ c. search rules) total-index-requires (λ c. search rules) (λ c. search rules)
-    (λ c. search rules) (λ c. search rules) add-next (λ c. search rules) (λ c. search rules) returns)
+pub crossed_spec : {M : Type 1} → statement M
+crossed_spec =
+    tie.close (tie.spec (λ c. search rules) (λ c. search rules) (λ c. search rules) total_index-at-requires (λ c. search rules) (λ c. search rules)
+    (λ c. search rules) (λ c. search rules) overflow_add-next (λ c. search rules) (λ c. search rules) returns)

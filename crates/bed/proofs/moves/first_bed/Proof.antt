@@ -6,5 +6,5 @@ use Rattle.bed.proofs.moves.first_bed.Tie as tie
 returns : tie.Need-returns
 returns c = first_shows
 
-pub first-bed-spec : {M : Type 1} → statement M
-first-bed-spec = tie.close (tie.spec returns)
+pub first_bed_spec : {M : Type 1} → statement M
+first_bed_spec = tie.close (tie.spec returns)

@@ -6,8 +6,8 @@ use borrow.Author.Rules.{rules}
 use Rattle.bed.proofs.moves.pair_index.Statement.{statement}
 use Rattle.bed.proofs.moves.pair_index.Tie as tie
 
-mul-before-2 : tie.Need-overflow-mul-before-2
-mul-before-2 c = let s = c in
+overflow_mul-before-2 : tie.Need-overflow_mul-before-2
+overflow_mul-before-2 c = let s = c in
     omega (
       arith,
       rows_product s.args.places (s.args.p - 1) (omega arith),
@@ -17,8 +17,8 @@ mul-before-2 c = let s = c in
       pairs_few s.args.places s.requires.3,
     )
 
-add-result : tie.Need-overflow-add-result
-add-result c = let s = c in
+overflow_add-result : tie.Need-overflow_add-result
+overflow_add-result c = let s = c in
     omega (
       arith,
       rows_product s.args.places (s.args.p - 1) (omega arith),
@@ -39,7 +39,8 @@ returns c = let s = c in
       pairs_few s.args.places s.requires.3,
     )
 
-pub pair-index-spec : {M : Type 1} → statement M
-pair-index-spec =
-    tie.close (tie.spec (λ c. search rules) (λ c. search rules) (λ c. search rules) (λ c. search rules) mul-before-2 (λ c. search rules) (λ c. search rules)
-    add-result returns)
+pub pair_index_spec : {M : Type 1} → statement M
+pair_index_spec =
+    tie.close (tie.spec (λ c. search rules) (λ c. search rules) (λ c. search rules) (λ c. search rules) overflow_mul-before-2 (λ c. search rules)
+    (λ c. search rules)
+    overflow_add-result returns)

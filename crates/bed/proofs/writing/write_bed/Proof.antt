@@ -9,49 +9,50 @@ use borrow.Author.Rules.{rules}
 use Rattle.bed.proofs.writing.write_bed.Statement.{statement}
 use Rattle.bed.proofs.writing.write_bed.Tie as tie
 
-abbrev start : tie.After-bobbins → tie.Start
+abbrev start : tie.After-bobbins-1 → tie.Start
 start c = c.before.before
 
-abbrev after-bobbins : tie.After-copy-bytes → tie.After-bobbins
-after-bobbins c = c.before.before.before
+abbrev after_bobbins : tie.After-copy_bytes → tie.After-bobbins-1
+after_bobbins c = c.before.before.before
 
-abbrev after-copy-bytes : tie.After-write-totals → tie.After-copy-bytes
-after-copy-bytes c = c.before.before.before.before
+abbrev after_copy_bytes : tie.After-write_totals → tie.After-copy_bytes
+after_copy_bytes c = c.before.before.before.before
 
-copy-bytes-requires : tie.Need-copy-bytes-requires
-copy-bytes-requires c κs =
+copy_bytes-requires : tie.Need-copy_bytes-requires
+copy_bytes-requires c κs =
     let s = start c.before.before in
     let long : length s.args.bed.bobbins ≡ 17 = search rules in
-    (omega (arith, long, s.pre.1), fits_once s.args.places (length s.args.area.now) s.pre.0 s.pre.2)
+    (omega (arith, long, s.requires.1), fits_once s.args.places (length s.args.area.now) s.requires.0 s.requires.2)
 
-mul-write-totals : tie.Need-overflow-mul-write-totals
-mul-write-totals c =
-    let s = start (after-bobbins c.before.before) in
-    omega (arith, pairs_product s.args.places s.pre.0, pairs_few s.args.places s.pre.1)
+overflow_mul-places : tie.Need-overflow_mul-places
+overflow_mul-places c =
+    let s = start (after_bobbins c.before.before) in
+    omega (arith, pairs_product s.args.places s.requires.0, pairs_few s.args.places s.requires.1)
 
-write-totals-requires : tie.Need-write-totals-requires
-write-totals-requires c κs =
-    let s = start (after-bobbins c.before.before.before) in
-    let k = c.before.before.before.copy-bytes in (
-      omega (arith, pairs_product s.args.places s.pre.0, pairs_few s.args.places s.pre.1),
-      omega (arith, pairs_product s.args.places s.pre.0, pairs_square s.args.places, s.pre.2, k.ensures.0),
+write_totals-requires : tie.Need-write_totals-requires
+write_totals-requires c κs =
+    let s = start (after_bobbins c.before.before.before) in
+    let k = c.copy_bytes in (
+      omega (arith, pairs_product s.args.places s.requires.0, pairs_few s.args.places s.requires.1),
+      omega (arith, pairs_product s.args.places s.requires.0, pairs_square s.args.places, s.requires.2, k.ensures.0),
     )
 
-same_length : tie.Need-same-length
-same_length c = c.before.before.write-totals.auto.1.1.0 ∙ (after-copy-bytes c.before.before).copy-bytes.auto.1.1.0
+shape_of-area : tie.Need-shape_of-area
+shape_of-area c = c.write_totals.auto.area ∙ c.copy_bytes.auto.area
 
 returns : tie.Need-returns
 returns c =
-    let j = after-copy-bytes c.before.before in
-    let w = c.before.before.write-totals in
-    let k = j.copy-bytes in
-    let s = start (after-bobbins j) in (
+    let j = after_copy_bytes c.before.before in
+    let w = c.write_totals in
+    let k = j.copy_bytes in
+    let s = start (after_bobbins j) in (
       w.ensures.0 ∙ k.ensures.0,
       λ B h n m.
           w.ensures.1
-          ∙ bed_written s.args.bed s.args.places (s.args.places * (s.args.places - 1) / 2) s.args.area.now k.last.1.1.0 k.ensures.1
-          (omega (arith, pairs_product s.args.places s.pre.0, pairs_many s.args.places)) B h n m,
+          ∙ bed_written s.args.bed s.args.places (s.args.places * (s.args.places - 1) / 2) s.args.area.now k.new.area k.ensures.1
+          (omega (arith, pairs_product s.args.places s.requires.0, pairs_many s.args.places)) B h n m,
     )
 
-pub write-bed-spec : {M : Type 1} → statement M
-write-bed-spec = tie.close (tie.spec (λ c. search rules) copy-bytes-requires (λ c. search rules) mul-write-totals write-totals-requires same_length returns)
+pub write_bed_spec : {M : Type 1} → statement M
+write_bed_spec = tie.close (tie.spec (λ c. search rules) copy_bytes-requires (λ c. search rules) overflow_mul-places write_totals-requires shape_of-area
+    returns)

@@ -15,15 +15,15 @@ use Rattle.bed.proofs.TwoBytes.{total_written}
 use Rattle.bed.proofs.writing.write_totals.Statement.{statement}
 use Rattle.bed.proofs.writing.write_totals.Tie as tie
 
-abbrev invariant-loop : tie.invariant-loop
-invariant-loop count area₀ at totals k₀ area k =
+abbrev invariant-loop-k : tie.invariant-loop-k
+invariant-loop-k count area₀ at totals k₀ area k =
     (k ≤ count) × (length area ≡ length area₀) × (area ≡ written area₀ at (concat_map total_bytes (take k totals)))
 
-abbrev decreases-loop : tie.decreases-loop
-decreases-loop count area₀ at totals k₀ area k = count - k
+abbrev decreases-loop-k : tie.decreases-loop-k
+decreases-loop-k count area₀ at totals k₀ area k = count - k
 
-loop-holds : tie.Need-loop-init invariant-loop decreases-loop
-loop-holds c =
+loop-k-init : tie.Need-loop-k-init invariant-loop-k decreases-loop-k
+loop-k-init c =
     let s = c.before.before in
     let area = s.args.area.now in (
       omega arith,
@@ -32,36 +32,37 @@ loop-holds c =
           (omega arith),
     )
 
-slice-write-area-2 : tie.Need-slice-write-area-2 invariant-loop decreases-loop
-slice-write-area-2 c = simp length-set (omega arith)
+bounds-area-at-in-loop-k : tie.Need-bounds-area-at-in-loop-k invariant-loop-k decreases-loop-k
+bounds-area-at-in-loop-k c = simp length-set (omega arith)
 
-loop-again : tie.Need-loop-preserved invariant-loop decreases-loop
-loop-again c =
+loop-k-preserved : tie.Need-loop-k-preserved invariant-loop-k decreases-loop-k
+loop-k-preserved c =
     let l = c.before.before.before in
     let s = l.before.before.before in
     let long : length s.args.bed.totals ≡ 136 = search rules in (
       omega arith,
-      simp length-set l.loop.invariant.1,
-      total_written s.args.area.now s.args.at l.loop.k s.args.bed.totals (omega (arith, long, c.before.before.loop-test.true, s.requires.0))
-          (omega (arith, c.before.before.loop-test.true, s.requires.1)) l.loop.area _ _ l.loop.invariant.2
+      simp length-set l.loop-k.invariant.1,
+      total_written s.args.area.now s.args.at l.loop-k.k s.args.bed.totals (omega (arith, long, c.loop-k-test.true, s.requires.0))
+          (omega (arith, c.loop-k-test.true, s.requires.1)) l.loop-k.area _ _ l.loop-k.invariant.2
           (ap (λ x. (x / 256) ∷ (x % 256) ∷ [])
-          (c.sixteen-bits.ensures ∙ ap sixteen_bits (to_z-of_z w16 (get_or s.args.bed.totals l.loop.k (pos 0)) (search rules)))),
+          (c.sixteen_bits-bits.ensures ∙ ap sixteen_bits (to_z-of_z w16 (get_or s.args.bed.totals l.loop-k.k (pos 0)) (search rules)))),
     )
 
-same_length : tie.Need-same-length invariant-loop decreases-loop
-same_length c = c.before.loop.invariant.1
+shape_of-area : tie.Need-shape_of-area invariant-loop-k decreases-loop-k
+shape_of-area c = c.loop-k.invariant.1
 
-returns : tie.Need-returns invariant-loop decreases-loop
+returns : tie.Need-returns invariant-loop-k decreases-loop-k
 returns c =
     let l = c.before in
     let s = l.before.before.before in (
-      l.loop.invariant.1,
-      l.loop.invariant.2 ∙ ap (λ k. written s.args.area.now s.args.at (concat_map total_bytes (take k s.args.bed.totals))) {x = l.loop.k}
-          {y = s.args.count} (omega (arith, l.loop.invariant.0, c.loop-test.false)),
+      l.loop-k.invariant.1,
+      l.loop-k.invariant.2 ∙ ap (λ k. written s.args.area.now s.args.at (concat_map total_bytes (take k s.args.bed.totals))) {x = l.loop-k.k}
+          {y = s.args.count} (omega (arith, l.loop-k.invariant.0, c.loop-k-test.false)),
     )
 
-pub write-totals-spec : {M : Type 1} → statement M
-write-totals-spec =
-    tie.close (tie.spec invariant-loop decreases-loop loop-holds (λ c. search rules) (λ c. search rules) (λ c κs. search rules) (λ c. search rules) (λ c. search rules)
-    (λ c. search rules) (λ c. search rules) (λ c. search rules) (λ c. search rules) (λ c. search rules) (λ c. search rules) slice-write-area-2
-    (λ c. search rules) (λ c. search rules) loop-again same_length returns)
+pub write_totals_spec : {M : Type 1} → statement M
+write_totals_spec =
+    tie.close (tie.spec invariant-loop-k decreases-loop-k loop-k-init (λ c. search rules) (λ c. search rules) (λ c κs. search rules) (λ c. search rules)
+    (λ c. search rules)
+    (λ c. search rules) (λ c. search rules) (λ c. search rules) (λ c. search rules) (λ c. search rules) (λ c. search rules) bounds-area-at-in-loop-k
+    (λ c. search rules) (λ c. search rules) loop-k-preserved shape_of-area returns)

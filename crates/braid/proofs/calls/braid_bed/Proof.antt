@@ -6,15 +6,12 @@ use borrow.Author.Rules.{rules}
 use Rattle.braid.proofs.calls.braid_bed.Statement.{statement}
 use Rattle.braid.proofs.calls.braid_bed.Tie as tie
 
-abbrev after-slice-known2 : tie.After-of-packed → tie.After-slice-known2
-after-slice-known2 c = c.before
-
 returns : tie.Need-returns
 returns c =
-    let z = (after-slice-known2 c.before.before).before.before.bed in
-    meant bytes_told (packed_as z.result) c.before.before.of-packed.ensures c.tell.ensures z.ensures
+    let z = c.bed-shown in
+    meant bytes_told (packed_as z.result) c.of_packed.ensures c.tell.ensures z.ensures
 
-pub braid-bed-spec : {M : Type 1} → statement M
-braid-bed-spec =
+pub braid_bed_spec : {M : Type 1} → statement M
+braid_bed_spec =
     tie.close (tie.spec (λ c κs. search rules) (λ c κs. search rules) (λ c κs. search rules)
-    (λ c. (after-slice-known2 c.before.before).before.before.bed.auto.1.1.1.0) returns)
+    (λ c. c.bed-shown.auto.answer) returns)

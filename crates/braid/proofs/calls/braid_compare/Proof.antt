@@ -6,15 +6,12 @@ use borrow.Author.Rules.{rules}
 use Rattle.braid.proofs.calls.braid_compare.Statement.{statement}
 use Rattle.braid.proofs.calls.braid_compare.Tie as tie
 
-abbrev after-slice-known2 : tie.After-of-compared → tie.After-slice-known2
-after-slice-known2 c = c.before
-
 returns : tie.Need-returns
 returns c =
-    let z = (after-slice-known2 c.before.before).before.before.compare in
-    meant verdict_told (compared z.result) c.before.before.of-compared.ensures c.tell.ensures z.ensures
+    let z = c.compare-compared in
+    meant verdict_told (compared z.result) c.of_compared.ensures c.tell.ensures z.ensures
 
-pub braid-compare-spec : {M : Type 1} → statement M
-braid-compare-spec =
+pub braid_compare_spec : {M : Type 1} → statement M
+braid_compare_spec =
     tie.close (tie.spec (λ c κs. search rules) (λ c κs. search rules) (λ c κs. search rules)
-    (λ c. (after-slice-known2 c.before.before).before.before.compare.auto.1.1.1.1.0) returns)
+    (λ c. c.compare-compared.auto.workspace) returns)

@@ -6,15 +6,12 @@ use borrow.Author.Rules.{rules}
 use Rattle.braid.proofs.calls.braid_mirror_clear.Statement.{statement}
 use Rattle.braid.proofs.calls.braid_mirror_clear.Tie as tie
 
-abbrev after-slice-known2 : tie.After-of-cleared → tie.After-slice-known2
-after-slice-known2 c = c.before
-
 returns : tie.Need-returns
 returns c =
-    let z = (after-slice-known2 c.before.before).before.before.mirror-clear in
-    meant passed_told (cleared_as z.result) c.before.before.of-cleared.ensures c.tell.ensures z.ensures
+    let z = c.mirror_clear-cleared in
+    meant passed_told (cleared_as z.result) c.of_cleared.ensures c.tell.ensures z.ensures
 
-pub braid-mirror-clear-spec : {M : Type 1} → statement M
-braid-mirror-clear-spec =
+pub braid_mirror_clear_spec : {M : Type 1} → statement M
+braid_mirror_clear_spec =
     tie.close (tie.spec (λ c κs. search rules) (λ c κs. search rules) (λ c κs. search rules)
-    (λ c. (after-slice-known2 c.before.before).before.before.mirror-clear.auto.1.1.0) returns)
+    (λ c. c.mirror_clear-cleared.auto.workspace) returns)

@@ -6,15 +6,12 @@ use borrow.Author.Rules.{rules}
 use Rattle.braid.proofs.calls.braid_reverse.Statement.{statement}
 use Rattle.braid.proofs.calls.braid_reverse.Tie as tie
 
-abbrev after-reverse : tie.After-of-reversed → tie.After-reverse
-after-reverse c = c.before.before.before.before.before
-
 returns : tie.Need-returns
 returns c =
-    let z = (after-reverse c.before.before).reverse in
-    meant sizes_told (reversed z.result) c.before.before.of-reversed.ensures c.tell.ensures z.ensures
+    let z = c.reverse-reversed in
+    meant sizes_told (reversed z.result) c.of_reversed.ensures c.tell.ensures z.ensures
 
-pub braid-reverse-spec : {M : Type 1} → statement M
-braid-reverse-spec =
+pub braid_reverse_spec : {M : Type 1} → statement M
+braid_reverse_spec =
     tie.close (tie.spec (λ c κs. search rules) (λ c κs. search rules) (λ c κs. search rules)
-    (λ c. (after-reverse c.before.before).reverse.auto.1.1.1.0) (λ c. (after-reverse c.before.before).reverse.auto.1.1.1.1.0) returns)
+    (λ c. c.reverse-reversed.auto.workspace) (λ c. c.reverse-reversed.auto.answer) returns)

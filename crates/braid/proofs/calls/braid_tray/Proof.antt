@@ -6,15 +6,12 @@ use borrow.Author.Rules.{rules}
 use Rattle.braid.proofs.calls.braid_tray.Statement.{statement}
 use Rattle.braid.proofs.calls.braid_tray.Tie as tie
 
-abbrev after-tray : tie.After-of-tray-compared → tie.After-tray
-after-tray c = c.before.before.before.before.before
-
 returns : tie.Need-returns
 returns c =
-    let z = (after-tray c.before.before).tray in
-    meant logs_told (tray_compared z.result) c.before.before.of-tray-compared.ensures c.tell.ensures z.ensures
+    let z = c.tray-compared in
+    meant logs_told (tray_compared z.result) c.of_tray_compared.ensures c.tell.ensures z.ensures
 
-pub braid-tray-spec : {M : Type 1} → statement M
-braid-tray-spec =
-    tie.close (tie.spec (λ c κs. search rules) (λ c κs. search rules) (λ c κs. search rules) (λ c. (after-tray c.before.before).tray.auto.1.1.1.1.0)
-    (λ c. (after-tray c.before.before).tray.auto.1.1.1.1.1.0) returns)
+pub braid_tray_spec : {M : Type 1} → statement M
+braid_tray_spec =
+    tie.close (tie.spec (λ c κs. search rules) (λ c κs. search rules) (λ c κs. search rules) (λ c. c.tray-compared.auto.workspace)
+    (λ c. c.tray-compared.auto.answer) returns)

@@ -6,15 +6,12 @@ use borrow.Author.Rules.{rules}
 use Rattle.braid.proofs.calls.braid_unpack_table.Statement.{statement}
 use Rattle.braid.proofs.calls.braid_unpack_table.Tie as tie
 
-abbrev after-slice-known2 : tie.After-of-packed → tie.After-slice-known2
-after-slice-known2 c = c.before
-
 returns : tie.Need-returns
 returns c =
-    let z = (after-slice-known2 c.before.before).before.before.unpack in
-    meant bytes_told (packed_as z.result) c.before.before.of-packed.ensures c.tell.ensures z.ensures
+    let z = c.unpack-unpacked in
+    meant bytes_told (packed_as z.result) c.of_packed.ensures c.tell.ensures z.ensures
 
-pub braid-unpack-table-spec : {M : Type 1} → statement M
-braid-unpack-table-spec =
+pub braid_unpack_table_spec : {M : Type 1} → statement M
+braid_unpack_table_spec =
     tie.close (tie.spec (λ c κs. search rules) (λ c κs. search rules) (λ c κs. search rules)
-    (λ c. (after-slice-known2 c.before.before).before.before.unpack.auto.1.0) returns)
+    (λ c. c.unpack-unpacked.auto.answer) returns)

@@ -6,16 +6,16 @@ use borrow.Author.Rules.{rules}
 use Rattle.braid.proofs.numbers.of_chained.Statement.{statement}
 use Rattle.braid.proofs.numbers.of_chained.Tie as tie
 
-returns : tie.Need-returns
-returns c = c.of-refusal.ensures ∙ sym (ap (λ a. told chain_told (chained a)) c.before.before.answer.given.1)
+returns-in-Refused : tie.Need-returns-in-Refused
+returns-in-Refused c = c.of_refusal.ensures ∙ sym (ap (λ a. told chain_told (chained a)) c.in-Refused.is)
 
-returns-2 : tie.Need-returns-2
-returns-2 c = sym (ap (λ a. told chain_told (chained a)) c.before.answer2.given.1)
+returns-in-Listed : tie.Need-returns-in-Listed
+returns-in-Listed c = sym (ap (λ a. told chain_told (chained a)) c.in-Listed.is)
 
-returns-3 : tie.Need-returns-3
-returns-3 c = c.counted.ensures ∙ sym (ap (λ a. told chain_told (chained a)) c.before.before.answer3.given.1)
+returns-in-Unlisted : tie.Need-returns-in-Unlisted
+returns-in-Unlisted c = c.counted.ensures ∙ sym (ap (λ a. told chain_told (chained a)) c.in-Unlisted.is)
 
-pub of-chained-spec : {M : Type 1} → statement M
-of-chained-spec =
+pub of_chained_spec : {M : Type 1} → statement M
+of_chained_spec =
     tie.close (tie.spec (λ c. search rules) (λ c κs. search rules) (λ c. search rules) (λ c. search rules) (λ c. search rules) (λ c. search rules)
-    (λ c. search rules) (λ c κs. search rules) returns returns-2 returns-3)
+    (λ c. search rules) (λ c κs. search rules) returns-in-Refused returns-in-Listed returns-in-Unlisted)

@@ -6,19 +6,19 @@ use borrow.Author.Rules.{rules}
 use Rattle.braid.proofs.numbers.of_checked.Statement.{statement}
 use Rattle.braid.proofs.numbers.of_checked.Tie as tie
 
-returns : tie.Need-returns
-returns c = c.of-refusal.ensures ∙ sym (ap (λ a. told passage_told (checked a)) c.before.before.answer.given.1)
+returns-in-Refused : tie.Need-returns-in-Refused
+returns-in-Refused c = c.of_refusal.ensures ∙ sym (ap (λ a. told passage_told (checked a)) c.in-Refused.is)
 
-returns-2 : tie.Need-returns-2
-returns-2 c = c.counted.ensures ∙ sym (ap (λ a. told passage_told (checked a)) c.before.enum_told.given.1)
+returns-in-Joins : tie.Need-returns-in-Joins
+returns-in-Joins c = c.counted.ensures ∙ sym (ap (λ a. told passage_told (checked a)) c.in-Joins.is)
 
-returns-3 : tie.Need-returns-3
-returns-3 c = c.counted2.ensures ∙ sym (ap (λ a. told passage_told (checked a)) c.before.before.answer2.given.1)
+returns-in-Breaks : tie.Need-returns-in-Breaks
+returns-in-Breaks c = c.counted-in-Breaks.ensures ∙ sym (ap (λ a. told passage_told (checked a)) c.in-Breaks.is)
 
-returns-4 : tie.Need-returns-4
-returns-4 c = c.counted3.ensures ∙ sym (ap (λ a. told passage_told (checked a)) c.before.enum-told2.given.1)
+returns-in-EndsElsewhere : tie.Need-returns-in-EndsElsewhere
+returns-in-EndsElsewhere c = c.counted-in-EndsElsewhere.ensures ∙ sym (ap (λ a. told passage_told (checked a)) c.in-EndsElsewhere.is)
 
-pub of-checked-spec : {M : Type 1} → statement M
-of-checked-spec =
+pub of_checked_spec : {M : Type 1} → statement M
+of_checked_spec =
     tie.close (tie.spec (λ c. search rules) (λ c κs. search rules) (λ c. search rules) (λ c κs. search rules) (λ c. search rules) (λ c κs. search rules)
-    (λ c. search rules) (λ c κs. search rules) returns returns-2 returns-3 returns-4)
+    (λ c. search rules) (λ c κs. search rules) returns-in-Refused returns-in-Joins returns-in-Breaks returns-in-EndsElsewhere)

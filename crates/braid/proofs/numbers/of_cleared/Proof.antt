@@ -6,11 +6,12 @@ use borrow.Author.Rules.{rules}
 use Rattle.braid.proofs.numbers.of_cleared.Statement.{statement}
 use Rattle.braid.proofs.numbers.of_cleared.Tie as tie
 
-returns : tie.Need-returns
-returns c = c.of-refusal.ensures ∙ sym (ap (λ a. told passed_told (cleared_as a)) c.before.before.answer.given.1)
+returns-in-Refused : tie.Need-returns-in-Refused
+returns-in-Refused c = c.of_refusal.ensures ∙ sym (ap (λ a. told passed_told (cleared_as a)) c.in-Refused.is)
 
-returns-2 : tie.Need-returns-2
-returns-2 c = c.alone.ensures ∙ sym (ap (λ a. told passed_told (cleared_as a)) c.before.enum_told.given.1)
+returns-in-Passed : tie.Need-returns-in-Passed
+returns-in-Passed c = c.alone.ensures ∙ sym (ap (λ a. told passed_told (cleared_as a)) c.in-Passed.is)
 
-pub of-cleared-spec : {M : Type 1} → statement M
-of-cleared-spec = tie.close (tie.spec (λ c. search rules) (λ c κs. search rules) (λ c. search rules) (λ c κs. search rules) returns returns-2)
+pub of_cleared_spec : {M : Type 1} → statement M
+of_cleared_spec = tie.close (tie.spec (λ c. search rules) (λ c κs. search rules) (λ c. search rules) (λ c κs. search rules) returns-in-Refused
+    returns-in-Passed)

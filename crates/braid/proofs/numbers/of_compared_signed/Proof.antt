@@ -6,16 +6,16 @@ use borrow.Author.Rules.{rules}
 use Rattle.braid.proofs.numbers.of_compared_signed.Statement.{statement}
 use Rattle.braid.proofs.numbers.of_compared_signed.Tie as tie
 
-returns : tie.Need-returns
-returns c = c.of-refusal.ensures ∙ sym (ap (λ a. told signed_told (compared_signed a)) c.before.before.answer.given.1)
+returns-in-Refused : tie.Need-returns-in-Refused
+returns-in-Refused c = c.of_refusal.ensures ∙ sym (ap (λ a. told signed_told (compared_signed a)) c.in-Refused.is)
 
-returns-2 : tie.Need-returns-2
-returns-2 c = c.counted-twice.ensures ∙ sym (ap (λ a. told signed_told (compared_signed a)) c.before.before.answer2.given.1)
+returns-in-Same : tie.Need-returns-in-Same
+returns-in-Same c = c.counted_twice.ensures ∙ sym (ap (λ a. told signed_told (compared_signed a)) c.in-Same.is)
 
-returns-3 : tie.Need-returns-3
-returns-3 c = c.counted-twice2.ensures ∙ sym (ap (λ a. told signed_told (compared_signed a)) c.before.before.answer3.given.1)
+returns-in-Different : tie.Need-returns-in-Different
+returns-in-Different c = c.counted_twice-in-Different.ensures ∙ sym (ap (λ a. told signed_told (compared_signed a)) c.in-Different.is)
 
-pub of-compared-signed-spec : {M : Type 1} → statement M
-of-compared-signed-spec =
+pub of_compared_signed_spec : {M : Type 1} → statement M
+of_compared_signed_spec =
     tie.close (tie.spec (λ c. search rules) (λ c κs. search rules) (λ c. search rules) (λ c. search rules) (λ c. search rules) (λ c κs. search rules)
-    (λ c. search rules) (λ c. search rules) (λ c. search rules) (λ c κs. search rules) returns returns-2 returns-3)
+    (λ c. search rules) (λ c. search rules) (λ c. search rules) (λ c κs. search rules) returns-in-Refused returns-in-Same returns-in-Different)

@@ -6,11 +6,12 @@ use borrow.Author.Rules.{rules}
 use Rattle.braid.proofs.numbers.of_packed.Statement.{statement}
 use Rattle.braid.proofs.numbers.of_packed.Tie as tie
 
-returns : tie.Need-returns
-returns c = c.of-refusal.ensures ∙ sym (ap (λ a. told bytes_told (packed_as a)) c.before.before.answer.given.1)
+returns-in-Refused : tie.Need-returns-in-Refused
+returns-in-Refused c = c.of_refusal.ensures ∙ sym (ap (λ a. told bytes_told (packed_as a)) c.in-Refused.is)
 
-returns-2 : tie.Need-returns-2
-returns-2 c = c.counted.ensures ∙ sym (ap (λ a. told bytes_told (packed_as a)) c.before.before.answer2.given.1)
+returns-in-Written : tie.Need-returns-in-Written
+returns-in-Written c = c.counted.ensures ∙ sym (ap (λ a. told bytes_told (packed_as a)) c.in-Written.is)
 
-pub of-packed-spec : {M : Type 1} → statement M
-of-packed-spec = tie.close (tie.spec (λ c. search rules) (λ c κs. search rules) (λ c. search rules) (λ c κs. search rules) returns returns-2)
+pub of_packed_spec : {M : Type 1} → statement M
+of_packed_spec = tie.close (tie.spec (λ c. search rules) (λ c κs. search rules) (λ c. search rules) (λ c κs. search rules) returns-in-Refused
+    returns-in-Written)

@@ -6,7 +6,7 @@ use Rattle.braid.proofs.numbers.of_refusal.Statement.{statement}
 use Rattle.braid.proofs.numbers.of_refusal.Tie as tie
 
 -- the call, the casts of what the place is and of its numbers, and the result
-pub of-refusal-spec : {M : Type 1} → statement M
-of-refusal-spec =
+pub of_refusal_spec : {M : Type 1} → statement M
+of_refusal_spec =
     tie.close (tie.spec (λ c κs. search rules) (λ c. search rules) (λ c. search rules) (λ c. search rules) (λ c. search rules)
-    (λ c. let k = c.before.before in ap refused_told k.before.before.refusal-numbers.ensures.told))
+    (λ c. let k = c.before.before in ap refused_told k.refusal_numbers-told.ensures.told))

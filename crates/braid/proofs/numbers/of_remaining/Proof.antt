@@ -6,19 +6,20 @@ use borrow.Author.Rules.{rules}
 use Rattle.braid.proofs.numbers.of_remaining.Statement.{statement}
 use Rattle.braid.proofs.numbers.of_remaining.Tie as tie
 
-returns : tie.Need-returns
-returns c =
-    c.of-refusal.ensures ∙ sym (ap (λ a. told remainder_told (remaining a)) c.before.before.answer.given.1)
+returns-in-Refused : tie.Need-returns-in-Refused
+returns-in-Refused c =
+    c.of_refusal.ensures ∙ sym (ap (λ a. told remainder_told (remaining a)) c.in-Refused.is)
 
-returns-2 : tie.Need-returns-2
-returns-2 c =
-    sym (ap (λ a. told remainder_told (remaining a)) c.before.answer2.given.1)
+returns-in-Moves : tie.Need-returns-in-Moves
+returns-in-Moves c =
+    sym (ap (λ a. told remainder_told (remaining a)) c.in-Moves.is)
 
-returns-3 : tie.Need-returns-3
-returns-3 c =
-    sym (ap (λ a. told remainder_told (remaining a)) c.before.answer3.given.1)
+returns-in-Nothing : tie.Need-returns-in-Nothing
+returns-in-Nothing c =
+    sym (ap (λ a. told remainder_told (remaining a)) c.in-Nothing.is)
 
-pub of-remaining-spec : {M : Type 1} → statement M
-of-remaining-spec =
-    tie.close (tie.spec (λ c. search rules) (λ c κs. search rules) (λ c. search rules) (λ c. search rules) (λ c. search rules) (λ c. search rules) returns
-    returns-2 returns-3)
+pub of_remaining_spec : {M : Type 1} → statement M
+of_remaining_spec =
+    tie.close (tie.spec (λ c. search rules) (λ c κs. search rules) (λ c. search rules) (λ c. search rules) (λ c. search rules) (λ c. search rules)
+    returns-in-Refused
+    returns-in-Moves returns-in-Nothing)

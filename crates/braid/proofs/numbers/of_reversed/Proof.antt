@@ -6,11 +6,11 @@ use borrow.Author.Rules.{rules}
 use Rattle.braid.proofs.numbers.of_reversed.Statement.{statement}
 use Rattle.braid.proofs.numbers.of_reversed.Tie as tie
 
-returns : tie.Need-returns
-returns c = c.of-refusal.ensures ∙ sym (ap (λ a. told sizes_told (reversed a)) c.before.before.answer.given.1)
+returns-in-Refused : tie.Need-returns-in-Refused
+returns-in-Refused c = c.of_refusal.ensures ∙ sym (ap (λ a. told sizes_told (reversed a)) c.in-Refused.is)
 
-returns-2 : tie.Need-returns-2
-returns-2 c = sym (ap (λ a. told sizes_told (reversed a)) c.before.answer2.given.1)
+returns-in-Answer : tie.Need-returns-in-Answer
+returns-in-Answer c = sym (ap (λ a. told sizes_told (reversed a)) c.in-Answer.is)
 
-pub of-reversed-spec : {M : Type 1} → statement M
-of-reversed-spec = tie.close (tie.spec (λ c. search rules) (λ c κs. search rules) (λ c. search rules) (λ c. search rules) returns returns-2)
+pub of_reversed_spec : {M : Type 1} → statement M
+of_reversed_spec = tie.close (tie.spec (λ c. search rules) (λ c κs. search rules) (λ c. search rules) (λ c. search rules) returns-in-Refused returns-in-Answer)

@@ -6,12 +6,13 @@ use borrow.Author.Rules.{rules}
 use Rattle.braid.proofs.numbers.of_tray_compared.Statement.{statement}
 use Rattle.braid.proofs.numbers.of_tray_compared.Tie as tie
 
-returns : tie.Need-returns
-returns c = c.of-refusal.ensures ∙ sym (ap (λ a. told logs_told (tray_compared a)) c.before.before.answer.given.1)
+returns-in-Refused : tie.Need-returns-in-Refused
+returns-in-Refused c = c.of_refusal.ensures ∙ sym (ap (λ a. told logs_told (tray_compared a)) c.in-Refused.is)
 
-returns-2 : tie.Need-returns-2
-returns-2 c = c.counted.ensures ∙ sym (ap (λ a. told logs_told (tray_compared a)) c.before.before.answer2.given.1)
+returns-in-Answered : tie.Need-returns-in-Answered
+returns-in-Answered c = c.counted.ensures ∙ sym (ap (λ a. told logs_told (tray_compared a)) c.in-Answered.is)
 
-pub of-tray-compared-spec : {M : Type 1} → statement M
-of-tray-compared-spec =
-    tie.close (tie.spec (λ c. search rules) (λ c κs. search rules) (λ c. search rules) (λ c. search rules) (λ c κs. search rules) returns returns-2)
+pub of_tray_compared_spec : {M : Type 1} → statement M
+of_tray_compared_spec =
+    tie.close (tie.spec (λ c. search rules) (λ c κs. search rules) (λ c. search rules) (λ c. search rules) (λ c κs. search rules) returns-in-Refused
+    returns-in-Answered)

@@ -6,11 +6,11 @@ use borrow.Author.Rules.{rules}
 use Rattle.braid.proofs.numbers.of_ways.Statement.{statement}
 use Rattle.braid.proofs.numbers.of_ways.Tie as tie
 
-returns : tie.Need-returns
-returns c = c.of-refusal.ensures ∙ sym (ap (λ a. told counts_told (listed_as a)) c.before.before.answer.given.1)
+returns-in-Refused : tie.Need-returns-in-Refused
+returns-in-Refused c = c.of_refusal.ensures ∙ sym (ap (λ a. told counts_told (listed_as a)) c.in-Refused.is)
 
-returns-2 : tie.Need-returns-2
-returns-2 c = c.counted.ensures ∙ sym (ap (λ a. told counts_told (listed_as a)) c.before.before.answer2.given.1)
+returns-in-Listed : tie.Need-returns-in-Listed
+returns-in-Listed c = c.counted.ensures ∙ sym (ap (λ a. told counts_told (listed_as a)) c.in-Listed.is)
 
-pub of-ways-spec : {M : Type 1} → statement M
-of-ways-spec = tie.close (tie.spec (λ c. search rules) (λ c κs. search rules) (λ c. search rules) (λ c κs. search rules) returns returns-2)
+pub of_ways_spec : {M : Type 1} → statement M
+of_ways_spec = tie.close (tie.spec (λ c. search rules) (λ c κs. search rules) (λ c. search rules) (λ c κs. search rules) returns-in-Refused returns-in-Listed)

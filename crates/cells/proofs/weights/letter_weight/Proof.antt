@@ -8,17 +8,17 @@ use borrow.Author.Rules.{rules}
 use Rattle.cells.proofs.weights.letter_weight.Statement.{statement}
 use Rattle.cells.proofs.weights.letter_weight.Tie as tie
 
-cast-result : tie.Need-overflow-cast-result
-cast-result c =
-    omega (arith, c.before.before.shared-slice-known.given c.before.weight-at.result)
+overflow_cast-result : tie.Need-overflow_cast-result
+overflow_cast-result c =
+    omega (arith, c.shared_slice_known-1.given c.weight_at-place.result)
 
-add-result : tie.Need-overflow-add-result
-add-result c =
-    omega (arith, c.before.before.shared-slice-known.given c.before.weight-at.result)
+overflow_add-result : tie.Need-overflow_add-result
+overflow_add-result c =
+    omega (arith, c.shared_slice_known-1.given c.weight_at-place.result)
 
 returns : tie.Need-returns
 returns c =
-    ap (λ i. get_or c.before.before.before.args.cells.now i 0 + 1) c.before.weight-at.ensures ∙ add-one _
+    ap (λ i. get_or c.args.cells.now i 0 + 1) c.weight_at-place.ensures ∙ add-one _
 
-pub letter-weight-spec : {M : Type 1} → statement M
-letter-weight-spec = tie.close (tie.spec (λ c κs. search rules) (λ c. search rules) cast-result add-result returns)
+pub letter_weight_spec : {M : Type 1} → statement M
+letter_weight_spec = tie.close (tie.spec (λ c κs. search rules) (λ c. search rules) overflow_cast-result overflow_add-result returns)

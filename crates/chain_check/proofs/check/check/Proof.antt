@@ -11,54 +11,54 @@ use borrow.Author.Rules.{rules}
 use Rattle.chain_check.proofs.check.check.Statement.{statement}
 use Rattle.chain_check.proofs.check.check.Tie as tie
 
-abbrev start : tie.After-cells2 → tie.Start
+abbrev start : tie.After-cells-2-1 → tie.Start
 start c = c.before.before.before.before.before.before.before.before
 
-abbrev after-cells2 : tie.At-match-keys1 → tie.After-cells2
-after-cells2 c = c.before
+abbrev after_cells2 : tie.In-Refused → tie.After-cells-2-1
+after_cells2 c = c.before
 
-abbrev after-cells2-from-after-read2 : tie.After-read2 → tie.After-cells2
-after-cells2-from-after-read2 c = c.before.before
+abbrev after_cells2_from_after_read2 : tie.In-Programs → tie.After-cells-2-1
+after_cells2_from_after_read2 c = c.before
 
-abbrev after-read2 : tie.After-read-chain → tie.After-read2
-after-read2 c = c.before.before
+abbrev after_read2 : tie.After-read_chain-list → tie.In-Programs
+after_read2 c = c.before
 
-abbrev after-read-chain : tie.After-list2 → tie.After-read-chain
-after-read-chain c = c.before.before
+abbrev after_read_chain : tie.In-Chain → tie.After-read_chain-list
+after_read_chain c = c.before
 
-abbrev after-list2 : tie.After-check-programs-arg → tie.After-list2
-after-list2 c = c.before.before.before
+abbrev after_list2 : tie.After-check_programs-arg-1 → tie.In-Chain
+after_list2 c = c.before.before
 
-read-programs-requires : tie.Need-read-programs-requires
-read-programs-requires c κs = blank_zeros
+read_programs-read-requires : tie.Need-read_programs-read-requires
+read_programs-read-requires c κs = blank_zeros
 
-read-chain-requires : tie.Need-read-chain-requires
-read-chain-requires c κs =
-    let k = after-cells2-from-after-read2 c.before in
-    let a = (start k).args in
-    let v = k.before.read-programs in
-    let t = subst (ProgramsDone a.table.now a.first.now a.second.now ForwardAlone v.last.1.1.1.1.0) c.before.read2.given.1
+read_chain-list-requires : tie.Need-read_chain-list-requires
+read_chain-list-requires c κs =
+    let k = after_cells2_from_after_read2 c in
+    let a = k.args in
+    let v = k.read_programs-read in
+    let t = subst (ProgramsDone a.table.now a.first.now a.second.now ForwardAlone v.new.cells) c.in-Programs.is
     v.ensures in
     (t.forward.pair.some, t.forward.pair.few)
 
-check-programs-requires : tie.Need-check-programs-requires
-check-programs-requires c κs =
-    let k = after-read2 (after-read-chain (after-list2 c)) in
-    let a = (start (after-cells2-from-after-read2 k)).args in
-    let v = (after-cells2-from-after-read2 k).before.read-programs in
-    let t = subst (ProgramsDone a.table.now a.first.now a.second.now ForwardAlone v.last.1.1.1.1.0) k.read2.given.1 v.ensures in
-    let size = k.read2.given.0.0 in
-    let list = subst (ChainDone a.entries.now size) c.before.before.before.list2.given.1 (after-read-chain (after-list2 c)).read-chain.ensures in
+check_programs-requires : tie.Need-check_programs-requires
+check_programs-requires c κs =
+    let k = after_read2 (after_read_chain (after_list2 c)) in
+    let a = (start (after_cells2_from_after_read2 k)).args in
+    let v = k.read_programs-read in
+    let t = subst (ProgramsDone a.table.now a.first.now a.second.now ForwardAlone v.new.cells) k.in-Programs.is v.ensures in
+    let size = k.in-Programs.size in
+    let list = subst (ChainDone a.entries.now size) c.in-Chain.is (after_read_chain (after_list2 c)).read_chain-list.ensures in
     record { forward = t.forward; chain = list }
 
-returns : tie.Need-returns
-returns c =
-    let k = after-cells2 c.before.before in
-    let a = (start k).args in
-    let v = k.before.read-programs in
-    let e = subst (ProgramsDone a.table.now a.first.now a.second.now ForwardAlone v.last.1.1.1.1.0) c.before.read.given.1
+returns-in-Refused : tie.Need-returns-in-Refused
+returns-in-Refused c =
+    let k = after_cells2 c in
+    let a = k.args in
+    let v = k.read_programs-read in
+    let e = subst (ProgramsDone a.table.now a.first.now a.second.now ForwardAlone v.new.cells) c.in-Refused.is
     v.ensures in
-    let o = check_refused a.table.now a.first.now a.second.now a.entries.now (length a.workspace.now) c.before.read.given.0.0 e in
+    let o = check_refused a.table.now a.first.now a.second.now a.entries.now (length a.workspace.now) c.in-Refused.refusal e in
     record {
       stated = o.stated;
       workspace_is = o.workspace a.workspace.now;
@@ -66,17 +66,17 @@ returns c =
           check_says a.table.now a.first.now a.second.now a.entries.now (length a.workspace.now) _ o.stated;
     }
 
-returns-2 : tie.Need-returns-2
-returns-2 c =
-    let k = after-read2 c.before.before.before in
-    let a = (start (after-cells2-from-after-read2 k)).args in
-    let v = (after-cells2-from-after-read2 k).before.read-programs in
-    let t = subst (ProgramsDone a.table.now a.first.now a.second.now ForwardAlone v.last.1.1.1.1.0) k.read2.given.1 v.ensures in
+returns-in-Refused-list : tie.Need-returns-in-Refused-list
+returns-in-Refused-list c =
+    let k = after_read2 c.before in
+    let a = (start (after_cells2_from_after_read2 k)).args in
+    let v = k.read_programs-read in
+    let t = subst (ProgramsDone a.table.now a.first.now a.second.now ForwardAlone v.new.cells) k.in-Programs.is v.ensures in
     let f = t.forward in
-    let size = k.read2.given.0.0 in
-    let e = subst (ChainDone a.entries.now size) c.before.list.given.1 c.before.before.before.read-chain.ensures in
+    let size = k.in-Programs.size in
+    let e = subst (ChainDone a.entries.now size) c.in-Refused-list.is c.read_chain-list.ensures in
     let o = check_no_chain a.table.now a.first.now a.second.now a.entries.now (length a.workspace.now) f.table f.pair.one.word
-    f.pair.two.word t.reads size f.of.sized c.before.list.given.0.0 e in
+    f.pair.two.word t.reads size f.of.sized c.in-Refused-list.refusal e in
     record {
       stated = o.stated;
       workspace_is = o.workspace a.workspace.now;
@@ -84,17 +84,17 @@ returns-2 c =
           check_says a.table.now a.first.now a.second.now a.entries.now (length a.workspace.now) _ o.stated;
     }
 
-returns-3 : tie.Need-returns-3
-returns-3 c =
-    let k = after-read-chain (after-list2 c.before.before.before) in
-    let a = (start (after-cells2-from-after-read2 (after-read2 k))).args in
-    let v = (after-cells2-from-after-read2 (after-read2 k)).before.read-programs in
-    let t = subst (ProgramsDone a.table.now a.first.now a.second.now ForwardAlone v.last.1.1.1.1.0) (after-read2 k).read2.given.1
+returns-in-Chain : tie.Need-returns-in-Chain
+returns-in-Chain c =
+    let k = after_read_chain (after_list2 c.before.before.before) in
+    let a = (start (after_cells2_from_after_read2 (after_read2 k))).args in
+    let v = (after_cells2_from_after_read2 (after_read2 k)).read_programs-read in
+    let t = subst (ProgramsDone a.table.now a.first.now a.second.now ForwardAlone v.new.cells) k.in-Programs.is
     v.ensures in
     let f = t.forward in
-    let size = (after-read2 k).read2.given.0.0 in
-    let list = subst (ChainDone a.entries.now size) (after-list2 c.before.before.before).list2.given.1 k.read-chain.ensures in
-    let z = c.before.before.check-programs in
+    let size = k.in-Programs.size in
+    let list = subst (ChainDone a.entries.now size) c.in-Chain.is k.read_chain-list.ensures in
+    let z = c.check_programs in
     let o = check_runs a.table.now a.first.now a.second.now a.entries.now (length a.workspace.now) f.table f.pair.one.word
     f.pair.two.word t.reads size f.of.sized list.entries list.read in
     let e = z.ensures.passes f.table f.of f.pair.one.word f.pair.two.word f.pair.one.read f.pair.two.read list.entries
@@ -106,7 +106,7 @@ returns-3 c =
           check_says a.table.now a.first.now a.second.now a.entries.now (length a.workspace.now) _ e;
     }
 
-pub check-spec : {M : Type 1} → statement M
-check-spec =
-    tie.close (tie.spec (λ c. search rules) read-programs-requires (λ c. search rules) (λ c. search rules) read-chain-requires (λ c. search rules)
-    (λ c. search rules) (λ c. search rules) check-programs-requires returns returns-2 (λ c. search rules) returns-3)
+pub check_spec : {M : Type 1} → statement M
+check_spec =
+    tie.close (tie.spec (λ c. search rules) read_programs-read-requires (λ c. search rules) (λ c. search rules) read_chain-list-requires (λ c. search rules)
+    (λ c. search rules) (λ c. search rules) check_programs-requires returns-in-Refused returns-in-Refused-list (λ c. search rules) returns-in-Chain)

@@ -7,49 +7,49 @@ use borrow.Author.Rules.{rules}
 use Rattle.chain_listing.proofs.listing.list.Statement.{statement}
 use Rattle.chain_listing.proofs.listing.list.Tie as tie
 
-abbrev start : tie.After-answer → tie.Start
+abbrev start : tie.After-answer-1 → tie.Start
 start c = c.before.before.before.before.before.before
 
-abbrev after-answer : tie.After-slice-known3 → tie.After-answer
-after-answer c = c.before
+abbrev after_answer : tie.After-slice_known-3-1 → tie.After-answer-1
+after_answer c = c.before
 
-abbrev after-slice-known3 : tie.After-bytes → tie.After-slice-known3
-after-slice-known3 c = c.before.before.before.before
+abbrev after_slice_known3 : tie.After-bytes-1 → tie.After-slice_known-3-1
+after_slice_known3 c = c.before.before.before.before
 
-abbrev after-bytes : tie.After-answer2 → tie.After-bytes
-after-bytes c = c.before.before
+abbrev after_bytes : tie.After-answer-2-1 → tie.After-bytes-1
+after_bytes c = c.before.before
 
 walk-requires : tie.Need-walk-requires
 walk-requires c κs =
-    let k = after-answer c.before.before in
+    let k = after_answer c.before.before in
     let s = start k in
-    let small : s.args.relations < 65536 = omega (arith, s.fits.relations) in
-    (task s.pre.4 small s.args.answer.now refl, begun s.pre.4 small s.args.answer.now refl k.before.prepare.ensures)
+    let small : s.args.relations < 65536 = omega (arith, s.ranges.relations) in
+    (task s.requires.4 small s.args.answer.now refl, begun s.requires.4 small s.args.answer.now refl k.prepare.ensures)
 
-same_length : tie.Need-same-length
-same_length c = (after-bytes c.before).before.walk.auto.1.1.1.0
+shape_of-bytes : tie.Need-shape_of-bytes
+shape_of-bytes c = c.walk.auto.bytes
 
-same-length-2 : tie.Need-same-length-2
-same-length-2 c =
-    let k = after-bytes c.before in
-    k.before.walk.kept.1.1.1.1.1.0 ∙
-    (after-answer (after-slice-known3 k)).before.prepare.auto.0
+shape_of-answer : tie.Need-shape_of-answer
+shape_of-answer c =
+    let k = after_bytes c.before in
+    k.walk.auto.answer ∙
+    (after_answer (after_slice_known3 k)).prepare.auto.answer
 
 returns : tie.Need-returns
 returns c =
-    let k = after-answer (after-slice-known3 (after-bytes c.before)) in
+    let k = after_answer (after_slice_known3 (after_bytes c.before)) in
     let s = start k in
-    let small : s.args.relations < 65536 = omega (arith, s.fits.relations) in (
-      (after-bytes c.before).before.walk.ensures.0,
+    let small : s.args.relations < 65536 = omega (arith, s.ranges.relations) in (
+      c.walk.ensures.0,
       (
-        (after-bytes c.before).before.walk.auto.1.1.1.1.1.0 ∙ k.before.prepare.ensures.same_length,
+        c.walk.auto.answer ∙ k.prepare.ensures.same_length,
         λ T u v steps h.
-            chained h small s.args.answer.now refl (λ i. omega (arith, c.slice-known5.given i))
-            (λ i. omega (arith, k.before.before.before.slice-known2.given i))
-            ((after-bytes c.before).before.walk.ensures.1 (task h small s.args.answer.now refl)
-            (begun h small s.args.answer.now refl k.before.prepare.ensures)),
+            chained h small s.args.answer.now refl (λ i. omega (arith, c.slice_known-5-1.given i))
+            (λ i. omega (arith, k.slice_known-2-1.given i))
+            (c.walk.ensures.1 (task h small s.args.answer.now refl)
+            (begun h small s.args.answer.now refl k.prepare.ensures)),
       ),
     )
 
-pub list-spec : {M : Type 1} → statement M
-list-spec = tie.close (tie.spec (λ c κs. search rules) walk-requires same_length same-length-2 returns)
+pub list_spec : {M : Type 1} → statement M
+list_spec = tie.close (tie.spec (λ c κs. search rules) walk-requires shape_of-bytes shape_of-answer returns)

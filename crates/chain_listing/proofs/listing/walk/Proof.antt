@@ -6,81 +6,82 @@ use Rattle.chain_listing.proofs.Walking.{Walk, completed}
 use Rattle.chain_listing.proofs.listing.walk.Statement.{statement}
 use Rattle.chain_listing.proofs.listing.walk.Tie as tie
 
-abbrev invariant-loop : tie.invariant-loop
-invariant-loop cells size total bytes₀ answer₀ at₀ bytes answer at = Walk cells size total bytes₀ answer₀ at₀ bytes answer at
+abbrev invariant-loop-at : tie.invariant-loop-at
+invariant-loop-at cells size total bytes₀ answer₀ at₀ bytes answer at = Walk cells size total bytes₀ answer₀ at₀ bytes answer at
 
-abbrev decreases-loop : tie.decreases-loop
-decreases-loop cells size total bytes₀ answer₀ at₀ bytes answer at = ahead total at
+abbrev decreases-loop-at : tie.decreases-loop-at
+decreases-loop-at cells size total bytes₀ answer₀ at₀ bytes answer at = ahead total at
 
-abbrev start : tie.At-loop invariant-loop decreases-loop → tie.Start invariant-loop decreases-loop
+abbrev start : tie.At-loop-at invariant-loop-at decreases-loop-at → tie.Start invariant-loop-at decreases-loop-at
 start c = c.before.before.before.before
 
-abbrev turning : tie.After-turn-arg2 invariant-loop decreases-loop → tie.At-loop invariant-loop decreases-loop
+abbrev turning : tie.After-turn-arg-then-at-gt0-1 invariant-loop-at decreases-loop-at → tie.At-loop-at invariant-loop-at decreases-loop-at
 turning c = c.before.before.before.before
 
-abbrev turned : tie.After-slice-known4 invariant-loop decreases-loop → tie.After-turn invariant-loop decreases-loop
+abbrev turned : tie.After-slice_known-then-at-gt0-2-1 invariant-loop-at decreases-loop-at → tie.After-turn-at invariant-loop-at decreases-loop-at
 turned c = c.before.before.before.before
 
-abbrev at-loop : tie.After-struct-known2 invariant-loop decreases-loop → tie.At-loop invariant-loop decreases-loop
-at-loop c = c.before.before.before
+abbrev at_loop : tie.After-struct_known-else-at-gt0-1 invariant-loop-at decreases-loop-at → tie.At-loop-at invariant-loop-at decreases-loop-at
+at_loop c = c.before.before.before
 
-abbrev letter-left : tie.After-take-letter-arg2 invariant-loop decreases-loop → tie.Else2 invariant-loop decreases-loop
-letter-left c = c.before.before
+abbrev letter_left : tie.After-take_letter-arg-1 invariant-loop-at decreases-loop-at → tie.Else-at-bytes invariant-loop-at decreases-loop-at
+letter_left c = c.before
 
-loop-holds : tie.Need-loop-init invariant-loop decreases-loop
-loop-holds c = record { same_bytes = refl; same_answer = refl; goes = λ t h. h }
+loop-at-init : tie.Need-loop-at-init invariant-loop-at decreases-loop-at
+loop-at-init c = record { same_bytes = refl; same_answer = refl; goes = λ t h. h }
 
-turn-requires : tie.Need-turn-requires invariant-loop decreases-loop
-turn-requires c κs =
-    let p = (start (turning c)).pre in
-    ((p.0, (turning c).loop.invariant.goes p.0 p.1), c.before.before.if1.true)
+turn-at-requires : tie.Need-turn-at-requires invariant-loop-at decreases-loop-at
+turn-at-requires c κs =
+    let p = (start (turning c)).requires in
+    ((p.0, c.loop-at.invariant.goes p.0 p.1), c.if-at-gt0.true)
 
-loop-less : tie.Need-loop-smaller invariant-loop decreases-loop
-loop-less c = (turned c).turn.ensures.1.falls
+loop-at-smaller-then-at-gt0 : tie.Need-loop-at-smaller-then-at-gt0 invariant-loop-at decreases-loop-at
+loop-at-smaller-then-at-gt0 c = c.turn-at.ensures.1.falls
 
-loop-again : tie.Need-loop-preserved invariant-loop decreases-loop
-loop-again c =
-    let v = (turned c).turn in
-    let l = (turning (turned c).before).loop in
+loop-at-preserved-then-at-gt0 : tie.Need-loop-at-preserved-then-at-gt0 invariant-loop-at decreases-loop-at
+loop-at-preserved-then-at-gt0 c =
+    let v = c.turn-at in
+    let l = (turning (turned c).before).loop-at in
     record {
-      same_bytes = v.ensures.0 ∙ l.inv.same_bytes;
-      same_answer = v.kept.1.1.1.1.1.0 ∙ l.inv.same_answer;
-      goes = λ t h. v.ensures.1.situation t (l.inv.goes t h);
+      same_bytes = v.ensures.0 ∙ l.invariant.same_bytes;
+      same_answer = v.auto.answer ∙ l.invariant.same_answer;
+      goes = λ t h. v.ensures.1.situation t (l.invariant.goes t h);
     }
 
-same_length : tie.Need-same-length invariant-loop decreases-loop
-same_length c = (at-loop c.before).loop.inv.same_bytes
+shape_of-bytes-then-at-bytes : tie.Need-shape_of-bytes-then-at-bytes invariant-loop-at decreases-loop-at
+shape_of-bytes-then-at-bytes c = c.loop-at.invariant.same_bytes
 
-same-length-2 : tie.Need-same-length-2 invariant-loop decreases-loop
-same-length-2 c = (at-loop c.before).loop.inv.same_answer
+shape_of-answer-then-at-bytes : tie.Need-shape_of-answer-then-at-bytes invariant-loop-at decreases-loop-at
+shape_of-answer-then-at-bytes c = c.loop-at.invariant.same_answer
 
-returns : tie.Need-returns invariant-loop decreases-loop
-returns c =
-    let l = (at-loop c.before).loop in
-    (l.inv.same_bytes, λ t h. completed (l.inv.goes t h) c.before.before.if1.false c.if2.true)
+returns-then-at-bytes : tie.Need-returns-then-at-bytes invariant-loop-at decreases-loop-at
+returns-then-at-bytes c =
+    let l = c.loop-at in
+    (l.invariant.same_bytes, λ t h. completed (l.invariant.goes t h) c.if-at-gt0.false c.if-at-bytes.true)
 
-take-letter-requires : tie.Need-take-letter-requires invariant-loop decreases-loop
-take-letter-requires c κs =
-    let e = letter-left c in
-    let l = at-loop e.before in
-    let p = (start l).pre in
-    let h = l.loop.inv.goes p.0 p.1 in
-    ((p.0, h), (omega (arith, e.before.before.if1.left), omega (arith, h.held.inside, e.if2.left)))
+take_letter-at-requires : tie.Need-take_letter-at-requires invariant-loop-at decreases-loop-at
+take_letter-at-requires c κs =
+    let e = letter_left c in
+    let l = at_loop e.before in
+    let p = l.requires in
+    let h = l.loop-at.invariant.goes p.0 p.1 in
+    ((p.0, h), (omega (arith, e.if-at-gt0.false), omega (arith, h.held.inside, e.if-at-bytes.false)))
 
-loop-less-2 : tie.Need-loop-smaller-2 invariant-loop decreases-loop
-loop-less-2 c = c.before.before.take-letter.ensures.falls
+loop-at-smaller : tie.Need-loop-at-smaller invariant-loop-at decreases-loop-at
+loop-at-smaller c = c.take_letter-at.ensures.falls
 
-loop-again-2 : tie.Need-loop-preserved-2 invariant-loop decreases-loop
-loop-again-2 c =
-    let v = c.before.before.take-letter in
-    let l = (at-loop (letter-left c.before.before.before).before).loop in
+loop-at-preserved : tie.Need-loop-at-preserved invariant-loop-at decreases-loop-at
+loop-at-preserved c =
+    let v = c.take_letter-at in
+    let l = c.loop-at in
     record {
-      same_bytes = l.inv.same_bytes;
-      same_answer = v.auto.1.1.1.1.1.0 ∙ l.inv.same_answer;
-      goes = λ t h. v.ensures.situation t (l.inv.goes t h);
+      same_bytes = l.invariant.same_bytes;
+      same_answer = v.auto.answer ∙ l.invariant.same_answer;
+      goes = λ t h. v.ensures.situation t (l.invariant.goes t h);
     }
 
-pub walk-spec : {M : Type 1} → statement M
-walk-spec =
-    tie.close (tie.spec invariant-loop decreases-loop loop-holds turn-requires loop-less loop-again same_length same-length-2 returns take-letter-requires loop-less-2
-    loop-again-2)
+pub walk_spec : {M : Type 1} → statement M
+walk_spec =
+    tie.close (tie.spec invariant-loop-at decreases-loop-at loop-at-init turn-at-requires loop-at-smaller-then-at-gt0 loop-at-preserved-then-at-gt0
+    shape_of-bytes-then-at-bytes shape_of-answer-then-at-bytes returns-then-at-bytes take_letter-at-requires loop-at-smaller
+    loop-at-preserved)

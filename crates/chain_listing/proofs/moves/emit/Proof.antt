@@ -6,50 +6,51 @@ use Rattle.chain_listing.proofs.Emitting.{a_top, b_top, face_passed, rest_fits, 
 use Rattle.chain_listing.proofs.moves.emit.Statement.{statement}
 use Rattle.chain_listing.proofs.moves.emit.Tie as tie
 
-abbrev start : tie.After-face-start → tie.Start
+abbrev start : tie.After-face_start-start → tie.Start
 start c = c.before.before.before.before
 
-abbrev began : tie.After-extend-rest-arg → tie.After-face-start
+abbrev began : tie.After-extend_rest-arg-1 → tie.After-face_start-start
 began c = c.before.before.before.before.before
 
-abbrev written : tie.After-extend-rest-arg → tie.After-write-entry
+abbrev written : tie.After-extend_rest-arg-1 → tie.After-write_entry
 written c = c.before.before.before
 
-abbrev extended : tie.After-struct-known2 → tie.After-extend-rest
+abbrev extended : tie.After-struct_known-2-1 → tie.After-extend_rest-left
 extended c = c.before.before.before.before
 
-face-start-requires : tie.Need-face-start-requires
-face-start-requires c κs = let p = c.before.before.before.requires in face_passed p.2 p.3
+face_start-start-requires : tie.Need-face_start-start-requires
+face_start-start-requires c κs = let p = c.requires in face_passed p.2 p.3
 
-cast-offset : tie.Need-overflow-cast-offset
-cast-offset c = let p = (start c).requires in omega (arith, c.face-start.ensures, passed_few p.2 p.3)
+overflow_cast-offset : tie.Need-overflow_cast-offset
+overflow_cast-offset c = let p = c.requires in omega (arith, c.face_start-start.ensures, passed_few p.2 p.3)
 
-write-entry-requires : tie.Need-write-entry-requires
-write-entry-requires c κs =
-    let p = (start c.before).requires in
+write_entry-requires : tie.Need-write_entry-requires
+write_entry-requires c κs =
+    let p = c.requires in
     (slot_over p.2 p.3, omega (arith, (a_top p.2 p.3).low, (b_top p.2 p.3).low))
 
-extend-rest-requires : tie.Need-extend-rest-requires
-extend-rest-requires c κs = let p = (start (began c)).requires in rest_fits p.2 p.3
+extend_rest-left-requires : tie.Need-extend_rest-left-requires
+extend_rest-left-requires c κs = let p = (start (began c)).requires in rest_fits p.2 p.3
 
-sub-t19 : tie.Need-overflow-sub-t19
-sub-t19 c = let p = (start (began (extended c).before)).requires in stacked_some p.2 p.3
+overflow_sub-result : tie.Need-overflow_sub-result
+overflow_sub-result c = let p = (start (began (extended c).before)).requires in stacked_some p.2 p.3
 
 returns : tie.Need-returns
 returns c =
-    let e = (extended c).extend-rest in
+    let e = c.extend_rest-left in
     let k = began (extended c).before in
-    let p = (start k).pre in (
+    let p = k.requires in (
       e.ensures.1.same_length,
       record {
         one_more = refl;
         few_more = omega (arith, e.ensures.0, from_short p.2 p.3);
-        situation = λ total t h top. emitted_here h top k.face-start.result e.result k.face-start.ensures e.ensures.0
-            (written (extended c).before).write-entry.ensures e.ensures.1;
+        situation = λ total t h top. emitted_here h top k.face_start-start.result e.result k.face_start-start.ensures e.ensures.0
+            (written (extended c).before).write_entry.ensures e.ensures.1;
       },
     )
 
-pub emit-spec : {M : Type 1} → statement M
-emit-spec =
-    tie.close (tie.spec face-start-requires cast-offset write-entry-requires extend-rest-requires (λ c. search rules) (λ c. search rules) sub-t19
+pub emit_spec : {M : Type 1} → statement M
+emit_spec =
+    tie.close (tie.spec face_start-start-requires overflow_cast-offset write_entry-requires extend_rest-left-requires (λ c. search rules) (λ c. search rules)
+    overflow_sub-result
     (λ c. search rules) (λ c. search rules) returns)

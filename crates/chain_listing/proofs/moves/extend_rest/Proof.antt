@@ -9,38 +9,38 @@ use Rattle.engine.specs.Turn.{CellFits, cell_letters, Pushed}
 use Rattle.chain_listing.proofs.moves.extend_rest.Statement.{statement}
 use Rattle.chain_listing.proofs.moves.extend_rest.Tie as tie
 
-abbrev start : tie.After-cell-at → tie.Start
+abbrev start : tie.After-cell_at-from → tie.Start
 start c = c.before.before.before
 
-abbrev after-cell-at : tie.After-push-inverse → tie.After-cell-at
-after-cell-at c = c.before.before.before
+abbrev after_cell_at : tie.After-push_inverse → tie.After-cell_at-from
+after_cell_at c = c.before.before.before
 
 -- the cell's word fits, wherever it is said to be
-fits : (c : tie.After-cell-at) → CellFits (start c).args.cells.now c.Cell-at.result (start c).args.bytes.now
-    ((start c).args.left + get_or (start c).args.cells.now c.Cell-at.result 0)
+fits : (c : tie.After-cell_at-from) → CellFits c.args.cells.now c.cell_at-from.result c.args.bytes.now
+    (c.args.left + get_or c.args.cells.now c.cell_at-from.result 0)
 fits c =
-    let a = (start c).args in
-    subst (λ i. CellFits a.cells.now i a.bytes.now (a.left + get_or a.cells.now i 0)) (sym c.Cell-at.ensures) (start c).requires.1
+    let a = c.args in
+    subst (λ i. CellFits a.cells.now i a.bytes.now (a.left + get_or a.cells.now i 0)) (sym c.cell_at-from.ensures) c.requires.1
 
-cast-y : tie.Need-overflow-cast-y
-cast-y c = omega (arith, c.shared-slice-known2.given c.before.Cell-at.result)
+overflow_cast-y : tie.Need-overflow_cast-y
+overflow_cast-y c = omega (arith, c.shared_slice_known-2-1.given c.cell_at-from.result)
 
-add-end : tie.Need-overflow-add-end
-add-end c = omega (arith, (fits c.before).inside)
+overflow_add-end : tie.Need-overflow_add-end
+overflow_add-end c = omega (arith, (fits c.before).inside)
 
-push-inverse-requires : tie.Need-push-inverse-requires
-push-inverse-requires c κs = fits c.before.before
+push_inverse-requires : tie.Need-push_inverse-requires
+push_inverse-requires c κs = fits c.before.before
 
 returns : tie.Need-returns
 returns c =
     let k = c.before.before in
-    let at = (after-cell-at k).Cell-at in
-    let a = (start (after-cell-at k)).args in (
+    let at = k.cell_at-from in
+    let a = (start (after_cell_at k)).args in (
       ap (λ i. a.left + get_or a.cells.now i 0) at.ensures,
       subst (λ i. Pushed (inverse (cell_letters a.cells.now i)) a.bytes.now (a.left + get_or a.cells.now at.result 0) (get_or a.cells.now i 0)
-          k.push-inverse.new.0) at.ensures k.push-inverse.ensures.1,
+          k.push_inverse.new.bytes) at.ensures k.push_inverse.ensures.1,
     )
 
-pub extend-rest-spec : {M : Type 1} → statement M
-extend-rest-spec =
-    tie.close (tie.spec (λ c κs. search rules) (λ c. search rules) cast-y add-end push-inverse-requires (λ c. search rules) returns)
+pub extend_rest_spec : {M : Type 1} → statement M
+extend_rest_spec =
+    tie.close (tie.spec (λ c κs. search rules) (λ c. search rules) overflow_cast-y overflow_add-end push_inverse-requires (λ c. search rules) returns)

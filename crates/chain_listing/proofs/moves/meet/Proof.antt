@@ -5,92 +5,93 @@ use Rattle.chain_listing.proofs.Meeting.{met_equal_here, slots_left, slot_here, 
 use Rattle.chain_listing.proofs.moves.meet.Statement.{statement}
 use Rattle.chain_listing.proofs.moves.meet.Tie as tie
 
-abbrev start : tie.After-struct-known → tie.Start
+abbrev start : tie.After-struct_known-1 → tie.Start
 start c = c.before.before.before.before
 
-abbrev after-struct-known : tie.After-cell-at → tie.After-struct-known
-after-struct-known c = c.before.before.before.before
+abbrev after_struct_known : tie.After-cell_at-to → tie.After-struct_known-1
+after_struct_known c = c.before.before.before.before
 
-abbrev after-cell-at : tie.After-struct-known3 → tie.After-cell-at
-after-cell-at c = c.before.before
+abbrev after_cell_at : tie.After-struct_known-3-1 → tie.After-cell_at-to
+after_cell_at c = c.before.before
 
-abbrev after-struct-known3 : tie.After-write-entry → tie.After-struct-known3
-after-struct-known3 c = c.before.before
+abbrev after_struct_known3 : tie.After-write_entry → tie.After-struct_known-3-1
+after_struct_known3 c = c.before.before
 
-sub-left : tie.Need-overflow-sub-left
-sub-left c =
+overflow_sub-left : tie.Need-overflow_sub-left
+overflow_sub-left c =
     let s = start c in
-    left_some s.pre.1
+    left_some s.requires.1
 
-shared-slice-read-a : tie.Need-shared-slice-read-a
-shared-slice-read-a c =
+bounds-bytes-left : tie.Need-bounds-bytes-left
+bounds-bytes-left c =
     let s = start c.before in
-    omega (arith, left_some s.pre.1, left_inside s.pre.1)
+    omega (arith, left_some s.requires.1, left_inside s.requires.1)
 
-sub-a : tie.Need-overflow-sub-a
-sub-a c =
+overflow_sub-a : tie.Need-overflow_sub-a
+overflow_sub-a c =
     let s = start c.before in
-    byte_back s.pre.1
+    byte_back s.requires.1
 
-add-passed : tie.Need-overflow-add-passed
-add-passed c =
+overflow_add-passed : tie.Need-overflow_add-passed
+overflow_add-passed c =
     let s = start c.before.before in
-    omega (arith, passed_small s.pre.1)
+    omega (arith, passed_small s.requires.1)
+
+returns-then-a-b : tie.Need-returns-then-a-b
+returns-then-a-b c =
+    let s = start c.before.before.before in
+    record {
+      falls = omega (arith, left_some s.requires.1);
+      situation = λ t h. met_equal_here h c.if-a-b.true;
+    }
+
+cell_at-to-requires : tie.Need-cell_at-to-requires
+cell_at-to-requires c κs =
+    let s = start c.before.before.before in
+    (wide s.requires.1.settled (a_here s.requires.1), wide s.requires.1.settled (b_here s.requires.1))
+
+bounds-cells-to : tie.Need-bounds-cells-to
+bounds-cells-to c =
+    let s = start (after_struct_known c.before) in
+    omega (arith, c.cell_at-to.ensures, cell_inside s.requires.1.settled (a_here s.requires.1) (b_here s.requires.1))
+
+overflow_cast-offset : tie.Need-overflow_cast-offset
+overflow_cast-offset c =
+    omega (arith, c.shared_slice_known-4-1.given c.cell_at-to.result)
+
+overflow_add-stacked : tie.Need-overflow_add-stacked
+overflow_add-stacked c =
+    let s = start (after_struct_known (after_cell_at c)) in
+    omega (arith, stacked_small s.requires.1)
+
+overflow_sub-total : tie.Need-overflow_sub-total
+overflow_sub-total c =
+    let k = after_cell_at c.before in
+    let s = start (after_struct_known k) in
+    slots_left s.requires.1 k.if-a-b.false
+
+write_entry-requires : tie.Need-write_entry-requires
+write_entry-requires c κs =
+    let k = after_cell_at c.before in
+    let s = start (after_struct_known k) in (
+      slot_here s.requires.1 k.if-a-b.false,
+      ((a_here s.requires.1).low, (b_here s.requires.1).low),
+    )
+
+shape_of-answer : tie.Need-shape_of-answer
+shape_of-answer c = c.write_entry.auto.area
 
 returns : tie.Need-returns
 returns c =
-    let s = start c.before.before.before in
+    let k = after_cell_at (after_struct_known3 c.before.before) in
+    let s = start (after_struct_known k) in
     record {
-      falls = omega (arith, left_some s.pre.1);
-      situation = λ t h. met_equal_here h c.if1.true;
+      falls = omega (arith, left_some s.requires.1);
+      situation = λ t h. met_different_here h k.if-a-b.false k.cell_at-to.result k.cell_at-to.ensures c.write_entry.ensures;
     }
 
-cell-at-requires : tie.Need-cell-at-requires
-cell-at-requires c κs =
-    let s = start c.before.before.before in
-    (wide s.pre.1.settled (a_here s.pre.1), wide s.pre.1.settled (b_here s.pre.1))
-
-shared-slice-read-offset : tie.Need-shared-slice-read-offset
-shared-slice-read-offset c =
-    let s = start (after-struct-known c.before) in
-    omega (arith, c.before.Cell-at.ensures, cell_inside s.pre.1.settled (a_here s.pre.1) (b_here s.pre.1))
-
-cast-offset : tie.Need-overflow-cast-offset
-cast-offset c =
-    omega (arith, c.shared-slice-known4.given c.before.Cell-at.result)
-
-add-stacked : tie.Need-overflow-add-stacked
-add-stacked c =
-    let s = start (after-struct-known (after-cell-at c)) in
-    omega (arith, stacked_small s.pre.1)
-
-sub-write-entry : tie.Need-overflow-sub-write-entry
-sub-write-entry c =
-    let k = after-cell-at c.before in
-    let s = start (after-struct-known k) in
-    slots_left s.pre.1 k.before.if1.left
-
-write-entry-requires : tie.Need-write-entry-requires
-write-entry-requires c κs =
-    let k = after-cell-at c.before in
-    let s = start (after-struct-known k) in (
-      slot_here s.pre.1 k.before.if1.left,
-      ((a_here s.pre.1).low, (b_here s.pre.1).low),
-    )
-
-same_length : tie.Need-same-length
-same_length c = c.before.before.write-entry.auto.0
-
-returns-2 : tie.Need-returns-2
-returns-2 c =
-    let k = after-cell-at (after-struct-known3 c.before.before) in
-    let s = start (after-struct-known k) in
-    record {
-      falls = omega (arith, left_some s.pre.1);
-      situation = λ t h. met_different_here h k.before.if1.left k.Cell-at.result k.Cell-at.ensures c.before.before.write-entry.ensures;
-    }
-
-pub meet-spec : {M : Type 1} → statement M
-meet-spec =
-    tie.close (tie.spec sub-left shared-slice-read-a sub-a add-passed returns cell-at-requires shared-slice-read-offset cast-offset add-stacked
-    sub-write-entry write-entry-requires same_length returns-2)
+pub meet_spec : {M : Type 1} → statement M
+meet_spec =
+    tie.close (tie.spec overflow_sub-left bounds-bytes-left overflow_sub-a overflow_add-passed returns-then-a-b cell_at-to-requires bounds-cells-to
+    overflow_cast-offset overflow_add-stacked
+    overflow_sub-total write_entry-requires shape_of-answer returns)

@@ -15,13 +15,13 @@ use Rattle.chaining.proofs.ChainService.{programs_fit, listed_from, listed_of}
 use Rattle.chaining.proofs.chain.list_programs.Statement.{statement}
 use Rattle.chaining.proofs.chain.list_programs.Tie as tie
 
-abbrev start : tie.After-slice-known2 → tie.Start
+abbrev start : tie.After-slice_known-2-1 → tie.Start
 start c = c.before.before.before.before.before
 
-abbrev loaded : tie.After-list-arg2 → tie.After-load-programs
+abbrev loaded : tie.After-list-arg-2-1 → tie.After-load_programs
 loaded c = c.before.before.before.before
 
-abbrev begun : tie.After-load-programs → tie.Start
+abbrev begun : tie.After-load_programs → tie.Start
 begun c = start c.before.before
 
 abbrev after_list : tie.After-wipe → tie.After-list
@@ -40,28 +40,28 @@ fits s =
     )
 
 -- what the listing asks, of the programs as they are loaded
-from : (c : tie.After-load-programs) (T : Presentation) (o : Of (begun c).args.cells.now (begun c).args.size T) (u v : Positive)
-    (eu : read_forward (begun c).args.size (begun c).args.first.now ≡ answered u)
-    (ev : read_forward (begun c).args.size (begun c).args.second.now ≡ answered v)
-    → ListedFrom (begun c).args.cells.now (begun c).args.size c.load-programs.new.1.1.1.1.1.0 (begun c).args.firsts
-    (length (begun c).args.workspace.now - (begun c).args.seconds) (begun c).args.relations (length (begun c).args.answer.now) T u v
-    ((begun c).requires.1.0 T o u v eu ev).1
+from : (c : tie.After-load_programs) (T : Presentation) (o : Of c.args.cells.now c.args.size T) (u v : Positive)
+    (eu : read_forward c.args.size c.args.first.now ≡ answered u)
+    (ev : read_forward c.args.size c.args.second.now ≡ answered v)
+    → ListedFrom c.args.cells.now c.args.size c.load_programs.new.workspace c.args.firsts
+    (length c.args.workspace.now - c.args.seconds) c.args.relations (length c.args.answer.now) T u v
+    (c.requires.1.0 T o u v eu ev).1
 from c T o u v eu ev =
     let s = begun c in
     let a = s.args in
-    let p = s.pre.0.pair in
-    let e = s.pre.1.0 T o u v eu ev in
-    let l = c.load-programs in
+    let p = s.requires.0.pair in
+    let e = s.requires.1.0 T o u v eu ev in
+    let l = c.load_programs in
     listed_from a.cells.now a.size T o u v a.first.now a.second.now a.firsts a.seconds p.one p.two
     (same_answer p.one.word u (sym p.one.read ∙ eu)) (same_answer p.two.word v (sym p.two.read ∙ ev)) e.0
-    (length a.workspace.now) e.1 a.relations e.2 l.new.1.1.1.1.1.0 (length a.workspace.now - a.seconds) l.ensures.same_length
-    (l.ensures.loads a.cells.now T o u v eu ev) (length a.answer.now) s.pre.1.1
+    (length a.workspace.now) e.1 a.relations e.2 l.new.workspace (length a.workspace.now - a.seconds) l.ensures.same_length
+    (l.ensures.loads a.cells.now T o u v eu ev) (length a.answer.now) s.requires.1.1
 
-sub-right : tie.Need-overflow-sub-right
-sub-right c = omega (arith, fits (start c))
+overflow_sub-right : tie.Need-overflow_sub-right
+overflow_sub-right c = omega (arith, fits (start c))
 
-load-programs-requires : tie.Need-load-programs-requires
-load-programs-requires c κs = let s = start c.before in (s.pre.0.pair, fits s)
+load_programs-requires : tie.Need-load_programs-requires
+load_programs-requires c κs = let s = start c.before in (s.requires.0.pair, fits s)
 
 list-requires : tie.Need-list-requires
 list-requires c κs =
@@ -74,12 +74,12 @@ returns c =
     let k = after_list c.before.before in
     let h = k.list in
     let l = loaded k.before in
-    let a = (begun l).args in (
-      c.before.before.wipe.ensures ∙ ap (λ i. replicate i 0) (h.ensures.0 ∙ l.load-programs.ensures.same_length),
-      λ T o u v eu ev. listed_of T u v a.relations a.answer.now h.last.1.1.1.1.1.0 o.stands.few
+    let a = l.args in (
+      c.wipe.ensures ∙ ap (λ i. replicate i 0) (h.ensures.0 ∙ l.load_programs.ensures.same_length),
+      λ T o u v eu ev. listed_of T u v a.relations a.answer.now h.new.answer o.stands.few
           (h.ensures.1.1 T u v _ (from l T o u v eu ev)),
     )
 
-pub list-programs-spec : {M : Type 1} → statement M
-list-programs-spec =
-    tie.close (tie.spec sub-right load-programs-requires list-requires (λ c κs. search rules) (λ c. search rules) (λ c. search rules) returns)
+pub list_programs_spec : {M : Type 1} → statement M
+list_programs_spec =
+    tie.close (tie.spec overflow_sub-right load_programs-requires list-requires (λ c κs. search rules) (λ c. search rules) (λ c. search rules) returns)

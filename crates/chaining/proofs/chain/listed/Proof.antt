@@ -7,21 +7,22 @@ use borrow.Author.Rules.{rules}
 use Rattle.chaining.proofs.chain.listed.Statement.{statement}
 use Rattle.chaining.proofs.chain.listed.Tie as tie
 
-abbrev start : tie.At-match-keys1 → tie.Start
+abbrev start : tie.In-Same → tie.Start
 start c = c.before
 
-returns : tie.Need-returns
-returns c =
-    let s = start c.before.before.before in
-    let g = c.before.before.verdict.given in
-    ap (λ b. answered (listed_after g.0.0 g.0.1.0 b)) c.chain-bytes.ensures
-    ∙ sym (ap (λ r. mapped (chain_answer s.args.size) (compared r)) g.1)
+returns-in-Same : tie.Need-returns-in-Same
+returns-in-Same c =
+    let s = start c.before in
+    let g = c.in-Same in
+    ap (λ b. answered (listed_after g.steps g.relations b)) c.chain_bytes.ensures
+    ∙ sym (ap (λ r. mapped (chain_answer s.args.size) (compared r)) g.is)
 
-returns-2 : tie.Need-returns-2
-returns-2 c = sym (ap (λ r. mapped (chain_answer c.before.before.before.args.size) (compared r)) c.before.verdict2.given.1)
+returns-in-Different : tie.Need-returns-in-Different
+returns-in-Different c = sym (ap (λ r. mapped (chain_answer c.args.size) (compared r)) c.in-Different.is)
 
-returns-3 : tie.Need-returns-3
-returns-3 c = sym (ap (λ r. mapped (chain_answer c.before.before.before.args.size) (compared r)) c.before.verdict3.given.1)
+returns-in-Refused : tie.Need-returns-in-Refused
+returns-in-Refused c = sym (ap (λ r. mapped (chain_answer c.args.size) (compared r)) c.in-Refused.is)
 
-pub listed-spec : {M : Type 1} → statement M
-listed-spec = tie.close (tie.spec (λ c. search rules) (λ c κs. search rules) (λ c. search rules) (λ c. search rules) returns returns-2 returns-3)
+pub listed_spec : {M : Type 1} → statement M
+listed_spec = tie.close (tie.spec (λ c. search rules) (λ c κs. search rules) (λ c. search rules) (λ c. search rules) returns-in-Same returns-in-Different
+    returns-in-Refused)

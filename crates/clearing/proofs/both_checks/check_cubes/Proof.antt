@@ -7,22 +7,22 @@ use borrow.Author.Rules.{rules}
 use Rattle.clearing.proofs.both_checks.check_cubes.Statement.{statement}
 use Rattle.clearing.proofs.both_checks.check_cubes.Tie as tie
 
-abbrev start : tie.After-check-triples → tie.Start
+abbrev start : tie.After-check_triples-found → tie.Start
 start c = c.before.before.before.before
 
-abbrev checked : tie.After-wipe → tie.After-check-triples
+abbrev checked : tie.After-wipe → tie.After-check_triples-found
 checked c = c.before.before.before.before
 
 returns : tie.Need-returns
 returns c =
     let w = c.before.before.before in
-    let t = (checked w).check-triples in
+    let t = w.check_triples-found in
     let a = (start (checked w)).args in
     let room = length a.workspace.now in (
-      subst (CubesMean a.of a.cells.now a.size a.budget room) (sym c.triples-answer.ensures)
+      subst (CubesMean a.of a.cells.now a.size a.budget room) (sym c.triples_answer.ensures)
           (cubes_mean a.of a.cells.now a.size a.budget room t.result t.ensures.1),
       w.wipe.ensures ∙ ap (λ n. replicate n 0) t.ensures.0,
     )
 
-pub check-cubes-spec : {M : Type 1} → statement M
-check-cubes-spec = tie.close (tie.spec (λ c κs. search rules) (λ c κs. search rules) (λ c κs. search rules) (λ c. search rules) returns)
+pub check_cubes_spec : {M : Type 1} → statement M
+check_cubes_spec = tie.close (tie.spec (λ c κs. search rules) (λ c κs. search rules) (λ c κs. search rules) (λ c. search rules) returns)

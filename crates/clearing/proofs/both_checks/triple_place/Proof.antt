@@ -5,11 +5,11 @@ use borrow.Author.Rules.{rules}
 use Rattle.clearing.proofs.both_checks.triple_place.Statement.{statement}
 use Rattle.clearing.proofs.both_checks.triple_place.Tie as tie
 
-returns : tie.Need-returns
-returns c = sym (ap (λ w. place_of w c.before.before.args.triple) c.enum_told.given.1)
+returns-in-Table : tie.Need-returns-in-Table
+returns-in-Table c = sym (ap (λ w. place_of w c.args.triple) c.in-Table.is)
 
-returns-2 : tie.Need-returns-2
-returns-2 c = sym (ap (λ w. place_of w c.before.before.args.triple) c.enum-told2.given.1)
+returns-in-Mirror : tie.Need-returns-in-Mirror
+returns-in-Mirror c = sym (ap (λ w. place_of w c.args.triple) c.in-Mirror.is)
 
-pub triple-place-spec : {M : Type 1} → statement M
-triple-place-spec = tie.close (tie.spec (λ c. search rules) (λ c. search rules) returns returns-2)
+pub triple_place_spec : {M : Type 1} → statement M
+triple_place_spec = tie.close (tie.spec (λ c. search rules) (λ c. search rules) returns-in-Table returns-in-Mirror)

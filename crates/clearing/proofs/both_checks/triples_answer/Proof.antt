@@ -10,38 +10,35 @@ use borrow.Author.Rules.{rules}
 use Rattle.clearing.proofs.both_checks.triples_answer.Statement.{statement}
 use Rattle.clearing.proofs.both_checks.triples_answer.Tie as tie
 
-abbrev start : tie.After-found2 → tie.Start
-start c = c.before.before
-
 -- the check stopped at a triple
-abbrev halted : tie.At-match3-keys1 → tie.After-found2
-halted c = c.before.before
+abbrev halted : tie.In-Budget → tie.In-Halt
+halted c = c.before
 
-abbrev halted2 : tie.At-match3-keys2 → tie.After-found2
-halted2 c = c.before.before
+abbrev halted2 : tie.In-Room → tie.In-Halt
+halted2 c = c.before
 
-abbrev triple : tie.After-found2 → Triple
-triple c = c.found2.given.0.1.0
+abbrev triple : tie.In-Halt → Triple
+triple c = c.in-Halt.triple
 
-halt-is : (c : tie.After-found2) (s : Stop) → c.found2.given.0.0 ≡ s
-    → triples_refusal (start c).args.of (start c).args.found ≡ triples_refusal (start c).args.of (Halt s (triple c))
-halt-is c s e = ap (triples_refusal (start c).args.of) (c.found2.given.1 ∙ ap (λ x. Halt x (triple c)) e)
+halt_is : (c : tie.In-Halt) (s : Stop) → c.in-Halt.stop ≡ s
+    → triples_refusal c.args.of c.args.found ≡ triples_refusal c.args.of (Halt s (triple c))
+halt_is c s e = ap (triples_refusal c.args.of) (c.in-Halt.is ∙ ap (λ x. Halt x (triple c)) e)
 
-returns-2 : tie.Need-returns-2
-returns-2 c = sym (ap₂ triples_refusal c.enum-told2.given.1 c.before.before.before.found.given.1)
+returns-in-Table : tie.Need-returns-in-Table
+returns-in-Table c = sym (ap₂ triples_refusal c.in-Table.is c.in-Fail.is)
 
-returns-3 : tie.Need-returns-3
-returns-3 c = sym (ap₂ triples_refusal c.enum-told3.given.1 c.before.before.before.found.given.1)
+returns-in-Mirror : tie.Need-returns-in-Mirror
+returns-in-Mirror c = sym (ap₂ triples_refusal c.in-Mirror.is c.in-Fail.is)
 
-returns-4 : tie.Need-returns-4
-returns-4 c = ap (λ p. Refused (AllowanceUsed p)) c.triple-place.ensures ∙ sym (halt-is (halted c.before.before) _ c.before.enum-told4.given.1)
+returns-in-Budget : tie.Need-returns-in-Budget
+returns-in-Budget c = ap (λ p. Refused (AllowanceUsed p)) c.triple_place.ensures ∙ sym (halt_is (halted c.before) _ c.in-Budget.is)
 
-returns-5 : tie.Need-returns-5
-returns-5 c =
-    ap (λ p. Refused (WorkspaceShort p)) c.triple-place2.ensures
-    ∙ sym (halt-is (halted2 c.before.before) _ c.before.enum-told5.given.1)
+returns-in-Room : tie.Need-returns-in-Room
+returns-in-Room c =
+    ap (λ p. Refused (WorkspaceShort p)) c.triple_place-in-Room.ensures
+    ∙ sym (halt_is (halted2 c.before) _ c.in-Room.is)
 
-pub triples-answer-spec : {M : Type 1} → statement M
-triples-answer-spec =
+pub triples_answer_spec : {M : Type 1} → statement M
+triples_answer_spec =
     tie.close (tie.spec (λ c. search rules) (λ c. search rules) (λ c. search rules) (λ c. search rules) (λ c. search rules) (λ c. search rules)
-    (λ c κs. search rules) (λ c. search rules) (λ c κs. search rules) (λ c. search rules) returns-2 returns-3 returns-4 returns-5)
+    (λ c κs. search rules) (λ c. search rules) (λ c κs. search rules) (λ c. search rules) returns-in-Table returns-in-Mirror returns-in-Budget returns-in-Room)

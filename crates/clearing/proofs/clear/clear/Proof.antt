@@ -7,13 +7,10 @@ use borrow.Author.Rules.{rules}
 use Rattle.clearing.proofs.clear.clear.Statement.{statement}
 use Rattle.clearing.proofs.clear.clear.Tie as tie
 
-abbrev start : tie.After-clear-image → tie.Start
-start c = c.before.before.before.before
-
 returns : tie.Need-returns
 returns c =
-    let z = c.before.before.clear-image.ensures in
-    let a = (start c.before.before).args in
+    let z = c.clear_image.ensures in
+    let a = c.args in
     let means = clear_means a.table.now a.allowance (length a.workspace.now) in
     record { stated = z.stated; workspace_is = z.workspace; meaning = subst (ClearSays a.table.now) (sym z.stated) means }
 

@@ -8,32 +8,33 @@ use borrow.Author.Rules.{rules}
 use Rattle.clearing.proofs.clearing.clear_loaded.Statement.{statement}
 use Rattle.clearing.proofs.clearing.clear_loaded.Tie as tie
 
-abbrev after-clear-cells : tie.After-workspace → tie.After-clear-cells
-after-clear-cells c = c.before
+abbrev after_clear_cells : tie.After-workspace-1 → tie.After-clear_cells
+after_clear_cells c = c.before
 
-abbrev after-clear-mirror : tie.After-workspace2 → tie.After-clear-mirror
-after-clear-mirror c = c.before
+abbrev after_clear_mirror : tie.After-workspace-in-Mirror-1 → tie.After-clear_mirror
+after_clear_mirror c = c.before
 
 -- what is promised, of the table or of its mirror
 abbrev clears : (s : tie.Start) (r : Cleared) (whose : TriplesOf) → Type 0
 clears s r whose = ClearsBy whose s.args.cells.now s.args.size s.args.budget (length s.args.workspace.now) r
 
-abbrev start : tie.After-slice-known → tie.Start
+abbrev start : tie.After-slice_known-1 → tie.Start
 start c = c.before.before
 
-returns : tie.Need-returns
-returns c =
-    let z = c.before.before.clear-cells in
-    let k = (after-clear-cells c.before).before.before in
-    (subst (clears (start k.before.before) z.result) (sym k.enum_told.given.1) z.ensures.0, z.ensures.1)
+returns-in-Table : tie.Need-returns-in-Table
+returns-in-Table c =
+    let z = c.clear_cells in
+    let k = (after_clear_cells c.before).before.before in
+    (subst (clears (start k.before) z.result) (sym k.in-Table.is) z.ensures.0, z.ensures.1)
 
-returns-2 : tie.Need-returns-2
-returns-2 c =
-    let z = c.before.before.clear-mirror in
-    let k = (after-clear-mirror c.before).before.before in
-    (subst (clears (start k.before.before) z.result) (sym k.enum-told2.given.1) z.ensures.0, z.ensures.1)
+returns-in-Mirror : tie.Need-returns-in-Mirror
+returns-in-Mirror c =
+    let z = c.clear_mirror in
+    let k = (after_clear_mirror c.before).before.before in
+    (subst (clears (start k.before) z.result) (sym k.in-Mirror.is) z.ensures.0, z.ensures.1)
 
-pub clear-loaded-spec : {M : Type 1} → statement M
-clear-loaded-spec =
-    tie.close (tie.spec (λ c. search rules) (λ c κs. search rules) (λ c. search rules) (λ c κs. search rules) (λ c. search rules) returns (λ c. search rules)
-    returns-2)
+pub clear_loaded_spec : {M : Type 1} → statement M
+clear_loaded_spec =
+    tie.close (tie.spec (λ c. search rules) (λ c κs. search rules) (λ c. search rules) (λ c κs. search rules) (λ c. search rules) returns-in-Table
+    (λ c. search rules)
+    returns-in-Mirror)

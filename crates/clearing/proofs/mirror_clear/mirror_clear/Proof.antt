@@ -7,13 +7,10 @@ use borrow.Author.Rules.{rules}
 use Rattle.clearing.proofs.mirror_clear.mirror_clear.Statement.{statement}
 use Rattle.clearing.proofs.mirror_clear.mirror_clear.Tie as tie
 
-abbrev start : tie.After-clear-image → tie.Start
-start c = c.before.before.before.before
-
 returns : tie.Need-returns
 returns c =
-    let z = c.before.before.clear-image.ensures in
-    let a = (start c.before.before).args in
+    let z = c.clear_image.ensures in
+    let a = c.args in
     let room = length a.workspace.now in
     let means = mirror_means a.table.now a.allowance room in
     record {
@@ -23,5 +20,5 @@ returns c =
           subst (MirrorClearSays a.table.now a.allowance room) (sym z.stated) means;
     }
 
-pub mirror-clear-spec : {M : Type 1} → statement M
-mirror-clear-spec = tie.close (tie.spec (λ c κs. search rules) (λ c. search rules) returns)
+pub mirror_clear_spec : {M : Type 1} → statement M
+mirror_clear_spec = tie.close (tie.spec (λ c κs. search rules) (λ c. search rules) returns)

@@ -10,38 +10,38 @@ use borrow.Author.Rules.{rules}
 use Rattle.comparing.proofs.compare.compare.Statement.{statement}
 use Rattle.comparing.proofs.compare.compare.Tie as tie
 
-abbrev start : tie.After-cells2 → tie.Start
+abbrev start : tie.After-cells-2-1 → tie.Start
 start c = c.before.before.before.before.before.before.before
 
-abbrev after-cells2 : tie.At-match-keys1 → tie.After-cells2
-after-cells2 c = c.before
+abbrev after_cells2 : tie.In-Refused → tie.After-cells-2-1
+after_cells2 c = c.before
 
-abbrev after-cells2-from-after-read2 : tie.After-read2 → tie.After-cells2
-after-cells2-from-after-read2 c = c.before.before
+abbrev after_cells2_from_after_read2 : tie.In-Programs → tie.After-cells-2-1
+after_cells2_from_after_read2 c = c.before
 
-abbrev after-read2 : tie.After-compare-programs-arg → tie.After-read2
-after-read2 c = c.before.before.before
+abbrev after_read2 : tie.After-compare_programs-arg-1 → tie.In-Programs
+after_read2 c = c.before.before
 
-read-programs-requires : tie.Need-read-programs-requires
-read-programs-requires c κs = blank_zeros
+read_programs-read-requires : tie.Need-read_programs-read-requires
+read_programs-read-requires c κs = blank_zeros
 
-compare-programs-requires : tie.Need-compare-programs-requires
-compare-programs-requires c κs =
-    let k = after-cells2-from-after-read2 (after-read2 c) in
-    let a = (start k).args in
-    let v = k.before.read-programs in
-    let t = subst (ProgramsDone a.table.now a.first.now a.second.now ForwardAlone v.last.1.1.1.1.0)
-    c.before.before.before.read2.given.1 v.ensures in
+compare_programs-requires : tie.Need-compare_programs-requires
+compare_programs-requires c κs =
+    let k = after_cells2_from_after_read2 (after_read2 c) in
+    let a = k.args in
+    let v = k.read_programs-read in
+    let t = subst (ProgramsDone a.table.now a.first.now a.second.now ForwardAlone v.new.cells)
+    c.in-Programs.is v.ensures in
     (t.forward, t.weights)
 
-returns : tie.Need-returns
-returns c =
-    let k = after-cells2 c.before.before in
-    let a = (start k).args in
-    let v = k.before.read-programs in
-    let e = subst (ProgramsDone a.table.now a.first.now a.second.now ForwardAlone v.last.1.1.1.1.0) c.before.read.given.1
+returns-in-Refused : tie.Need-returns-in-Refused
+returns-in-Refused c =
+    let k = after_cells2 c in
+    let a = k.args in
+    let v = k.read_programs-read in
+    let e = subst (ProgramsDone a.table.now a.first.now a.second.now ForwardAlone v.new.cells) c.in-Refused.is
     v.ensures in
-    let o = compare_refused a.table.now a.first.now a.second.now a.allowance (length a.workspace.now) c.before.read.given.0.0 e in
+    let o = compare_refused a.table.now a.first.now a.second.now a.allowance (length a.workspace.now) c.in-Refused.refusal e in
     record {
       stated = o.stated;
       workspace_is = o.workspace a.workspace.now;
@@ -49,14 +49,14 @@ returns c =
           compare_means a.table.now a.first.now a.second.now a.allowance (length a.workspace.now) _ o.stated;
     }
 
-returns-2 : tie.Need-returns-2
-returns-2 c =
-    let k = after-read2 c.before.before.before in
-    let a = (start (after-cells2-from-after-read2 k)).args in
-    let v = (after-cells2-from-after-read2 k).before.read-programs in
-    let t = subst (ProgramsDone a.table.now a.first.now a.second.now ForwardAlone v.last.1.1.1.1.0) k.read2.given.1 v.ensures in
+returns-in-Programs : tie.Need-returns-in-Programs
+returns-in-Programs c =
+    let k = after_read2 c.before.before.before in
+    let a = (start (after_cells2_from_after_read2 k)).args in
+    let v = k.read_programs-read in
+    let t = subst (ProgramsDone a.table.now a.first.now a.second.now ForwardAlone v.new.cells) k.in-Programs.is v.ensures in
     let f = t.forward in
-    let z = c.before.before.compare-programs in
+    let z = c.compare_programs in
     let j = z.ensures.judged f.table f.of f.pair.one.word f.pair.two.word f.pair.one.read f.pair.two.read in
     let o = j.verdict ∙ sym
     (compare_runs a.table.now a.first.now a.second.now a.allowance (length a.workspace.now) f.table f.pair.one.word
@@ -68,7 +68,7 @@ returns-2 c =
           compare_means a.table.now a.first.now a.second.now a.allowance (length a.workspace.now) _ o;
     }
 
-pub compare-spec : {M : Type 1} → statement M
-compare-spec =
-    tie.close (tie.spec (λ c. search rules) read-programs-requires (λ c. search rules) (λ c. search rules) (λ c. search rules) compare-programs-requires
-    returns (λ c. search rules) returns-2)
+pub compare_spec : {M : Type 1} → statement M
+compare_spec =
+    tie.close (tie.spec (λ c. search rules) read_programs-read-requires (λ c. search rules) (λ c. search rules) (λ c. search rules) compare_programs-requires
+    returns-in-Refused (λ c. search rules) returns-in-Programs)

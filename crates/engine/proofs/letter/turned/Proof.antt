@@ -8,5 +8,5 @@ use Rattle.engine.proofs.letter.turned.Tie as tie
 returns : tie.Need-returns
 returns c = letter_turned c.args.x (omega (arith, c.ranges.x))
 
-pub turned-spec : {M : Type 1} → statement M
-turned-spec = tie.close (tie.spec (λ c. search rules) (λ c. search rules) (λ c. search rules) returns)
+pub turned_spec : {M : Type 1} → statement M
+turned_spec = tie.close (tie.spec (λ c. search rules) (λ c. search rules) (λ c. search rules) returns)

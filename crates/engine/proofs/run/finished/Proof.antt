@@ -8,16 +8,16 @@ use borrow.Author.Rules.{rules}
 use Rattle.engine.proofs.run.finished.Statement.{statement}
 use Rattle.engine.proofs.run.finished.Tie as tie
 
-abbrev start : tie.After-forward-letters → tie.Start
+abbrev start : tie.After-forward_letters-numerator → tie.Start
 start c = c.before.before
 
-sub-t6 : tie.Need-overflow-sub-t6
-sub-t6 c = omega (arith, c.forward_letters.ensures, counts_few (start c).args.bytes.now (start c).args.end)
+overflow_sub-result : tie.Need-overflow_sub-result
+overflow_sub-result c = omega (arith, c.forward_letters-numerator.ensures, counts_few (start c).args.bytes.now (start c).args.end)
 
 returns : tie.Need-returns
 returns c =
     let s = (start c).args in
-    ap (λ n. Finished n (s.end - n) s.steps s.relations) c.forward_letters.ensures
+    ap (λ n. Finished n (s.end - n) s.steps s.relations) c.forward_letters-numerator.ensures
 
-pub finished-spec : {M : Type 1} → statement M
-finished-spec = tie.close (tie.spec (λ c κs. search rules) sub-t6 returns)
+pub finished_spec : {M : Type 1} → statement M
+finished_spec = tie.close (tie.spec (λ c κs. search rules) overflow_sub-result returns)

@@ -16,125 +16,125 @@ use Rattle.engine.proofs.Progress.{Progress, begun, serves_now, finishes, meets,
 use Rattle.engine.proofs.run.reversing.Statement.{statement}
 use Rattle.engine.proofs.run.reversing.Tie as tie
 
-abbrev invariant-loop : tie.invariant-loop
-invariant-loop cells bytes₀ budget gap₀ steps₀ relations₀ bytes gap steps relations =
+abbrev invariant-loop-end : tie.invariant-loop-end
+invariant-loop-end cells bytes₀ budget gap₀ steps₀ relations₀ bytes gap steps relations =
     Progress cells (word_at bytes₀ gap₀.left gap₀.right) budget (length bytes₀) bytes gap.left gap.right steps relations
 
-abbrev decreases-loop : tie.decreases-loop
-decreases-loop cells bytes₀ budget gap₀ steps₀ relations₀ bytes gap steps relations = budget - steps
+abbrev decreases-loop-end : tie.decreases-loop-end
+decreases-loop-end cells bytes₀ budget gap₀ steps₀ relations₀ bytes gap steps relations = budget - steps
 
-abbrev start : tie.At-loop invariant-loop decreases-loop → tie.Start invariant-loop decreases-loop
+abbrev start : tie.At-loop-end invariant-loop-end decreases-loop-end → tie.Start invariant-loop-end decreases-loop-end
 start c = c.before.before.before
 
 -- a turn of the loop: where it began, and the bytes that it left
-abbrev loop : tie.After-slice-known2 invariant-loop decreases-loop → tie.At-loop invariant-loop decreases-loop
+abbrev loop : tie.After-slice_known-in-loop-end-1 invariant-loop-end decreases-loop-end → tie.At-loop-end invariant-loop-end decreases-loop-end
 loop c = c.before.before.before.before
 
-abbrev left : tie.After-slice-known2 invariant-loop decreases-loop → List ℕ
-left c = c.before.before.advance.new.1.0
+abbrev left : tie.After-slice_known-in-loop-end-1 invariant-loop-end decreases-loop-end → List ℕ
+left c = c.advance-turn.new.bytes
 
-kept : (c : tie.After-slice-known2 invariant-loop decreases-loop) → length (left c) ≡ length (start (loop c)).args.bytes.now
-kept c = c.before.before.advance.ensures.0 ∙ (loop c).loop.invariant.kept
+kept : (c : tie.After-slice_known-in-loop-end-1 invariant-loop-end decreases-loop-end) → length (left c) ≡ length (start (loop c)).args.bytes.now
+kept c = c.advance-turn.ensures.0 ∙ (loop c).loop-end.invariant.kept
 
-abbrev Means : tie.After-slice-known2 invariant-loop decreases-loop → Turn → Type 0
+abbrev Means : tie.After-slice_known-in-loop-end-1 invariant-loop-end decreases-loop-end → Turn → Type 0
 Means c r =
-    let l = (loop c).loop in
+    let l = (loop c).loop-end in
     TurnMeans (start (loop c)).args.cells.now (word_at l.bytes l.gap.left l.gap.right) ((start (loop c)).args.budget - l.steps) (left c) r
 
-means : (c : tie.After-slice-known2 invariant-loop decreases-loop) (r : Turn) → c.before.before.advance.result ≡ r → Means c r
-means c r e = subst (Means c) e c.before.before.advance.ensures.1
+means : (c : tie.After-slice_known-in-loop-end-1 invariant-loop-end decreases-loop-end) (r : Turn) → c.advance-turn.result ≡ r → Means c r
+means c r e = subst (Means c) e c.advance-turn.ensures.1
 
-loop-holds : tie.Need-loop-init invariant-loop decreases-loop
-loop-holds c =
+loop-end-init : tie.Need-loop-end-init invariant-loop-end decreases-loop-end
+loop-end-init c =
     let s = c.before.before in
     begun s.args.cells.now s.args.bytes.now s.args.start.left s.args.start.right s.args.budget s.requires.0
 
-sub-advance : tie.Need-overflow-sub-advance invariant-loop decreases-loop
-sub-advance c = c.before.loop.invariant.within
+overflow_sub-budget : tie.Need-overflow_sub-budget invariant-loop-end decreases-loop-end
+overflow_sub-budget c = c.loop-end.invariant.within
 
-advance-requires : tie.Need-advance-requires invariant-loop decreases-loop
-advance-requires c κs =
+advance-turn-requires : tie.Need-advance-turn-requires invariant-loop-end decreases-loop-end
+advance-turn-requires c κs =
     let s = start c.before in
-    let l = c.before.loop in
-    (l.invariant.searched, (s.pre.1.0, serves_now l.invariant s.pre.1.0 s.pre.1.1))
+    let l = c.loop-end in
+    (l.invariant.searched, (s.requires.1.0, serves_now l.invariant s.requires.1.0 s.requires.1.1))
 
 -- the word has no site
-abbrev final : tie.After-turn invariant-loop decreases-loop → tie.After-slice-known2 invariant-loop decreases-loop
-final c = c.before.before
+abbrev final : tie.In-Final invariant-loop-end decreases-loop-end → tie.After-slice_known-in-loop-end-1 invariant-loop-end decreases-loop-end
+final c = c.before
 
-abbrev end : tie.After-finished invariant-loop decreases-loop → tie.After-turn invariant-loop decreases-loop
-end c = c.before.before.before
+abbrev end : tie.After-finished invariant-loop-end decreases-loop-end → tie.In-Final invariant-loop-end decreases-loop-end
+end c = c.before
 
-finished-requires : tie.Need-finished-requires invariant-loop decreases-loop
+finished-requires : tie.Need-finished-requires invariant-loop-end decreases-loop-end
 finished-requires c κs =
-    let t = c.before.before in
+    let t = c in
     let k = final t in
     let s = start (loop k) in
-    let e = (means k _ t.turn.given.1 s.pre.1.0 (serves_now (loop k).loop.inv s.pre.1.0 s.pre.1.1)).1 in
+    let e = (means k _ t.in-Final.is s.requires.1.0 (serves_now (loop k).loop-end.invariant s.requires.1.0 s.requires.1.1)).1 in
     omega (arith, e.ordered, e.all)
 
-returns : tie.Need-returns invariant-loop decreases-loop
-returns c =
+returns-in-Final : tie.Need-returns-in-Final invariant-loop-end decreases-loop-end
+returns-in-Final c =
     let t = end c in
     let k = final t in
     let s = start (loop k) in (
       kept k,
       subst (RunMeans s.args.cells.now (word_at s.args.bytes.now s.args.start.left s.args.start.right) s.args.budget (left k))
           (sym c.finished.ensures)
-          (finishes (loop k).loop.inv (left k) k.before.before.advance.ensures.0 t.turn.given.0.0 _ refl (means k _ t.turn.given.1)),
+          (finishes (loop k).loop-end.invariant (left k) k.advance-turn.ensures.0 t.in-Final.end _ refl (means k _ t.in-Final.is)),
     )
 
-returns-2 : tie.Need-returns-2 invariant-loop decreases-loop
-returns-2 c =
-    let k = c.before.before.before in
-    let t = c.before.turn2.given in
-    (kept k, meets (loop k).loop.invariant (left k) k.before.before.advance.ensures.0 t.0.0 (means k _ t.1))
+returns-in-Undefined : tie.Need-returns-in-Undefined invariant-loop-end decreases-loop-end
+returns-in-Undefined c =
+    let k = c.before in
+    let t = c.in-Undefined in
+    (kept k, meets (loop k).loop-end.invariant (left k) k.advance-turn.ensures.0 t.pair (means k _ t.is))
 
-returns-3 : tie.Need-returns-3 invariant-loop decreases-loop
-returns-3 c =
-    let k = c.before.before.before in
-    let t = c.before.turn3.given in
-    (kept k, stops (loop k).loop.invariant (left k) k.before.before.advance.ensures.0 t.0.0 (means k _ t.1))
+returns-in-Stopped : tie.Need-returns-in-Stopped invariant-loop-end decreases-loop-end
+returns-in-Stopped c =
+    let k = c.before in
+    let t = c.in-Stopped in
+    (kept k, stops (loop k).loop-end.invariant (left k) k.advance-turn.ensures.0 t.stop (means k _ t.is))
 
 -- a step was taken
-abbrev stepped : tie.After-known-told4 invariant-loop decreases-loop → tie.After-slice-known2 invariant-loop decreases-loop
-stepped c = c.before.before.before
+abbrev stepped : tie.In-Stepped invariant-loop-end decreases-loop-end → tie.After-slice_known-in-loop-end-1 invariant-loop-end decreases-loop-end
+stepped c = c.before
 
-abbrev gap : tie.After-known-told4 invariant-loop decreases-loop → Gap
-gap c = c.before.turn4.given.0.0
+abbrev gap : tie.In-Stepped invariant-loop-end decreases-loop-end → Gap
+gap c = c.in-Stepped.next
 
-abbrev pair : tie.After-known-told4 invariant-loop decreases-loop → Pair
-pair c = c.before.turn4.given.0.1.0
+abbrev pair : tie.In-Stepped invariant-loop-end decreases-loop-end → Pair
+pair c = c.in-Stepped.pair
 
-step-means : (c : tie.After-known-told4 invariant-loop decreases-loop) → Means (stepped c) (Stepped (gap c) (pair c))
-step-means c = means (stepped c) _ c.before.turn4.given.1
+step_means : (c : tie.In-Stepped invariant-loop-end decreases-loop-end) → Means (stepped c) (Stepped (gap c) (pair c))
+step_means c = means (stepped c) _ c.in-Stepped.is
 
-some_left : (c : tie.After-known-told4 invariant-loop decreases-loop) → (loop (stepped c)).loop.steps < (start (loop (stepped c))).args.budget
+some_left : (c : tie.In-Stepped invariant-loop-end decreases-loop-end) → (loop (stepped c)).loop-end.steps < (start (loop (stepped c))).args.budget
 some_left c =
     let k = stepped c in
     let s = start (loop k) in
-    left_over (loop k).loop.inv (left k) k.before.before.advance.ensures.0 (gap c) (pair c) (step-means c) s.pre.1.0 s.pre.1.1
+    left_over (loop k).loop-end.invariant (left k) k.advance-turn.ensures.0 (gap c) (pair c) (step_means c) s.requires.1.0 s.requires.1.1
 
-add-steps : tie.Need-overflow-add-steps invariant-loop decreases-loop
-add-steps c = omega (arith, some_left c, (start (loop (stepped c))).fits.budget)
+overflow_add-steps : tie.Need-overflow_add-steps invariant-loop-end decreases-loop-end
+overflow_add-steps c = omega (arith, some_left c, (start (loop (stepped c))).ranges.budget)
 
-counted-requires : tie.Need-counted-requires invariant-loop decreases-loop
-counted-requires c κs = omega (arith, some_left c, (start (loop (stepped c))).fits.budget, (loop (stepped c)).loop.inv.few)
+counted-relations-requires : tie.Need-counted-relations-requires invariant-loop-end decreases-loop-end
+counted-relations-requires c κs = omega (arith, some_left c, (start (loop (stepped c))).ranges.budget, (loop (stepped c)).loop-end.invariant.few)
 
-loop-less : tie.Need-loop-smaller invariant-loop decreases-loop
-loop-less c = omega (arith, some_left c.before)
+loop-end-smaller : tie.Need-loop-end-smaller invariant-loop-end decreases-loop-end
+loop-end-smaller c = omega (arith, some_left c.before)
 
-loop-again : tie.Need-loop-preserved invariant-loop decreases-loop
-loop-again c =
+loop-end-preserved : tie.Need-loop-end-preserved invariant-loop-end decreases-loop-end
+loop-end-preserved c =
     let k = stepped c.before in
     let s = start (loop k) in
-    let l = (loop k).loop in
-    advances l.inv (left k) k.before.before.advance.ensures.0 (gap c.before) (pair c.before) (step-means c.before) s.pre.1.0
-    s.pre.1.1 c.counted.result (sym c.counted.ensures)
-    (omega (arith, c.counted.ensures, count_within (pair c.before).a (pair c.before).b l.relations, l.inv.few))
+    let l = (loop k).loop-end in
+    advances l.invariant (left k) k.advance-turn.ensures.0 (gap c.before) (pair c.before) (step_means c.before) s.requires.1.0
+    s.requires.1.1 c.counted-relations.result (sym c.counted-relations.ensures)
+    (omega (arith, c.counted-relations.ensures, count_within (pair c.before).a (pair c.before).b l.relations, l.invariant.few))
 
-pub reversing-spec : {M : Type 1} → statement M
-reversing-spec =
-    tie.close (tie.spec invariant-loop decreases-loop loop-holds sub-advance advance-requires (λ c. search rules) finished-requires
-    (λ c. kept (final (end c))) returns (λ c. search rules) (λ c. kept c.before.before.before) returns-2 (λ c. search rules)
-    (λ c. kept c.before.before.before) returns-3 (λ c. search rules) add-steps counted-requires loop-less loop-again)
+pub reversing_spec : {M : Type 1} → statement M
+reversing_spec =
+    tie.close (tie.spec invariant-loop-end decreases-loop-end loop-end-init overflow_sub-budget advance-turn-requires (λ c. search rules) finished-requires
+    (λ c. kept (final (end c))) returns-in-Final (λ c. search rules) (λ c. kept c.before) returns-in-Undefined (λ c. search rules)
+    (λ c. kept c.before) returns-in-Stopped (λ c. search rules) overflow_add-steps counted-relations-requires loop-end-smaller loop-end-preserved)

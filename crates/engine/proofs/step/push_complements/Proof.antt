@@ -5,14 +5,14 @@ use Rattle.engine.proofs.Pushes.{pushed_both}
 use Rattle.engine.proofs.step.push_complements.Statement.{statement}
 use Rattle.engine.proofs.step.push_complements.Tie as tie
 
-abbrev after-push-inverse : tie.After-push-word → tie.After-push-inverse
-after-push-inverse c = c.before.before.before.before
+abbrev after_push_inverse : tie.After-push_word → tie.After-push_inverse-middle
+after_push_inverse c = c.before.before.before.before
 
 returns : tie.Need-returns
 returns c =
-    let pushed = c.before.before.push-word in
-    let inverted = (after-push-inverse c.before.before).push-inverse in
+    let pushed = c.push_word in
+    let inverted = (after_push_inverse c.before.before).push_inverse-middle in
     (omega (arith, pushed.ensures.0, inverted.ensures.0), pushed_both inverted.ensures.0 inverted.ensures.1 pushed.ensures.1)
 
-pub push-complements-spec : {M : Type 1} → statement M
-push-complements-spec = tie.close (tie.spec (λ c κs. search rules) (λ c κs. search rules) (λ c. search rules) returns)
+pub push_complements_spec : {M : Type 1} → statement M
+push_complements_spec = tie.close (tie.spec (λ c κs. search rules) (λ c κs. search rules) (λ c. search rules) returns)

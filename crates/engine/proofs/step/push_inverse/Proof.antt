@@ -10,21 +10,21 @@ use Rattle.engine.proofs.Pushes.{inverse_turn, inverse_none, inverse_all}
 use Rattle.engine.proofs.step.push_inverse.Statement.{statement}
 use Rattle.engine.proofs.step.push_inverse.Tie as tie
 
-abbrev invariant-loop : tie.invariant-loop
-invariant-loop bytes₀ right cells at next₀ i₀ bytes next i =
+abbrev invariant-loop-i : tie.invariant-loop-i
+invariant-loop-i bytes₀ right cells at next₀ i₀ bytes next i =
     (i ≤ get_or cells at 0) × (next + i ≡ right) × Pushed (inverse (letters (take i (drop (at + 1) cells)))) bytes₀ right i bytes
 
-abbrev decreases-loop : tie.decreases-loop
-decreases-loop bytes₀ right cells at next₀ i₀ bytes next i = get_or cells at 0 - i
+abbrev decreases-loop-i : tie.decreases-loop-i
+decreases-loop-i bytes₀ right cells at next₀ i₀ bytes next i = get_or cells at 0 - i
 
-abbrev start : tie.After-shared-slice-known2 invariant-loop decreases-loop → tie.Start invariant-loop decreases-loop
+abbrev start : tie.After-shared_slice_known-in-loop-i-1 invariant-loop-i decreases-loop-i → tie.Start invariant-loop-i decreases-loop-i
 start c = c.before.before.before.before
 
-abbrev after-shared-slice-known2 : tie.Then1 invariant-loop decreases-loop → tie.After-shared-slice-known2 invariant-loop decreases-loop
-after-shared-slice-known2 c = c.before
+abbrev after_shared_slice_known2 : tie.In-loop-i invariant-loop-i decreases-loop-i → tie.After-shared_slice_known-in-loop-i-1 invariant-loop-i decreases-loop-i
+after_shared_slice_known2 c = c.before
 
-loop-holds : tie.Need-loop-init invariant-loop decreases-loop
-loop-holds c =
+loop-i-init : tie.Need-loop-i-init invariant-loop-i decreases-loop-i
+loop-i-init c =
     let s = c.before.before in (
       omega arith,
       omega arith,
@@ -32,67 +32,68 @@ loop-holds c =
           s.args.bytes.now s.args.right s.requires.inside s.requires.room,
     )
 
-shared-slice-read-if1 : tie.Need-shared-slice-read-if1 invariant-loop decreases-loop
-shared-slice-read-if1 c = omega (arith, (start c).requires.held)
+bounds-cells-at : tie.Need-bounds-cells-at invariant-loop-i decreases-loop-i
+bounds-cells-at c = omega (arith, (start c).requires.held)
 
-cast-if1 : tie.Need-overflow-cast-if1 invariant-loop decreases-loop
-cast-if1 c = omega (arith, c.shared-slice-known2.given (start c).args.at)
+overflow_cast-cells : tie.Need-overflow_cast-cells invariant-loop-i decreases-loop-i
+overflow_cast-cells c = omega (arith, c.shared_slice_known-in-loop-i-1.given (start c).args.at)
 
-sub-next : tie.Need-overflow-sub-next invariant-loop decreases-loop
-sub-next c = omega (arith, (start (after-shared-slice-known2 c)).pre.room, c.before.before.loop.invariant.1, c.if1.true)
+overflow_sub-next : tie.Need-overflow_sub-next invariant-loop-i decreases-loop-i
+overflow_sub-next c = omega (arith, (start (after_shared_slice_known2 c)).requires.room, c.loop-i.invariant.1, c.loop-i-test.true)
 
-add_turned : tie.Need-overflow-add-turned invariant-loop decreases-loop
-add_turned c = omega (arith, (start (after-shared-slice-known2 c)).pre.held)
+overflow_add-at : tie.Need-overflow_add-at invariant-loop-i decreases-loop-i
+overflow_add-at c = omega (arith, (start (after_shared_slice_known2 c)).requires.held)
 
-add-turned-2 : tie.Need-overflow-add-turned-2 invariant-loop decreases-loop
-add-turned-2 c = omega (arith, (start (after-shared-slice-known2 c)).pre.held, c.if1.true)
+overflow_add-at-in-loop-i : tie.Need-overflow_add-at-in-loop-i invariant-loop-i decreases-loop-i
+overflow_add-at-in-loop-i c = omega (arith, (start (after_shared_slice_known2 c)).requires.held, c.loop-i-test.true)
 
-shared-slice-read-turned : tie.Need-shared-slice-read-turned invariant-loop decreases-loop
-shared-slice-read-turned c = omega (arith, (start (after-shared-slice-known2 c.before)).pre.held, c.before.if1.true)
+bounds-cells-at-in-loop-i : tie.Need-bounds-cells-at-in-loop-i invariant-loop-i decreases-loop-i
+bounds-cells-at-in-loop-i c = omega (arith, (start (after_shared_slice_known2 c.before)).requires.held, c.loop-i-test.true)
 
-turned-requires : tie.Need-turned-requires invariant-loop decreases-loop
+turned-requires : tie.Need-turned-requires invariant-loop-i decreases-loop-i
 turned-requires c κs = tt
 
-slice-write-bytes : tie.Need-slice-write-bytes invariant-loop decreases-loop
-slice-write-bytes c =
-    let k = after-shared-slice-known2 c.before.before in
-    omega (arith, (start k).pre.inside, (start k).pre.room, k.before.loop.inv.1, k.before.loop.inv.2.same_length, c.before.before.if1.true)
+bounds-bytes-next : tie.Need-bounds-bytes-next invariant-loop-i decreases-loop-i
+bounds-bytes-next c =
+    let k = after_shared_slice_known2 c.before.before in
+    omega (arith, (start k).requires.inside, (start k).requires.room, k.loop-i.invariant.1, k.loop-i.invariant.2.same_length, c.loop-i-test.true)
 
-add-i : tie.Need-overflow-add-i invariant-loop decreases-loop
-add-i c = omega (arith, (start (after-shared-slice-known2 c.before.before)).pre.room, c.before.before.if1.true)
+overflow_add-i : tie.Need-overflow_add-i invariant-loop-i decreases-loop-i
+overflow_add-i c = omega (arith, (start (after_shared_slice_known2 c.before.before)).requires.room, c.loop-i-test.true)
 
-loop-less : tie.Need-loop-smaller invariant-loop decreases-loop
-loop-less c = omega (arith, c.before.before.if1.true)
+loop-i-smaller : tie.Need-loop-i-smaller invariant-loop-i decreases-loop-i
+loop-i-smaller c = omega (arith, c.loop-i-test.true)
 
-loop-again : tie.Need-loop-preserved invariant-loop decreases-loop
-loop-again c =
-    let k = after-shared-slice-known2 c.before.before in
+loop-i-preserved : tie.Need-loop-i-preserved invariant-loop-i decreases-loop-i
+loop-i-preserved c =
+    let k = after_shared_slice_known2 c.before.before in
     let s = start k in
-    let l = k.before.loop in
-    let some = c.before.before.if1.true in
-    let place : s.args.right - 1 - l.i ≡ l.next - 1 = omega (arith, l.inv.1) in (
+    let l = k.loop-i in
+    let some = c.loop-i-test.true in
+    let place : s.args.right - 1 - l.i ≡ l.next - 1 = omega (arith, l.invariant.1) in (
       omega (arith, some),
-      omega (arith, l.inv.1, some, s.pre.room),
+      omega (arith, l.invariant.1, some, s.requires.room),
       subst (λ p. Pushed (inverse (letters (take (l.i + 1) (drop (s.args.at + 1) s.args.cells.now)))) s.args.bytes.now s.args.right (l.i + 1)
           (set l.bytes p c.turned.result)) place
-          (inverse_turn s.args.cells.now (s.args.at + 1) (get_or s.args.cells.now s.args.at 0) (omega (arith, s.pre.held)) s.args.bytes.now
-          s.args.right s.pre.inside s.pre.room l.bytes l.i c.turned.result some c.turned.ensures l.inv.2),
+          (inverse_turn s.args.cells.now (s.args.at + 1) (get_or s.args.cells.now s.args.at 0) (omega (arith, s.requires.held)) s.args.bytes.now
+          s.args.right s.requires.inside s.requires.room l.bytes l.i c.turned.result some c.turned.ensures l.invariant.2),
     )
 
-same_length : tie.Need-same-length invariant-loop decreases-loop
-same_length c = c.before.before.loop.invariant.2.same_length
+shape_of-bytes : tie.Need-shape_of-bytes invariant-loop-i decreases-loop-i
+shape_of-bytes c = c.loop-i.invariant.2.same_length
 
-returns : tie.Need-returns invariant-loop decreases-loop
+returns : tie.Need-returns invariant-loop-i decreases-loop-i
 returns c =
     let s = start c.before in
-    let l = c.before.before.loop in
-    let all : l.i ≡ get_or s.args.cells.now s.args.at 0 = omega (arith, c.if1.false, l.invariant.0) in (
+    let l = c.loop-i in
+    let all : l.i ≡ get_or s.args.cells.now s.args.at 0 = omega (arith, c.loop-i-test.false, l.invariant.0) in (
       omega (arith, l.invariant.1),
-      inverse_all s.args.cells.now (s.args.at + 1) (get_or s.args.cells.now s.args.at 0) (omega (arith, s.pre.held))
-          s.args.bytes.now s.args.right s.pre.inside s.pre.room l.bytes l.i all l.invariant.2,
+      inverse_all s.args.cells.now (s.args.at + 1) (get_or s.args.cells.now s.args.at 0) (omega (arith, s.requires.held))
+          s.args.bytes.now s.args.right s.requires.inside s.requires.room l.bytes l.i all l.invariant.2,
     )
 
-pub push-inverse-spec : {M : Type 1} → statement M
-push-inverse-spec =
-    tie.close (tie.spec invariant-loop decreases-loop loop-holds shared-slice-read-if1 cast-if1 sub-next add_turned add-turned-2 shared-slice-read-turned turned-requires
-    slice-write-bytes add-i loop-less loop-again same_length returns)
+pub push_inverse_spec : {M : Type 1} → statement M
+push_inverse_spec =
+    tie.close (tie.spec invariant-loop-i decreases-loop-i loop-i-init bounds-cells-at overflow_cast-cells overflow_sub-next overflow_add-at
+    overflow_add-at-in-loop-i bounds-cells-at-in-loop-i turned-requires
+    bounds-bytes-next overflow_add-i loop-i-smaller loop-i-preserved shape_of-bytes returns)

@@ -7,20 +7,20 @@ use Rattle.engine.proofs.Moving.{Moving, moving_start, moving_turn, moving_done}
 use Rattle.engine.proofs.words.move_to_end.Statement.{statement}
 use Rattle.engine.proofs.words.move_to_end.Tie as tie
 
-abbrev invariant-loop : tie.invariant-loop
-invariant-loop bytes₀ from count end i₀ bytes i =
+abbrev invariant-loop-i : tie.invariant-loop-i
+invariant-loop-i bytes₀ from count end i₀ bytes i =
     (i ≤ count) × (end ≡ length bytes₀) × ((inside : from + count ≤ length bytes₀) → Moving bytes₀ from count inside i bytes) × (length bytes ≡ length bytes₀)
 
-abbrev decreases-loop : tie.decreases-loop
-decreases-loop bytes₀ from count end i₀ bytes i = count - i
+abbrev decreases-loop-i : tie.decreases-loop-i
+decreases-loop-i bytes₀ from count end i₀ bytes i = count - i
 
-loop-holds : tie.Need-loop-init invariant-loop decreases-loop
-loop-holds c = (omega arith, refl, λ h. moving_start c.args.bytes.now c.args.from c.args.count h, refl)
+loop-i-init : tie.Need-loop-i-init invariant-loop-i decreases-loop-i
+loop-i-init c = (omega arith, refl, λ h. moving_start c.args.bytes.now c.args.from c.args.count h, refl)
 
-loop-again : tie.Need-loop-preserved invariant-loop decreases-loop
-loop-again c =
+loop-i-preserved : tie.Need-loop-i-preserved invariant-loop-i decreases-loop-i
+loop-i-preserved c =
     let s = c.before.before.before in
-    let l = c.before.before.loop in (
+    let l = c.loop-i in (
       omega arith,
       refl,
       λ h. moving_turn s.args.bytes.now s.args.from s.args.count h l.bytes l.i (l.invariant.2 h) (length s.args.bytes.now)
@@ -28,16 +28,17 @@ loop-again c =
       simp length-set l.invariant.3,
     )
 
-same_length : tie.Need-same-length invariant-loop decreases-loop
-same_length c = c.before.loop.invariant.3
+shape_of-bytes : tie.Need-shape_of-bytes invariant-loop-i decreases-loop-i
+shape_of-bytes c = c.loop-i.invariant.3
 
-returns : tie.Need-returns invariant-loop decreases-loop
+returns : tie.Need-returns invariant-loop-i decreases-loop-i
 returns c =
     let s = c.before.before in
-    let l = c.before.loop in
+    let l = c.loop-i in
     moving_done s.args.bytes.now s.args.from s.args.count s.requires l.bytes l.i (l.invariant.2 s.requires) (omega arith)
 
-pub move-to-end-spec : {M : Type 1} → statement M
-move-to-end-spec =
-    tie.close (tie.spec invariant-loop decreases-loop loop-holds (λ c. omega arith) (λ c. omega arith) (λ c. omega arith) (λ c. omega arith) (λ c. omega arith)
-    (λ c. omega arith) (λ c. omega arith) (λ c. omega arith) (λ c. omega arith) loop-again same_length returns)
+pub move_to_end_spec : {M : Type 1} → statement M
+move_to_end_spec =
+    tie.close (tie.spec invariant-loop-i decreases-loop-i loop-i-init (λ c. omega arith) (λ c. omega arith) (λ c. omega arith) (λ c. omega arith)
+    (λ c. omega arith)
+    (λ c. omega arith) (λ c. omega arith) (λ c. omega arith) (λ c. omega arith) loop-i-preserved shape_of-bytes returns)

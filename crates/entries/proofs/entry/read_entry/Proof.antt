@@ -8,107 +8,107 @@ use Rattle.entries.proofs.entry.read_entry.Statement.{statement}
 use Rattle.entries.proofs.entry.read_entry.Tie as tie
 use Rattle.model.specs.Images.{offset_width}
 
-abbrev start : tie.After-letter-width → tie.Start
+abbrev start : tie.After-letter_width-width → tie.Start
 start c = c.before.before.before
 
-abbrev after-letter-width : tie.After-read-field → tie.After-letter-width
-after-letter-width c = c.before
+abbrev after_letter_width : tie.After-read_field-offset → tie.After-letter_width-width
+after_letter_width c = c.before
 
-read-field-requires : tie.Need-read-field-requires
-read-field-requires c κs =
-    first_inside c.before.before.before.requires c.before.position.result c.before.position.ensures
+read_field-offset-requires : tie.Need-read_field-offset-requires
+read_field-offset-requires c κs =
+    first_inside c.requires c.position-at.result c.position-at.ensures
 
-add-read-field : tie.Need-overflow-add-read-field
-add-read-field c =
-    let k = start (after-letter-width c) in
-    omega (arith, entry_small k.args.size k.args.index k.pre.low, c.before.before.position.ensures)
+overflow_add-at : tie.Need-overflow_add-at
+overflow_add-at c =
+    let k = start (after_letter_width c) in
+    omega (arith, entry_small k.args.size k.args.index k.requires.low, c.position-at.ensures)
 
-read-field-requires-2 : tie.Need-read-field-requires-2
-read-field-requires-2 c κs =
-    second_inside (start (after-letter-width c)).requires c.before.before.position.result c.before.letter-width.result
-    c.before.before.position.ensures c.before.letter-width.ensures
+read_field-a-requires : tie.Need-read_field-a-requires
+read_field-a-requires c κs =
+    second_inside (start (after_letter_width c)).requires c.position-at.result c.letter_width-width.result
+    c.position-at.ensures c.letter_width-width.ensures
 
-add-read-field-2 : tie.Need-overflow-add-read-field-2
-add-read-field-2 c =
-    let k = start (after-letter-width c.before) in
-    omega (arith, entry_small k.args.size k.args.index k.pre.low, c.before.before.before.position.ensures)
+overflow_add-at-2 : tie.Need-overflow_add-at-2
+overflow_add-at-2 c =
+    let k = start (after_letter_width c.before) in
+    omega (arith, entry_small k.args.size k.args.index k.requires.low, c.position-at.ensures)
 
-add-read-field-3 : tie.Need-overflow-add-read-field-3
-add-read-field-3 c =
-    let k = start (after-letter-width c.before) in
+overflow_add-at-3 : tie.Need-overflow_add-at-3
+overflow_add-at-3 c =
+    let k = start (after_letter_width c.before) in
     omega (
       arith,
-      entry_small k.args.size k.args.index k.pre.low,
-      c.before.before.before.position.ensures,
-      c.before.before.letter-width.ensures,
+      entry_small k.args.size k.args.index k.requires.low,
+      c.position-at.ensures,
+      c.letter_width-width.ensures,
     )
 
-read-field-requires-3 : tie.Need-read-field-requires-3
-read-field-requires-3 c κs =
-    third_inside (start (after-letter-width c.before)).requires c.before.before.before.position.result c.before.before.letter-width.result
-    c.before.before.before.position.ensures c.before.before.letter-width.ensures
+read_field-b-requires : tie.Need-read_field-b-requires
+read_field-b-requires c κs =
+    third_inside (start (after_letter_width c.before)).requires c.position-at.result c.letter_width-width.result
+    c.position-at.ensures c.letter_width-width.ensures
 
-add-t12 : tie.Need-overflow-add-t12
-add-t12 c =
-    let k = after-letter-width c.before.before in
+overflow_add-result : tie.Need-overflow_add-result
+overflow_add-result c =
+    let k = after_letter_width c.before.before in
     let s = start k in
-    let at = k.before.position in
-    let width = c.before.before.before.letter-width in
+    let at = k.position-at in
+    let width = c.letter_width-width in
     omega (
       arith,
-      letter_small s.pre at.result width.result at.ensures width.ensures (at.result + offset_width) c.before.read-field2.result
-          (second_inside s.pre at.result width.result at.ensures width.ensures) c.before.read-field2.ensures,
+      letter_small s.requires at.result width.result at.ensures width.ensures (at.result + offset_width) c.read_field-a.result
+          (second_inside s.requires at.result width.result at.ensures width.ensures) c.read_field-a.ensures,
     )
 
-cast-t9 : tie.Need-overflow-cast-t9
-cast-t9 c =
-    let k = after-letter-width c.before.before in
+overflow_cast-result : tie.Need-overflow_cast-result
+overflow_cast-result c =
+    let k = after_letter_width c.before.before in
     let s = start k in
-    let at = k.before.position in
-    let width = c.before.before.before.letter-width in
+    let at = k.position-at in
+    let width = c.letter_width-width in
     omega (
       arith,
-      letter_small s.pre at.result width.result at.ensures width.ensures (at.result + offset_width) c.before.read-field2.result
-          (second_inside s.pre at.result width.result at.ensures width.ensures) c.before.read-field2.ensures,
+      letter_small s.requires at.result width.result at.ensures width.ensures (at.result + offset_width) c.read_field-a.result
+          (second_inside s.requires at.result width.result at.ensures width.ensures) c.read_field-a.ensures,
     )
 
-add-t13 : tie.Need-overflow-add-t13
-add-t13 c =
-    let k = after-letter-width c.before.before in
+overflow_add-result-2 : tie.Need-overflow_add-result-2
+overflow_add-result-2 c =
+    let k = after_letter_width c.before.before in
     let s = start k in
-    let at = k.before.position in
-    let width = c.before.before.before.letter-width in
+    let at = k.position-at in
+    let width = c.letter_width-width in
     omega (
       arith,
-      letter_small s.pre at.result width.result at.ensures width.ensures (at.result + offset_width + width.result) c.read-field3.result
-          (third_inside s.pre at.result width.result at.ensures width.ensures) c.read-field3.ensures,
+      letter_small s.requires at.result width.result at.ensures width.ensures (at.result + offset_width + width.result) c.read_field-b.result
+          (third_inside s.requires at.result width.result at.ensures width.ensures) c.read_field-b.ensures,
     )
 
-cast-t14 : tie.Need-overflow-cast-t14
-cast-t14 c =
-    let k = after-letter-width c.before.before in
+overflow_cast-result-2 : tie.Need-overflow_cast-result-2
+overflow_cast-result-2 c =
+    let k = after_letter_width c.before.before in
     let s = start k in
-    let at = k.before.position in
-    let width = c.before.before.before.letter-width in
+    let at = k.position-at in
+    let width = c.letter_width-width in
     omega (
       arith,
-      letter_small s.pre at.result width.result at.ensures width.ensures (at.result + offset_width + width.result) c.read-field3.result
-          (third_inside s.pre at.result width.result at.ensures width.ensures) c.read-field3.ensures,
+      letter_small s.requires at.result width.result at.ensures width.ensures (at.result + offset_width + width.result) c.read_field-b.result
+          (third_inside s.requires at.result width.result at.ensures width.ensures) c.read_field-b.ensures,
     )
 
 returns : tie.Need-returns
 returns c =
-    let k = after-letter-width c.before.before in
+    let k = after_letter_width c.before.before in
     let s = start k in
-    let at = k.before.position in
-    let width = c.before.before.before.letter-width in
+    let at = k.position-at in
+    let width = c.letter_width-width in
     λ e rest fit there.
-    entry_read s.pre at.result width.result at.ensures width.ensures e rest fit there
-    (record { offset = c.before.before.read-field.result; a = c.before.read-field2.result + 1; b = c.read-field3.result + 1 })
-    c.before.read-field2.result c.read-field3.result c.before.before.read-field.ensures c.before.read-field2.ensures
-    c.read-field3.ensures refl refl
+    entry_read s.requires at.result width.result at.ensures width.ensures e rest fit there
+    (record { offset = c.read_field-offset.result; a = c.read_field-a.result + 1; b = c.read_field-b.result + 1 })
+    c.read_field-a.result c.read_field-b.result c.read_field-offset.ensures c.read_field-a.ensures
+    c.read_field-b.ensures refl refl
 
-pub read-entry-spec : {M : Type 1} → statement M
-read-entry-spec =
-    tie.close (tie.spec (λ c κs. search rules) (λ c κs. search rules) (λ c. search rules) read-field-requires add-read-field read-field-requires-2
-    add-read-field-2 add-read-field-3 read-field-requires-3 add-t12 cast-t9 add-t13 cast-t14 returns)
+pub read_entry_spec : {M : Type 1} → statement M
+read_entry_spec =
+    tie.close (tie.spec (λ c κs. search rules) (λ c κs. search rules) (λ c. search rules) read_field-offset-requires overflow_add-at read_field-a-requires
+    overflow_add-at-2 overflow_add-at-3 read_field-b-requires overflow_add-result overflow_cast-result overflow_add-result-2 overflow_cast-result-2 returns)

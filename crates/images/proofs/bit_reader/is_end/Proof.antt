@@ -10,24 +10,24 @@ use borrow.Author.Rules.{rules}
 use Rattle.images.proofs.bit_reader.is_end.Statement.{statement}
 use Rattle.images.proofs.bit_reader.is_end.Tie as tie
 
-abbrev start : tie.After-struct-known → tie.Start
+abbrev start : tie.After-struct_known-1 → tie.Start
 start c = c.before
+
+returns-then-reader-image : tie.Need-returns-then-reader-image
+returns-then-reader-image c =
+    let s = c.before.before in
+    sym (filling_long s.args.image.now (place s.args.reader) (omega (arith, c.if-reader-image.true, s.requires.holds.begun)))
+
+nonzero_rem-result : tie.Need-nonzero_rem-result
+nonzero_rem-result c =
+    let s = start c.before.before.before in
+    span_some s.args.reader.held (omega (arith, s.requires.few))
 
 returns : tie.Need-returns
 returns c =
-    let s = c.before.before in
-    sym (filling_long s.args.image.now (place s.args.reader) (omega (arith, c.if1.true, s.requires.holds.begun)))
-
-rem-result : tie.Need-nonzero-rem-result
-rem-result c =
     let s = start c.before.before.before in
-    span_some s.args.reader.held (omega (arith, s.pre.few))
+    ap (λ n. eqb (s.args.reader.bits % n) 0) (span s.args.reader.held (omega (arith, s.requires.few)))
+    ∙ end_read s.args.image.now s.args.reader s.requires (omega (arith, c.if-reader-image.false))
 
-returns-2 : tie.Need-returns-2
-returns-2 c =
-    let s = start c.before.before.before in
-    ap (λ n. eqb (s.args.reader.bits % n) 0) (span s.args.reader.held (omega (arith, s.pre.few)))
-    ∙ end_read s.args.image.now s.args.reader s.pre (omega (arith, c.before.before.if1.false))
-
-pub is-end-spec : {M : Type 1} → statement M
-is-end-spec = tie.close (tie.spec returns (λ c. search rules) rem-result returns-2)
+pub is_end_spec : {M : Type 1} → statement M
+is_end_spec = tie.close (tie.spec returns-then-reader-image (λ c. search rules) nonzero_rem-result returns)

@@ -24,58 +24,59 @@ told : (c : tie.After-take) (r : Taken) → c.take.result ≡ r → TakenDone (s
 told c r e = subst (TakenDone (start c).args.image.now (start c).args.reader (start c).args.width) e c.take.ensures
 
 -- the field that was taken, and the reader behind it
-abbrev took : tie.After-known-told → tie.After-take
-took c = c.before.before.before
+abbrev took : tie.In-Value → tie.After-take
+took c = c.before
 
-abbrev value : tie.After-known-told → ℕ
-value c = c.before.value.given.0.0
+abbrev value : tie.In-Value → ℕ
+value c = c.in-Value.value
 
-abbrev behind : tie.After-known-told → BitReader
-behind c = c.before.value.given.0.1.0
+abbrev behind : tie.In-Value → BitReader
+behind c = c.in-Value.after
 
-taken : (c : tie.After-known-told)
+taken : (c : tie.In-Value)
     → TakenAt (start (took c)).args.image.now (place (start (took c)).args.reader) (start (took c)).args.width (value c) (behind c)
-taken c = told (took c) _ c.before.value.given.1
+taken c = told (took c) _ c.in-Value.is
 
-read : (c : tie.After-known-told)
+read : (c : tie.In-Value)
     → field 1 (start (took c)).args.width (bits (took c)) ≡ answered
     (record { value = value c; rest = from (start (took c)).args.image.now (place (behind c)) })
 read c = let s = start (took c) in taken_read s.args.image.now s.args.reader s.args.width (value c) (behind c) (taken c)
 
-returns : tie.Need-returns
-returns c =
+returns-then-value-low : tie.Need-returns-then-value-low
+returns-then-value-low c =
     let k = c.before in
     let s = start (took k) in
-    number_below s.args.width s.args.low s.args.many (bits (took k)) (value k) _ (read k) (omega (arith, c.if1.true))
+    number_below s.args.width s.args.low s.args.many (bits (took k)) (value k) _ (read k) (omega (arith, c.if-value-low.true))
 
-sub_number : tie.Need-overflow-sub-number
-sub_number c = search rules
+overflow_sub-number : tie.Need-overflow_sub-number
+overflow_sub-number c = search rules
 
-returns-2 : tie.Need-returns-2
-returns-2 c =
+returns-then-many-number : tie.Need-returns-then-many-number
+returns-then-many-number c =
     let k = c.before.before in
     let s = start (took k) in
-    number_above s.args.width s.args.low s.args.many (bits (took k)) (value k) _ (read k) (omega (arith, c.before.if1.false))
-    (omega (arith, c.if2.true))
+    number_above s.args.width s.args.low s.args.many (bits (took k)) (value k) _ (read k) (omega (arith, c.if-value-low.false))
+    (omega (arith, c.if-many-number.true))
 
-returns-3 : tie.Need-returns-3
-returns-3 c =
-    let t = c.before.before in
+returns-in-Ends : tie.Need-returns-in-Ends
+returns-in-Ends c =
+    let t = c.before in
     let s = start t in
     number_ends s.args.width s.args.low s.args.many (bits t)
-    (taken_ends s.args.image.now s.args.reader s.args.width s.pre.0 (told t _ c.enum_told.given.1))
+    (taken_ends s.args.image.now s.args.reader s.args.width s.requires.0 (told t _ c.in-Ends.is))
 
-returns-4 : tie.Need-returns-4
-returns-4 c =
+returns-else-many-number : tie.Need-returns-else-many-number
+returns-else-many-number c =
     let k = c.before.before in
     let s = start (took k) in
     record {
-      small = omega (arith, c.if2.false);
+      small = omega (arith, c.if-many-number.false);
       reads = (taken k).after.reads;
-      read = number_said s.args.width s.args.low s.args.many (bits (took k)) (value k) _ (read k) (omega (arith, c.before.if1.false))
-          (omega (arith, c.if2.false));
+      read = number_said s.args.width s.args.low s.args.many (bits (took k)) (value k) _ (read k) (omega (arith, c.if-value-low.false))
+          (omega (arith, c.if-many-number.false));
     }
 
-pub take-number-spec : {M : Type 1} → statement M
-take-number-spec =
-    tie.close (tie.spec (λ c κs. search rules) (λ c. search rules) (λ c. search rules) returns sub_number returns-2 (λ c. search rules) returns-3 returns-4)
+pub take_number_spec : {M : Type 1} → statement M
+take_number_spec =
+    tie.close (tie.spec (λ c κs. search rules) (λ c. search rules) (λ c. search rules) returns-then-value-low overflow_sub-number returns-then-many-number
+    (λ c. search rules) returns-in-Ends returns-else-many-number)

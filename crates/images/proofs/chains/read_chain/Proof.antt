@@ -13,142 +13,144 @@ use Rattle.images.proofs.Validating.{chain, Validated, count_ends, validated_non
 use Rattle.images.proofs.chains.read_chain.Statement.{statement}
 use Rattle.images.proofs.chains.read_chain.Tie as tie
 
-abbrev invariant-loop : tie.invariant-loop
-invariant-loop image size count width at₀ i₀ at i = Validated (chain size) image count at i
+abbrev invariant-loop-i : tie.invariant-loop-i
+invariant-loop-i image size count width at₀ i₀ at i = Validated (chain size) image count at i
 
-abbrev decreases-loop : tie.decreases-loop
-decreases-loop image size count width at₀ i₀ at i = count - i
+abbrev decreases-loop-i : tie.decreases-loop-i
+decreases-loop-i image size count width at₀ i₀ at i = count - i
 
-abbrev start-from-after-next-field : tie.After-next-field invariant-loop decreases-loop → tie.Start invariant-loop decreases-loop
-start-from-after-next-field c = c.before.before
+abbrev start_from_after_next_field : tie.After-next_field invariant-loop-i decreases-loop-i → tie.Start invariant-loop-i decreases-loop-i
+start_from_after_next_field c = c.before.before
 
-abbrev start : tie.After-known-told invariant-loop decreases-loop → tie.Start invariant-loop decreases-loop
-start c = c.before.before.before.before.before
+abbrev start : tie.In-Value invariant-loop-i decreases-loop-i → tie.Start invariant-loop-i decreases-loop-i
+start c = c.before.before.before
 
-count_at : (c : tie.After-known-told invariant-loop decreases-loop) → FieldAt (start c).args.image.now 0 chain_count_width c.before.count.given.0.0
-count_at c = subst (FieldDone (start c).args.image.now 0 chain_count_width) c.before.count.given.1 c.before.before.before.next_field.ensures
+count_at : (c : tie.In-Value invariant-loop-i decreases-loop-i) → FieldAt (start c).args.image.now 0 chain_count_width c.in-Value.count
+count_at c = subst (FieldDone (start c).args.image.now 0 chain_count_width) c.in-Value.is c.next_field.ensures
 
-narrow : (c : tie.After-letter-width invariant-loop decreases-loop) → c.letter-width.result ≤ size_width
-narrow c = subst (λ n. n ≤ size_width) (sym c.letter-width.ensures) (width_small (start c.before).args.size)
+narrow : (c : tie.After-letter_width-width invariant-loop-i decreases-loop-i) → c.letter_width-width.result ≤ size_width
+narrow c = subst (λ n. n ≤ size_width) (sym c.letter_width-width.ensures) (width_small (start c.before).args.size)
 
 -- a turn of the loop: what stands at the position
-abbrev loop : tie.After-next-entry invariant-loop decreases-loop → tie.At-loop invariant-loop decreases-loop
+abbrev loop : tie.After-next_entry invariant-loop-i decreases-loop-i → tie.At-loop-i invariant-loop-i decreases-loop-i
 loop c = c.before.before
 
-abbrev wide : tie.At-loop invariant-loop decreases-loop → tie.After-letter-width invariant-loop decreases-loop
+abbrev wide : tie.At-loop-i invariant-loop-i decreases-loop-i → tie.After-letter_width-width invariant-loop-i decreases-loop-i
 wide c = c.before
 
-abbrev began : tie.At-loop invariant-loop decreases-loop → tie.Start invariant-loop decreases-loop
+abbrev began : tie.At-loop-i invariant-loop-i decreases-loop-i → tie.Start invariant-loop-i decreases-loop-i
 began c = start (wide c).before
 
-abbrev count : tie.At-loop invariant-loop decreases-loop → ℕ
-count c = (wide c).before.before.count.given.0.0
+abbrev count : tie.At-loop-i invariant-loop-i decreases-loop-i → ℕ
+count c = (wide c).in-Value.count
 
-near : (c : tie.At-loop invariant-loop decreases-loop) → c.loop.at ≤ 1507344
-near c = omega (arith, c.loop.invariant.near, c.loop.invariant.some_left, (count_at (wide c).before).small)
+near : (c : tie.At-loop-i invariant-loop-i decreases-loop-i) → c.loop-i.at ≤ 1507344
+near c = omega (arith, c.loop-i.invariant.near, c.loop-i.invariant.some_left, (count_at (wide c).before).small)
 
-told : (c : tie.After-next-entry invariant-loop decreases-loop) → (r : EntryField) → c.next-entry.result ≡ r
-    → EntryDone (began (loop c)).args.image.now (loop c).loop.at (began (loop c)).args.size (wide (loop c)).letter-width.result r
+told : (c : tie.After-next_entry invariant-loop-i decreases-loop-i) → (r : EntryField) → c.next_entry.result ≡ r
+    → EntryDone (began (loop c)).args.image.now (loop c).loop-i.at (began (loop c)).args.size (wide (loop c)).letter_width-width.result r
 told c r e =
     let l = loop c in
     let s = began l in
-    subst (EntryDone s.args.image.now l.loop.at s.args.size (wide l).letter-width.result) e c.next-entry.ensures
+    subst (EntryDone s.args.image.now l.loop-i.at s.args.size (wide l).letter_width-width.result) e c.next_entry.ensures
 
-refused-by : (c : tie.After-next-entry invariant-loop decreases-loop) (n : ℕ)
-    → entry_field (began (loop c)).args.size (from (began (loop c)).args.image.now (loop c).loop.at) ≡ refused n unplaced
+refused_by : (c : tie.After-next_entry invariant-loop-i decreases-loop-i) (n : ℕ)
+    → entry_field (began (loop c)).args.size (from (began (loop c)).args.image.now (loop c).loop-i.at) ≡ refused n unplaced
     → read_chain (began (loop c)).args.size (began (loop c)).args.image.now ≡ refused n unplaced
-refused-by c n e =
+refused_by c n e =
     let l = loop c in
     let s = began l in
-    value_refused (chain s.args.size) s.args.image.now (count l) (count_at (wide l).before) l.loop.at l.loop.i l.loop.inv n
-    c.before.loop-test.true e
+    value_refused (chain s.args.size) s.args.image.now (count l) (count_at (wide l).before) l.loop-i.at l.loop-i.i l.loop-i.invariant n
+    c.loop-i-test.true e
 
-next-field-requires : tie.Need-next-field-requires invariant-loop decreases-loop
-next-field-requires c κs = record { narrow = omega arith; inside = omega arith; small = omega arith }
+next_field-requires : tie.Need-next_field-requires invariant-loop-i decreases-loop-i
+next_field-requires c κs = record { narrow = omega arith; inside = omega arith; small = omega arith }
 
-returns : tie.Need-returns invariant-loop decreases-loop
-returns c =
-    let s = start-from-after-next-field c.before.before in
+returns-in_default : tie.Need-returns-in_default invariant-loop-i decreases-loop-i
+returns-in_default c =
+    let s = start_from_after_next_field c.before in
     count_ends (chain s.args.size) s.args.image.now
-    (subst (FieldDone s.args.image.now 0 chain_count_width) c.enum_told.given.1 c.before.before.next_field.ensures)
+    (subst (FieldDone s.args.image.now 0 chain_count_width) c.in_default.is c.next_field.ensures)
 
-letter-width-requires : tie.Need-letter-width-requires invariant-loop decreases-loop
-letter-width-requires c κs = (start c).requires
+letter_width-width-requires : tie.Need-letter_width-width-requires invariant-loop-i decreases-loop-i
+letter_width-width-requires c κs = (start c).requires
 
-loop-holds : tie.Need-loop-init invariant-loop decreases-loop
-loop-holds c =
+loop-i-init : tie.Need-loop-i-init invariant-loop-i decreases-loop-i
+loop-i-init c =
     let k = c.before in
-    validated_none (chain (start k).args.size) (start k).args.image.now k.before.count.given.0.0 (count_at k)
+    validated_none (chain (start k).args.size) (start k).args.image.now k.in-Value.count (count_at k)
 
-next-entry-requires : tie.Need-next-entry-requires invariant-loop decreases-loop
-next-entry-requires c κs =
+next_entry-requires : tie.Need-next_entry-requires invariant-loop-i decreases-loop-i
+next_entry-requires c κs =
     let l = c.before in
     let s = began l in
     record {
-      inside = l.loop.invariant.inside;
+      inside = l.loop-i.invariant.inside;
       small = omega (arith, near l);
-      some = s.pre.0;
-      few = s.pre.1;
+      some = s.requires.0;
+      few = s.requires.1;
       narrow = narrow (wide l);
-      width_is = (wide l).letter-width.ensures;
+      width_is = (wide l).letter_width-width.ensures;
     }
 
-returns-2 : tie.Need-returns-2 invariant-loop decreases-loop
-returns-2 c = refused-by c.before.before 4 (told c.before.before _ c.enum-told2.given.1)
+returns-in-Ends : tie.Need-returns-in-Ends invariant-loop-i decreases-loop-i
+returns-in-Ends c = refused_by c.before 4 (told c.before _ c.in-Ends.is)
 
-returns-3 : tie.Need-returns-3 invariant-loop decreases-loop
-returns-3 c = refused-by c.before.before 5 (told c.before.before _ c.enum-told3.given.1)
+returns-in-Wrong : tie.Need-returns-in-Wrong invariant-loop-i decreases-loop-i
+returns-in-Wrong c = refused_by c.before 5 (told c.before _ c.in-Wrong.is)
 
 -- an entry was read
-abbrev turn : tie.After-enum-told4 invariant-loop decreases-loop → tie.After-next-entry invariant-loop decreases-loop
-turn c = c.before.before
+abbrev turn : tie.In-Found invariant-loop-i decreases-loop-i → tie.After-next_entry invariant-loop-i decreases-loop-i
+turn c = c.before
 
-add_at : tie.Need-overflow-add-at invariant-loop decreases-loop
-add_at c = omega (arith, near (loop (turn c)))
+overflow_add-at : tie.Need-overflow_add-at invariant-loop-i decreases-loop-i
+overflow_add-at c = omega (arith, near (loop (turn c)))
 
-add-at-2 : tie.Need-overflow-add-at-2 invariant-loop decreases-loop
-add-at-2 c = omega (arith, near (loop (turn c)), narrow (wide (loop (turn c))))
+overflow_add-at-in-Found : tie.Need-overflow_add-at-in-Found invariant-loop-i decreases-loop-i
+overflow_add-at-in-Found c = omega (arith, near (loop (turn c)), narrow (wide (loop (turn c))))
 
-add-at-3 : tie.Need-overflow-add-at-3 invariant-loop decreases-loop
-add-at-3 c = omega (arith, near (loop (turn c)), narrow (wide (loop (turn c))))
+overflow_add-at-in-Found-2 : tie.Need-overflow_add-at-in-Found-2 invariant-loop-i decreases-loop-i
+overflow_add-at-in-Found-2 c = omega (arith, near (loop (turn c)), narrow (wide (loop (turn c))))
 
-add-i : tie.Need-overflow-add-i invariant-loop decreases-loop
-add-i c = omega (arith, (turn c).before.loop-test.true, (count_at (wide (loop (turn c))).before).small)
+overflow_add-i : tie.Need-overflow_add-i invariant-loop-i decreases-loop-i
+overflow_add-i c = omega (arith, (turn c).loop-i-test.true, (count_at (wide (loop (turn c))).before).small)
 
-loop-less : tie.Need-loop-smaller invariant-loop decreases-loop
-loop-less c = omega (arith, (turn c).before.loop-test.true)
+loop-i-smaller : tie.Need-loop-i-smaller invariant-loop-i decreases-loop-i
+loop-i-smaller c = omega (arith, (turn c).loop-i-test.true)
 
-loop-again : tie.Need-loop-preserved invariant-loop decreases-loop
-loop-again c =
+loop-i-preserved : tie.Need-loop-i-preserved invariant-loop-i decreases-loop-i
+loop-i-preserved c =
     let l = loop (turn c) in
     let s = began l in
-    let w = (wide l).letter-width.result in
-    let x : EntryAt s.args.image.now l.loop.at s.args.size w c.enum-told4.given.0.0 = told (turn c) _ c.enum-told4.given.1 in
-    validated_more (chain s.args.size) s.args.image.now (count l) (count_at (wide l).before) l.loop.at l.loop.i l.loop.inv
-    (entry_of c.enum-told4.given.0.0) (l.loop.at + offset_width + w + w) (omega (arith, narrow (wide l)))
-    x.inside (turn c).before.loop-test.true x.read
+    let w = (wide l).letter_width-width.result in
+    let x : EntryAt s.args.image.now l.loop-i.at s.args.size w c.in-Found.field-0 = told (turn c) _ c.in-Found.is in
+    validated_more (chain s.args.size) s.args.image.now (count l) (count_at (wide l).before) l.loop-i.at l.loop-i.i l.loop-i.invariant
+    (entry_of c.in-Found.field-0) (l.loop-i.at + offset_width + w + w) (omega (arith, narrow (wide l)))
+    x.inside (turn c).loop-i-test.true x.read
 
-is-filling-requires : tie.Need-is-filling-requires invariant-loop decreases-loop
-is-filling-requires c κs = record { narrow = omega arith; inside = c.before.loop.invariant.inside; small = omega (arith, near c.before) }
+is_filling-requires : tie.Need-is_filling-requires invariant-loop-i decreases-loop-i
+is_filling-requires c κs = record { narrow = omega arith; inside = c.loop-i.invariant.inside; small = omega (arith, near c.before) }
 
-returns-4 : tie.Need-returns-4 invariant-loop decreases-loop
-returns-4 c =
+returns-then-is_filling : tie.Need-returns-then-is_filling invariant-loop-i decreases-loop-i
+returns-then-is_filling c =
     let l = c.before.before.before in
     let s = began l in
     let h =
-    whole_held (chain s.args.size) s.args.image.now (count l) (count_at (wide l).before) l.loop.at l.loop.i l.loop.invariant
-    c.before.before.loop-test.false (sym c.before.is-filling.ensures ∙ c.if1.true) in
-    record { entries = l.loop.invariant.done; read = h.read; count_is = h.count_is }
+    whole_held (chain s.args.size) s.args.image.now (count l) (count_at (wide l).before) l.loop-i.at l.loop-i.i l.loop-i.invariant
+    c.loop-i-test.false (sym c.is_filling.ensures ∙ c.if-is_filling.true) in
+    record { entries = l.loop-i.invariant.done; read = h.read; count_is = h.count_is }
 
-returns-5 : tie.Need-returns-5 invariant-loop decreases-loop
-returns-5 c =
+returns-else-is_filling : tie.Need-returns-else-is_filling invariant-loop-i decreases-loop-i
+returns-else-is_filling c =
     let l = c.before.before.before in
     let s = began l in
-    whole_tail (chain s.args.size) s.args.image.now (count l) (count_at (wide l).before) l.loop.at l.loop.i l.loop.invariant
-    c.before.before.loop-test.false (sym c.before.is-filling.ensures ∙ c.if1.false)
+    whole_tail (chain s.args.size) s.args.image.now (count l) (count_at (wide l).before) l.loop-i.at l.loop-i.i l.loop-i.invariant
+    c.loop-i-test.false (sym c.is_filling.ensures ∙ c.if-is_filling.false)
 
-pub read-chain-spec : {M : Type 1} → statement M
-read-chain-spec =
-    tie.close (tie.spec invariant-loop decreases-loop next-field-requires (λ c. search rules) (λ c. search rules) returns letter-width-requires (λ c. search rules)
-    loop-holds next-entry-requires (λ c. search rules) returns-2 (λ c. search rules) returns-3 (λ c. search rules) add_at add-at-2 add-at-3 add-i loop-less
-    loop-again is-filling-requires returns-4 returns-5)
+pub read_chain_spec : {M : Type 1} → statement M
+read_chain_spec =
+    tie.close (tie.spec invariant-loop-i decreases-loop-i next_field-requires (λ c. search rules) (λ c. search rules) returns-in_default
+    letter_width-width-requires (λ c. search rules)
+    loop-i-init next_entry-requires (λ c. search rules) returns-in-Ends (λ c. search rules) returns-in-Wrong (λ c. search rules) overflow_add-at
+    overflow_add-at-in-Found overflow_add-at-in-Found-2 overflow_add-i loop-i-smaller
+    loop-i-preserved is_filling-requires returns-then-is_filling returns-else-is_filling)

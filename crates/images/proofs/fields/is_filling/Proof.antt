@@ -7,14 +7,14 @@ use borrow.Author.Rules.{rules}
 use Rattle.images.proofs.fields.is_filling.Statement.{statement}
 use Rattle.images.proofs.fields.is_filling.Tie as tie
 
-returns : tie.Need-returns
-returns c = sym (filling_long c.before.before.args.image.now c.before.before.args.at (omega arith))
+returns-then-at-image : tie.Need-returns-then-at-image
+returns-then-at-image c = sym (filling_long c.args.image.now c.args.at (omega arith))
 
-returns-2 : tie.Need-returns-2
-returns-2 c =
+returns : tie.Need-returns
+returns c =
     let s = c.before.before.before in
-    ap (λ v. eqb v 0) c.read-field.ensures
+    ap (λ v. eqb v 0) c.read_field.ensures
     ∙ filling_short s.args.image.now s.args.at s.requires.inside (omega arith)
 
-pub is-filling-spec : {M : Type 1} → statement M
-is-filling-spec = tie.close (tie.spec (λ c. search rules) returns (λ c. search rules) (λ c. search rules) (λ c κs. search rules) returns-2)
+pub is_filling_spec : {M : Type 1} → statement M
+is_filling_spec = tie.close (tie.spec (λ c. search rules) returns-then-at-image (λ c. search rules) (λ c. search rules) (λ c κs. search rules) returns)

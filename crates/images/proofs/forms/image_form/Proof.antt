@@ -13,7 +13,7 @@ imageLetters letters =
     record { sizes = size_width; weights = weight_width; opens = 1; heads = 1; lengths = length_width; letters = letters; low = 0; mark = 0; head = 1 }
 
 returns : tie.Need-returns
-returns c = ap imageLetters c.letter-width.ensures
+returns c = ap imageLetters c.letter_width.ensures
 
-pub image-form-spec : {M : Type 1} → statement M
-image-form-spec = tie.close (tie.spec (λ c κs. search rules) (λ c. search rules) returns)
+pub image_form_spec : {M : Type 1} → statement M
+image_form_spec = tie.close (tie.spec (λ c κs. search rules) (λ c. search rules) returns)

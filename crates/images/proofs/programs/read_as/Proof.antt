@@ -8,51 +8,52 @@ use borrow.Author.Rules.{rules}
 use Rattle.images.proofs.programs.read_as.Statement.{statement}
 use Rattle.images.proofs.programs.read_as.Tie as tie
 
-abbrev start-from-after-read-program : tie.After-read-program → tie.Start
-start-from-after-read-program c = c.before.before.before
+abbrev start_from_after_read_program : tie.After-read_program → tie.Start
+start_from_after_read_program c = c.before.before.before
 
-abbrev start : tie.After-known-told2 → tie.Start
-start c = c.before.before.before.before.before.before
+abbrev start : tie.In-Program → tie.Start
+start c = c.before.before.before.before
 
-measured : (c : tie.After-known-told2)
-    → Measured (start c).args.image.now (start c).args.cells.now (start c).args.size c.before.count.given.0.0 c.before.count.given.0.1.0
-    c.before.count.given.0.1.1.0
+measured : (c : tie.In-Program)
+    → Measured (start c).args.image.now (start c).args.cells.now (start c).args.size c.in-Program.count c.in-Program.forward
+    c.in-Program.weight
 measured c =
     let s = start c in
-    subst (ProgramDone s.args.image.now s.args.cells.now s.args.size) c.before.count.given.1
-    c.before.before.before.read-program.ensures
+    subst (ProgramDone s.args.image.now s.args.cells.now s.args.size) c.in-Program.is
+    c.read_program.ensures
 
-returns : tie.Need-returns
-returns c =
+returns-then-forward : tie.Need-returns-then-forward
+returns-then-forward c =
     let k = c.before in
     let s = start k in
-    let p = k.before.count.given.0 in
-    measured_as s.args.image.now s.args.size p.0 s.args.cells.now p.1.0 p.1.1.0 (measured k) c.if1.true s.args.signs
+    let p = k.in-Program in
+    measured_as s.args.image.now s.args.size p.count s.args.cells.now p.forward p.weight (measured k) c.if-forward.true s.args.signs
 
-returns-2 : tie.Need-returns-2
-returns-2 c =
-    let s = start-from-after-read-program c.before.before.before in
-    refused_as s.args.image.now s.args.size s.args.signs c.before.refusal.given.0.0
-    (subst (ProgramDone s.args.image.now s.args.cells.now s.args.size) c.before.refusal.given.1
-    c.before.before.before.read-program.ensures)
+returns-in-Refused : tie.Need-returns-in-Refused
+returns-in-Refused c =
+    let s = start_from_after_read_program c.before in
+    refused_as s.args.image.now s.args.size s.args.signs c.in-Refused.refusal
+    (subst (ProgramDone s.args.image.now s.args.cells.now s.args.size) c.in-Refused.is
+    c.read_program.ensures)
 
-returns-3 : tie.Need-returns-3
-returns-3 c =
-    let k = c.before.before.before in
+returns-in-Any : tie.Need-returns-in-Any
+returns-in-Any c =
+    let k = c.before.before in
     let s = start k in
-    let p = k.before.count.given.0 in
-    subst (λ g. MeasuredAs g s.args.image.now s.args.cells.now s.args.size p.0 p.1.0 p.1.1.0) (sym c.enum_told.given.1)
+    let p = k.in-Program in
+    subst (λ g. MeasuredAs g s.args.image.now s.args.cells.now s.args.size p.count p.forward p.weight) (sym c.in-Any.is)
     (measured k)
 
-returns-4 : tie.Need-returns-4
-returns-4 c =
-    let k = c.before.before.before in
+returns-in-Forward : tie.Need-returns-in-Forward
+returns-in-Forward c =
+    let k = c.before.before in
     let s = start k in
-    subst (λ g. read_as g s.args.size s.args.image.now ≡ refusal {A = WordOf g} BackMove) (sym c.enum-told2.given.1)
-    (back_read s.args.image.now s.args.size k.before.count.given.0.0 (measured k).program
-    (sym (measured k).forward_is ∙ c.before.before.if1.false))
+    subst (λ g. read_as g s.args.size s.args.image.now ≡ refusal {A = WordOf g} BackMove) (sym c.in-Forward.is)
+    (back_read s.args.image.now s.args.size k.in-Program.count (measured k).program
+    (sym (measured k).forward_is ∙ c.if-forward.false))
 
-pub read-as-spec : {M : Type 1} → statement M
-read-as-spec =
-    tie.close (tie.spec (λ c κs. search rules) (λ c. search rules) (λ c. search rules) returns (λ c. search rules) (λ c. search rules) returns-2 returns-3
-    returns-4)
+pub read_as_spec : {M : Type 1} → statement M
+read_as_spec =
+    tie.close (tie.spec (λ c κs. search rules) (λ c. search rules) (λ c. search rules) returns-then-forward (λ c. search rules) (λ c. search rules)
+    returns-in-Refused returns-in-Any
+    returns-in-Forward)

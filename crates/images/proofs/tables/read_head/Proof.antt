@@ -24,56 +24,57 @@ told : (c : tie.After-take) (r : Taken) → c.take.result ≡ r → TakenDone (s
 told c r e = subst (TakenDone (start c).args.input.now (start c).args.begin (start c).args.form.opens) e c.take.ensures
 
 -- what was taken for the mark, and the reader behind it
-abbrev took : tie.After-known-told → tie.After-take
-took c = c.before.before.before
+abbrev took : tie.In-Value → tie.After-take
+took c = c.before
 
-abbrev value : tie.After-known-told → ℕ
-value c = c.before.value.given.0.0
+abbrev value : tie.In-Value → ℕ
+value c = c.in-Value.value
 
-abbrev behind : tie.After-known-told → BitReader
-behind c = c.before.value.given.0.1.0
+abbrev behind : tie.In-Value → BitReader
+behind c = c.in-Value.behind
 
-taken : (c : tie.After-known-told)
+taken : (c : tie.In-Value)
     → TakenAt (start (took c)).args.input.now (place (start (took c)).args.begin) (start (took c)).args.form.opens (value c) (behind c)
-taken c = told (took c) _ c.before.value.given.1
+taken c = told (took c) _ c.in-Value.is
 
-read : (c : tie.After-known-told)
+read : (c : tie.In-Value)
     → field 1 (start (took c)).args.form.opens (bits (start (took c))) ≡ answered
     (record { value = value c; rest = from (start (took c)).args.input.now (place (behind c)) })
 read c = let s = start (took c) in taken_read s.args.input.now s.args.begin s.args.form.opens (value c) (behind c) (taken c)
 
 -- what was taken is no mark
-abbrev marked : tie.After-struct-known2 → tie.After-known-told
+abbrev marked : tie.After-struct_known-in-Value-1 → tie.In-Value
 marked c = c.before.before.before
 
-returns : tie.Need-returns
-returns c =
+returns-then-value-form : tie.Need-returns-then-value-form
+returns-then-value-form c =
     let k = c.before.before in
     let s = start (took k) in
-    record { reads = (taken k).after.reads; pair = λ size. pair_undefined s.args.form size (bits s) (value k) _ (read k) c.if1.true }
+    record { reads = (taken k).after.reads; pair = λ size. pair_undefined s.args.form size (bits s) (value k) _ (read k) c.if-value-form.true }
 
-returns-2 : tie.Need-returns-2
-returns-2 c =
+returns-then-form-eq0 : tie.Need-returns-then-form-eq0
+returns-then-form-eq0 c =
     let k = marked c.before in
     let s = start (took k) in
-    record { reads = s.pre.0; pair = λ size. words_first s.args.form size (bits s) (value k) _ (read k) c.before.before.if1.false c.if2.true }
+    record { reads = s.requires.0; pair = λ size. words_first s.args.form size (bits s) (value k) _ (read k) c.if-value-form.false c.if-form-eq0.true }
 
-returns-3 : tie.Need-returns-3
-returns-3 c =
-    let t = c.before.before in
+returns-in-Ends : tie.Need-returns-in-Ends
+returns-in-Ends c =
+    let t = c.before in
     let s = start t in
     λ size.
     mark_ends s.args.form size (bits s)
-    (taken_ends s.args.input.now s.args.begin s.args.form.opens s.pre.0 (told t _ c.enum_told.given.1))
+    (taken_ends s.args.input.now s.args.begin s.args.form.opens s.requires.0 (told t _ c.in-Ends.is))
 
-returns-4 : tie.Need-returns-4
-returns-4 c =
+returns-else-form-eq0 : tie.Need-returns-else-form-eq0
+returns-else-form-eq0 c =
     let k = marked c.before in
     let s = start (took k) in
     record {
       reads = (taken k).after.reads;
-      pair = λ size. words_behind s.args.form size (bits s) (value k) _ (read k) c.before.before.if1.false c.if2.false;
+      pair = λ size. words_behind s.args.form size (bits s) (value k) _ (read k) c.if-value-form.false c.if-form-eq0.false;
     }
 
-pub read-head-spec : {M : Type 1} → statement M
-read-head-spec = tie.close (tie.spec (λ c κs. search rules) (λ c. search rules) (λ c. search rules) (λ c. search rules) returns returns-2 returns-3 returns-4)
+pub read_head_spec : {M : Type 1} → statement M
+read_head_spec = tie.close (tie.spec (λ c κs. search rules) (λ c. search rules) (λ c. search rules) (λ c. search rules) returns-then-value-form
+    returns-then-form-eq0 returns-in-Ends returns-else-form-eq0)

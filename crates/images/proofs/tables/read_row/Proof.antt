@@ -17,145 +17,146 @@ use Rattle.images.proofs.Rows.{RowFilled, row_none, row_more, pair_letters, pair
 use Rattle.images.proofs.tables.read_row.Statement.{statement}
 use Rattle.images.proofs.tables.read_row.Tie as tie
 
-abbrev invariant-loop : tie.invariant-loop
-invariant-loop input form size cells₀ a reader₀ b₀ cells reader b =
+abbrev invariant-loop-b : tie.invariant-loop-b
+invariant-loop-b input form size cells₀ a reader₀ b₀ cells reader b =
     Reads input reader × RowFilled (pair_in form size) (from input (place reader₀)) size cells₀ a cells (from input (place reader)) b
 
-abbrev decreases-loop : tie.decreases-loop
-decreases-loop input form size cells₀ a reader₀ b₀ cells reader b = size + 1 - b
+abbrev decreases-loop-b : tie.decreases-loop-b
+decreases-loop-b input form size cells₀ a reader₀ b₀ cells reader b = size + 1 - b
 
-abbrev after-cells : tie.After-slice-known2 invariant-loop decreases-loop → tie.After-cells invariant-loop decreases-loop
-after-cells c = c.before
+abbrev after_cells : tie.After-slice_known-in-loop-b-1 invariant-loop-b decreases-loop-b → tie.After-cells-1 invariant-loop-b decreases-loop-b
+after_cells c = c.before
 
-abbrev start : tie.At-loop invariant-loop decreases-loop → tie.Start invariant-loop decreases-loop
+abbrev start : tie.At-loop-b invariant-loop-b decreases-loop-b → tie.Start invariant-loop-b decreases-loop-b
 start c = c.before.before.before
 
-abbrev bits : tie.Start invariant-loop decreases-loop → BitReader → List ℕ
+abbrev bits : tie.Start invariant-loop-b decreases-loop-b → BitReader → List ℕ
 bits c r = from c.args.input.now (place r)
 
 -- a pair that was read
-abbrev loop : tie.After-read-pair invariant-loop decreases-loop → tie.At-loop invariant-loop decreases-loop
+abbrev loop : tie.After-read_pair invariant-loop-b decreases-loop-b → tie.At-loop-b invariant-loop-b decreases-loop-b
 loop c = c.before.before.before
 
-abbrev began : tie.After-read-pair invariant-loop decreases-loop → tie.Start invariant-loop decreases-loop
+abbrev began : tie.After-read_pair invariant-loop-b decreases-loop-b → tie.Start invariant-loop-b decreases-loop-b
 began c = start (loop c)
 
-abbrev filled : tie.After-read-pair invariant-loop decreases-loop → List ℕ
-filled c = c.read-pair.new.1.1.1.1.0
+abbrev filled : tie.After-read_pair invariant-loop-b decreases-loop-b → List ℕ
+filled c = c.read_pair.new.cells
 
-returned : (c : tie.After-read-pair invariant-loop decreases-loop) → length (filled c) ≡ length (began c).args.cells.now
-returned c = c.read-pair.ensures.0 ∙ (loop c).loop.invariant.1.same_length
+returned : (c : tie.After-read_pair invariant-loop-b decreases-loop-b) → length (filled c) ≡ length (began c).args.cells.now
+returned c = c.read_pair.ensures.0 ∙ (loop c).loop-b.invariant.1.same_length
 
-told : (c : tie.After-read-pair invariant-loop decreases-loop) (r : TablePart) → c.read-pair.result ≡ r
-    → PairDone (began c).args.input.now (place (loop c).loop.reader) (began c).args.form (began c).args.size (loop c).loop.cells (began c).args.a
-    (loop c).loop.b (filled c) r
+told : (c : tie.After-read_pair invariant-loop-b decreases-loop-b) (r : TablePart) → c.read_pair.result ≡ r
+    → PairDone (began c).args.input.now (place (loop c).loop-b.reader) (began c).args.form (began c).args.size (loop c).loop-b.cells (began c).args.a
+    (loop c).loop-b.b (filled c) r
 told c r e =
     let l = loop c in
     let s = start l in
-    subst (PairDone s.args.input.now (place l.loop.reader) s.args.form s.args.size l.loop.cells s.args.a l.loop.b (filled c)) e
-    c.read-pair.ensures.1
+    subst (PairDone s.args.input.now (place l.loop-b.reader) s.args.form s.args.size l.loop-b.cells s.args.a l.loop-b.b (filled c)) e
+    c.read_pair.ensures.1
 
-refused-by : (c : tie.After-read-pair invariant-loop decreases-loop) (n : ℕ)
-    → pair_in (began c).args.form (began c).args.size (bits (began c) (loop c).loop.reader) ≡ refused n unplaced
+refused_by : (c : tie.After-read_pair invariant-loop-b decreases-loop-b) (n : ℕ)
+    → pair_in (began c).args.form (began c).args.size (bits (began c) (loop c).loop-b.reader) ≡ refused n unplaced
     → several (pair_in (began c).args.form (began c).args.size) ((began c).args.size - (began c).args.a) (bits (began c) (began c).args.begin)
     ≡ refused n unplaced
-refused-by c n e =
+refused_by c n e =
     let l = loop c in
     let s = start l in
-    pair_refused (pair_in s.args.form s.args.size) (bits s s.args.begin) s.args.size s.args.cells.now s.args.a s.pre.2 s.pre.3
-    s.pre.4
-    l.loop.cells (bits s l.loop.reader) l.loop.b l.loop.inv.1 n c.before.before.loop-test.true e
+    pair_refused (pair_in s.args.form s.args.size) (bits s s.args.begin) s.args.size s.args.cells.now s.args.a s.requires.2 s.requires.3
+    s.requires.4
+    l.loop-b.cells (bits s l.loop-b.reader) l.loop-b.b l.loop-b.invariant.1 n c.loop-b-test.true e
 
-add-b : tie.Need-overflow-add-b invariant-loop decreases-loop
-add-b c = omega (arith, c.before.before.requires.3, c.before.before.requires.4)
+overflow_add-b : tie.Need-overflow_add-b invariant-loop-b decreases-loop-b
+overflow_add-b c = omega (arith, c.requires.3, c.requires.4)
 
-loop-holds : tie.Need-loop-init invariant-loop decreases-loop
-loop-holds c =
+loop-b-init : tie.Need-loop-b-init invariant-loop-b decreases-loop-b
+loop-b-init c =
     let s = c.before.before in (
       s.requires.0,
       row_none (pair_in s.args.form s.args.size) (bits s s.args.begin) s.args.size s.args.cells.now s.args.a s.requires.2 s.requires.3
           s.requires.4,
     )
 
-read-pair-requires : tie.Need-read-pair-requires invariant-loop decreases-loop
-read-pair-requires c κs =
+read_pair-requires : tie.Need-read_pair-requires invariant-loop-b decreases-loop-b
+read_pair-requires c κs =
     let l = c.before.before in
     let s = start l in (
-      l.loop.invariant.0,
-      s.pre.1,
-      s.pre.4,
-      pair_letters (pair_in s.args.form s.args.size) (bits s s.args.begin) s.args.size s.args.cells.now s.args.a s.pre.2
-          s.pre.3 s.pre.4
-          l.loop.cells (bits s l.loop.reader) l.loop.b l.loop.invariant.1 c.before.loop-test.true,
-      l.loop.invariant.1.above,
-      l.loop.invariant.1.same_length ∙ s.pre.5,
+      l.loop-b.invariant.0,
+      s.requires.1,
+      s.requires.4,
+      pair_letters (pair_in s.args.form s.args.size) (bits s s.args.begin) s.args.size s.args.cells.now s.args.a s.requires.2
+          s.requires.3 s.requires.4
+          l.loop-b.cells (bits s l.loop-b.reader) l.loop-b.b l.loop-b.invariant.1 c.loop-b-test.true,
+      l.loop-b.invariant.1.above,
+      l.loop-b.invariant.1.same_length ∙ s.requires.5,
     )
 
-same_length : tie.Need-same-length invariant-loop decreases-loop
-same_length c = returned (after-cells c.before.before).before
+shape_of-cells-in-Ends : tie.Need-shape_of-cells-in-Ends invariant-loop-b decreases-loop-b
+shape_of-cells-in-Ends c = returned (after_cells c.before).before
 
-returns : tie.Need-returns invariant-loop decreases-loop
-returns c =
-    let r = (after-cells c.before.before).before in
-    (returned r, refused-by r 1 (told r _ c.enum_told.given.1))
+returns-in-Ends : tie.Need-returns-in-Ends invariant-loop-b decreases-loop-b
+returns-in-Ends c =
+    let r = (after_cells c.before).before in
+    (returned r, refused_by r 1 (told r _ c.in-Ends.is))
 
-same-length-2 : tie.Need-same-length-2 invariant-loop decreases-loop
-same-length-2 c = returned (after-cells c.before.before).before
+shape_of-cells-in-Wrong : tie.Need-shape_of-cells-in-Wrong invariant-loop-b decreases-loop-b
+shape_of-cells-in-Wrong c = returned (after_cells c.before).before
 
-returns-2 : tie.Need-returns-2 invariant-loop decreases-loop
-returns-2 c =
-    let r = (after-cells c.before.before).before in
-    (returned r, refused-by r 2 (told r _ c.enum-told2.given.1))
+returns-in-Wrong : tie.Need-returns-in-Wrong invariant-loop-b decreases-loop-b
+returns-in-Wrong c =
+    let r = (after_cells c.before).before in
+    (returned r, refused_by r 2 (told r _ c.in-Wrong.is))
 
 -- the loop goes on
-abbrev turn : tie.After-known-told invariant-loop decreases-loop → tie.After-read-pair invariant-loop decreases-loop
-turn c = c.before.before.before.before.before
+abbrev turn : tie.In-Next invariant-loop-b decreases-loop-b → tie.After-read_pair invariant-loop-b decreases-loop-b
+turn c = c.before.before.before
 
-abbrev after : tie.After-known-told invariant-loop decreases-loop → BitReader
-after c = c.before.after.given.0.0
+abbrev after : tie.In-Next invariant-loop-b decreases-loop-b → BitReader
+after c = c.in-Next.after
 
-read : (c : tie.After-known-told invariant-loop decreases-loop) → Reads (began (turn c)).args.input.now (after c)
-    × PairFrom (pair_in (began (turn c)).args.form (began (turn c)).args.size) (began (turn c)).args.size (loop (turn c)).loop.cells
+read : (c : tie.In-Next invariant-loop-b decreases-loop-b) → Reads (began (turn c)).args.input.now (after c)
+    × PairFrom (pair_in (began (turn c)).args.form (began (turn c)).args.size) (began (turn c)).args.size (loop (turn c)).loop-b.cells
     (began (turn c)).args.a
-    (loop (turn c)).loop.b (filled (turn c)) (bits (began (turn c)) (loop (turn c)).loop.reader) (bits (began (turn c)) (after c))
-read c = told (turn c) _ c.before.after.given.1
+    (loop (turn c)).loop-b.b (filled (turn c)) (bits (began (turn c)) (loop (turn c)).loop-b.reader) (bits (began (turn c)) (after c))
+read c = told (turn c) _ c.in-Next.is
 
-add-b-2 : tie.Need-overflow-add-b-2 invariant-loop decreases-loop
-add-b-2 c = omega (arith, (turn c).before.before.loop-test.true, (began (turn c)).pre.4)
+overflow_add-b-in-Next : tie.Need-overflow_add-b-in-Next invariant-loop-b decreases-loop-b
+overflow_add-b-in-Next c = omega (arith, (turn c).loop-b-test.true, (began (turn c)).requires.4)
 
-loop-less : tie.Need-loop-smaller invariant-loop decreases-loop
-loop-less c = omega (arith, (turn c).before.before.loop-test.true)
+loop-b-smaller : tie.Need-loop-b-smaller invariant-loop-b decreases-loop-b
+loop-b-smaller c = omega (arith, (turn c).loop-b-test.true)
 
-loop-again : tie.Need-loop-preserved invariant-loop decreases-loop
-loop-again c =
+loop-b-preserved : tie.Need-loop-b-preserved invariant-loop-b decreases-loop-b
+loop-b-preserved c =
     let r = turn c in
     let l = loop r in
     let s = start l in (
       (read c).0,
-      row_more (pair_in s.args.form s.args.size) (bits s s.args.begin) s.args.size s.args.cells.now s.args.a s.pre.2 s.pre.3
-          s.pre.4
-          l.loop.cells (bits s l.loop.reader) l.loop.b l.loop.inv.1 r.before.before.loop-test.taken (filled r) (bits s (after c))
-          r.read-pair.ensures.0
+      row_more (pair_in s.args.form s.args.size) (bits s s.args.begin) s.args.size s.args.cells.now s.args.a s.requires.2 s.requires.3
+          s.requires.4
+          l.loop-b.cells (bits s l.loop-b.reader) l.loop-b.b l.loop-b.invariant.1 r.loop-b-test.true (filled r) (bits s (after c))
+          r.read_pair.ensures.0
           (read c).1,
     )
 
-same-length-3 : tie.Need-same-length-3 invariant-loop decreases-loop
-same-length-3 c = c.before.loop.invariant.1.same_length
+shape_of-cells : tie.Need-shape_of-cells invariant-loop-b decreases-loop-b
+shape_of-cells c = c.loop-b.invariant.1.same_length
 
-returns-3 : tie.Need-returns-3 invariant-loop decreases-loop
-returns-3 c =
+returns : tie.Need-returns invariant-loop-b decreases-loop-b
+returns c =
     let l = c.before in
     let s = start l in (
-      l.loop.invariant.1.same_length,
+      l.loop-b.invariant.1.same_length,
       (
-        l.loop.invariant.0,
-        row_answered (pair_in s.args.form s.args.size) (bits s s.args.begin) s.args.size s.args.cells.now s.args.a s.pre.2
-            s.pre.3 s.pre.4
-            l.loop.cells (bits s l.loop.reader) l.loop.b l.loop.invariant.1 c.loop-test.false,
+        l.loop-b.invariant.0,
+        row_answered (pair_in s.args.form s.args.size) (bits s s.args.begin) s.args.size s.args.cells.now s.args.a s.requires.2
+            s.requires.3 s.requires.4
+            l.loop-b.cells (bits s l.loop-b.reader) l.loop-b.b l.loop-b.invariant.1 c.loop-b-test.false,
       ),
     )
 
-pub read-row-spec : {M : Type 1} → statement M
-read-row-spec =
-    tie.close (tie.spec invariant-loop decreases-loop add-b loop-holds read-pair-requires (λ c. search rules) same_length returns (λ c. search rules) same-length-2
-    returns-2 (λ c. search rules) add-b-2 loop-less loop-again same-length-3 returns-3)
+pub read_row_spec : {M : Type 1} → statement M
+read_row_spec =
+    tie.close (tie.spec invariant-loop-b decreases-loop-b overflow_add-b loop-b-init read_pair-requires (λ c. search rules) shape_of-cells-in-Ends
+    returns-in-Ends (λ c. search rules) shape_of-cells-in-Wrong
+    returns-in-Wrong (λ c. search rules) overflow_add-b-in-Next loop-b-smaller loop-b-preserved shape_of-cells returns)

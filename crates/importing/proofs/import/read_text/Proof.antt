@@ -6,30 +6,28 @@ use borrow.Author.Rules.{rules}
 use Rattle.importing.proofs.import.read_text.Statement.{statement}
 use Rattle.importing.proofs.import.read_text.Tie as tie
 
-abbrev start : tie.After-read-pattern → tie.Start
-start c = c.before.before
+abbrev after_read_pattern : tie.In-Read → tie.After-read_pattern
+after_read_pattern c = c.before
 
-abbrev after-read-pattern : tie.After-span → tie.After-read-pattern
-after-read-pattern c = c.before.before
+returns-then-span-text : tie.Need-returns-then-span-text
+returns-then-span-text c =
+    let k = after_read_pattern c.before.before in
+    let text = k.args.text.now in
+    let s = c.in-Read in
+    text_followed text s.span (sym (ap (spanned text) s.is) ∙ k.read_pattern.ensures) c.if-span-text.true
 
-returns : tie.Need-returns
-returns c =
-    let k = after-read-pattern c.before.before.before in
-    let text = (start k).args.text.now in
-    let s = c.before.before.before.span.given in
-    text_followed text s.0.0 (sym (ap (spanned text) s.1) ∙ k.read-pattern.ensures) c.if1.true
+returns-in-NotPattern : tie.Need-returns-in-NotPattern
+returns-in-NotPattern c =
+    let text = c.args.text.now in
+    text_none text (sym (ap (spanned text) c.in-NotPattern.is) ∙ c.read_pattern.ensures)
 
-returns-2 : tie.Need-returns-2
-returns-2 c =
-    let text = (start c.before.before).args.text.now in
-    text_none text (sym (ap (spanned text) c.enum_told.given.1) ∙ c.before.before.read-pattern.ensures)
+returns-else-span-text : tie.Need-returns-else-span-text
+returns-else-span-text c =
+    let k = after_read_pattern c.before.before in
+    let text = k.args.text.now in
+    let s = c.in-Read in
+    text_of text s.span (sym (ap (spanned text) s.is) ∙ k.read_pattern.ensures) c.if-span-text.false
 
-returns-3 : tie.Need-returns-3
-returns-3 c =
-    let k = after-read-pattern c.before.before.before in
-    let text = (start k).args.text.now in
-    let s = c.before.before.before.span.given in
-    text_of text s.0.0 (sym (ap (spanned text) s.1) ∙ k.read-pattern.ensures) c.if1.false
-
-pub read-text-spec : {M : Type 1} → statement M
-read-text-spec = tie.close (tie.spec (λ c κs. search rules) (λ c. search rules) (λ c. search rules) returns returns-2 returns-3)
+pub read_text_spec : {M : Type 1} → statement M
+read_text_spec = tie.close (tie.spec (λ c κs. search rules) (λ c. search rules) (λ c. search rules) returns-then-span-text returns-in-NotPattern
+    returns-else-span-text)

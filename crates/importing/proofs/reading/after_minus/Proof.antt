@@ -10,22 +10,22 @@ use borrow.Author.Rules.{rules}
 use Rattle.importing.proofs.reading.after_minus.Statement.{statement}
 use Rattle.importing.proofs.reading.after_minus.Tie as tie
 
-add-result : tie.Need-overflow-add-result
-add-result c =
+overflow_add-result : tie.Need-overflow_add-result
+overflow_add-result c =
     let s = c.before.before.before in
     next_fits s.args.text.now s.args.at
-    (first_there s.args.text.now s.args.at (λ x. eqb x 45) (sym c.before.stands.ensures ∙ c.if1.true)) s.well-formed.0.0
+    (first_there s.args.text.now s.args.at (λ x. eqb x 45) (sym c.stands.ensures ∙ c.if-stands.true)) s.well_formed.0.0
+
+returns-then-stands : tie.Need-returns-then-stands
+returns-then-stands c =
+    let s = c.before.before.before in
+    sym (ap (λ (r : Read Bool). r.rest) (minus_there (drop s.args.at s.args.text.now) (sym c.stands.ensures ∙ c.if-stands.true))
+    ∙ tail_at s.args.text.now s.args.at)
 
 returns : tie.Need-returns
 returns c =
     let s = c.before.before.before in
-    sym (ap (λ (r : Read Bool). r.rest) (minus_there (drop s.args.at s.args.text.now) (sym c.before.stands.ensures ∙ c.if1.true))
-    ∙ tail_at s.args.text.now s.args.at)
+    sym (ap (λ (r : Read Bool). r.rest) (minus_none (drop s.args.at s.args.text.now) (sym c.stands.ensures ∙ c.if-stands.false)))
 
-returns-2 : tie.Need-returns-2
-returns-2 c =
-    let s = c.before.before.before in
-    sym (ap (λ (r : Read Bool). r.rest) (minus_none (drop s.args.at s.args.text.now) (sym c.before.stands.ensures ∙ c.if1.false)))
-
-pub after-minus-spec : {M : Type 1} → statement M
-after-minus-spec = tie.close (tie.spec (λ c κs. search rules) add-result returns returns-2)
+pub after_minus_spec : {M : Type 1} → statement M
+after_minus_spec = tie.close (tie.spec (λ c κs. search rules) overflow_add-result returns-then-stands returns)

@@ -8,11 +8,11 @@ use Rattle.model.specs.Plain.{most_letters}
 use Rattle.importing.proofs.reading.cap.Statement.{statement}
 use Rattle.importing.proofs.reading.cap.Tie as tie
 
+returns-then-moves : tie.Need-returns-then-moves
+returns-then-moves c = sym (ap (λ b. cond b (most_letters + 1) c.args.moves) (lt-ltb most_letters c.args.moves c.if-moves.true))
+
 returns : tie.Need-returns
-returns c = sym (ap (λ b. cond b (most_letters + 1) c.before.args.moves) (lt-ltb most_letters c.before.args.moves c.if1.true))
+returns c = sym (ap (λ b. cond b (most_letters + 1) c.args.moves) (le-ltb most_letters c.args.moves c.if-moves.false))
 
-returns-2 : tie.Need-returns-2
-returns-2 c = sym (ap (λ b. cond b (most_letters + 1) c.before.args.moves) (le-ltb most_letters c.before.args.moves c.if1.false))
-
-pub cap-spec : {M : Type 1} → statement M
-cap-spec = tie.close (tie.spec (λ c. search rules) (λ c. search rules) (λ c. search rules) returns (λ c. search rules) returns-2)
+pub cap_spec : {M : Type 1} → statement M
+cap_spec = tie.close (tie.spec (λ c. search rules) (λ c. search rules) (λ c. search rules) returns-then-moves (λ c. search rules) returns)

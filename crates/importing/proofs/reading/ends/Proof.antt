@@ -9,15 +9,15 @@ use borrow.Author.Rules.{rules}
 use Rattle.importing.proofs.reading.ends.Statement.{statement}
 use Rattle.importing.proofs.reading.ends.Tie as tie
 
-returns : tie.Need-returns
-returns c =
+returns-then-text-at : tie.Need-returns-then-text-at
+returns-then-text-at c =
     let s = c.before.before in
-    le-leb (length s.args.text.now) s.args.at c.if1.true ∙ first_past s.args.text.now s.args.at c.if1.true (λ x. eqb x 41) true
+    le-leb (length s.args.text.now) s.args.at c.if-text-at.true ∙ first_past s.args.text.now s.args.at c.if-text-at.true (λ x. eqb x 41) true
 
-returns-2 : tie.Need-returns-2
-returns-2 c =
+returns-else-text-at : tie.Need-returns-else-text-at
+returns-else-text-at c =
     let s = c.before.before.before in
-    c.stands.ensures ∙ first_either s.args.text.now s.args.at c.before.if1.false (λ x. eqb x 41)
+    c.stands.ensures ∙ first_either s.args.text.now s.args.at c.if-text-at.false (λ x. eqb x 41)
 
-pub ends-spec : {M : Type 1} → statement M
-ends-spec = tie.close (tie.spec (λ c κs. search rules) returns returns-2)
+pub ends_spec : {M : Type 1} → statement M
+ends_spec = tie.close (tie.spec (λ c κs. search rules) returns-then-text-at returns-else-text-at)

@@ -1,13 +1,13 @@
 -- `importing::reading::joined` meets its contract.
 use mathlib.Core.Path.{refl, sym, ap, ◌∙◌}
-use mathlib.Core.Logic.{⊎_elim}
 use mathlib.Core.Bool.{cond}
 use borrow.Author.Tests.{lt-ltb, le-ltb}
 use borrow.Author.Rules.{rules}
 use Rattle.importing.proofs.reading.joined.Statement.{statement}
 use Rattle.importing.proofs.reading.joined.Tie as tie
+use Rattle.importing.proofs.reading.joined.Lts.{then-highest-item, else-highest-item}
 
-abbrev start : tie.Joined1 → tie.Start
+abbrev start : tie.Joined-highest-item → tie.Start
 start c = c.before.before
 
 returns : tie.Need-returns
@@ -18,11 +18,12 @@ returns c =
     record {
       next = refl;
       moves = c.cap.ensures;
-      highest = ⊎_elim
-          (λ p. p.1 ∙ sym (ap (λ b. cond b i h) (lt-ltb h i p.0.taken)))
-          (λ p. p.1 ∙ sym (ap (λ b. cond b i h) (le-ltb h i p.0.left)))
-          c.before.before.before.if1.branch;
+      highest =
+          elim c.if-highest-item.branch [
+            | then-highest-item p ↦ p.highest-is ∙ sym (ap (λ b. cond b i h) (lt-ltb h i p.if-highest-item.true))
+            | else-highest-item p ↦ p.highest-is ∙ sym (ap (λ b. cond b i h) (le-ltb h i p.if-highest-item.false))
+          ];
     }
 
-pub joined-spec : {M : Type 1} → statement M
-joined-spec = tie.close (tie.spec (λ c. search rules) (λ c. search rules) (λ c. search rules) (λ c. search rules) returns)
+pub joined_spec : {M : Type 1} → statement M
+joined_spec = tie.close (tie.spec (λ c. search rules) (λ c. search rules) (λ c. search rules) (λ c. search rules) returns)

@@ -7,35 +7,36 @@ use borrow.Author.Rules.{rules}
 use Rattle.importing.proofs.reading.read_move.Statement.{statement}
 use Rattle.importing.proofs.reading.read_move.Tie as tie
 
-abbrev start : tie.After-read-number → tie.Start
+abbrev start : tie.After-read_number → tie.Start
 start c = c.before.before
 
-abbrev after-read-number : tie.At-match-keys2 → tie.After-read-number
-after-read-number c = c.before
+abbrev after_read_number : tie.In-Number → tie.After-read_number
+after_read_number c = c.before
 
-returns : tie.Need-returns
-returns c =
-    let k = after-read-number c.before.before.before in
+returns-then-value-eq0 : tie.Need-returns-then-value-eq0
+returns-then-value-eq0 c =
+    let k = after_read_number c.before in
     let s = start k in
     let text = s.args.text.now in
-    let v = c.before.before.value.given in
-    sym (ap kept_body (move_zero (drop s.args.at text) (drop v.0.1.0 text) v.0.0 (sym (ap (number_stated text) v.1) ∙ k.read_number.ensures)
-    c.if1.true))
+    let v = c.in-Number in
+    sym (ap kept_body (move_zero (drop s.args.at text) (drop v.next text) v.value (sym (ap (number_stated text) v.is) ∙ k.read_number.ensures)
+    c.if-value-eq0.true))
 
-returns-2 : tie.Need-returns-2
-returns-2 c =
-    let s = start c.before.before in
+returns-in-NotNumber : tie.Need-returns-in-NotNumber
+returns-in-NotNumber c =
+    let s = start c.before in
     let text = s.args.text.now in
-    sym (ap kept_body (move_none (drop s.args.at text) (sym (ap (number_stated text) c.enum_told.given.1) ∙ c.before.before.read_number.ensures)))
+    sym (ap kept_body (move_none (drop s.args.at text) (sym (ap (number_stated text) c.in-NotNumber.is) ∙ c.read_number.ensures)))
 
-returns-3 : tie.Need-returns-3
-returns-3 c =
-    let k = after-read-number c.before.before.before in
+returns-else-value-eq0 : tie.Need-returns-else-value-eq0
+returns-else-value-eq0 c =
+    let k = after_read_number c.before in
     let s = start k in
     let text = s.args.text.now in
-    let v = c.before.before.value.given in
-    sym (ap kept_body (move_some (drop s.args.at text) (drop v.0.1.0 text) v.0.0 (sym (ap (number_stated text) v.1) ∙ k.read_number.ensures)
-    c.if1.false))
+    let v = c.in-Number in
+    sym (ap kept_body (move_some (drop s.args.at text) (drop v.next text) v.value (sym (ap (number_stated text) v.is) ∙ k.read_number.ensures)
+    c.if-value-eq0.false))
 
-pub read-move-spec : {M : Type 1} → statement M
-read-move-spec = tie.close (tie.spec (λ c κs. search rules) (λ c. search rules) (λ c. search rules) returns returns-2 returns-3)
+pub read_move_spec : {M : Type 1} → statement M
+read_move_spec = tie.close (tie.spec (λ c κs. search rules) (λ c. search rules) (λ c. search rules) returns-then-value-eq0 returns-in-NotNumber
+    returns-else-value-eq0)

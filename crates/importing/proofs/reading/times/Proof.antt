@@ -6,13 +6,13 @@ use borrow.Author.Rules.{rules}
 use Rattle.importing.proofs.reading.times.Statement.{statement}
 use Rattle.importing.proofs.reading.times.Tie as tie
 
-mul-cap : tie.Need-overflow-mul-cap
-mul-cap c =
+overflow_mul-count : tie.Need-overflow_mul-count
+overflow_mul-count c =
     let m = c.args.moves in
     record { fits = omega (arith, mul-le-mul_right m (below c.ranges.count.fits), c.ranges.moves.fits) }
   where
     below : {n : ℕ} → n < 256 → n ≤ 255
     below h = omega (arith, h)
 
-pub times-spec : {M : Type 1} → statement M
-times-spec = tie.close (tie.spec mul-cap (λ c κs. search rules) (λ c. c.cap.ensures))
+pub times_spec : {M : Type 1} → statement M
+times_spec = tie.close (tie.spec overflow_mul-count (λ c κs. search rules) (λ c. c.cap.ensures))

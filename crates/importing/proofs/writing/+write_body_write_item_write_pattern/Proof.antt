@@ -47,47 +47,47 @@ abbrev μ-write-pattern : Measures 2 write-pattern-kinds.ps ℕ
 μ-write-pattern κs a = 3 * a.1.1.0 + 2
 
 -- what each is given at the measure t, and what a call of it asks below t
-abbrev write-body-at : ℕ → In 2 write-body-kinds.ps
-write-body-at t = and 2 write-body-kinds.ps (is 2 write-body-kinds.ps μ-write-body t) write-body.Pre
+abbrev write_body_at : ℕ → In 2 write-body-kinds.ps
+write_body_at t = and 2 write-body-kinds.ps (is 2 write-body-kinds.ps μ-write-body t) write-body.Pre
 
-abbrev write-body-below : ℕ → In 2 write-body-kinds.ps
-write-body-below t = and 2 write-body-kinds.ps (falls 2 write-body-kinds.ps ◌<◌ μ-write-body t) write-body.Pre
+abbrev write_body_below : ℕ → In 2 write-body-kinds.ps
+write_body_below t = and 2 write-body-kinds.ps (falls 2 write-body-kinds.ps ◌<◌ μ-write-body t) write-body.Pre
 
-abbrev write-item-at : ℕ → In 2 write-item-kinds.ps
-write-item-at t = and 2 write-item-kinds.ps (is 2 write-item-kinds.ps μ-write-item t) write-item.Pre
+abbrev write_item_at : ℕ → In 2 write-item-kinds.ps
+write_item_at t = and 2 write-item-kinds.ps (is 2 write-item-kinds.ps μ-write-item t) write-item.Pre
 
-abbrev write-item-below : ℕ → In 2 write-item-kinds.ps
-write-item-below t = and 2 write-item-kinds.ps (falls 2 write-item-kinds.ps ◌<◌ μ-write-item t) write-item.Pre
+abbrev write_item_below : ℕ → In 2 write-item-kinds.ps
+write_item_below t = and 2 write-item-kinds.ps (falls 2 write-item-kinds.ps ◌<◌ μ-write-item t) write-item.Pre
 
-abbrev write-pattern-at : ℕ → In 2 write-pattern-kinds.ps
-write-pattern-at t = and 2 write-pattern-kinds.ps (is 2 write-pattern-kinds.ps μ-write-pattern t) write-pattern.Pre
+abbrev write_pattern_at : ℕ → In 2 write-pattern-kinds.ps
+write_pattern_at t = and 2 write-pattern-kinds.ps (is 2 write-pattern-kinds.ps μ-write-pattern t) write-pattern.Pre
 
-abbrev write-pattern-below : ℕ → In 2 write-pattern-kinds.ps
-write-pattern-below t = and 2 write-pattern-kinds.ps (falls 2 write-pattern-kinds.ps ◌<◌ μ-write-pattern t) write-pattern.Pre
+abbrev write_pattern_below : ℕ → In 2 write-pattern-kinds.ps
+write_pattern_below t = and 2 write-pattern-kinds.ps (falls 2 write-pattern-kinds.ps ◌<◌ μ-write-pattern t) write-pattern.Pre
 
 -- what the calls of each ask and give
-abbrev body-calls : ℕ → write-body-lts.Claims
-body-calls t = (stands-reads.Asked, stands-reads.Learnt, write-pattern-below t, write-pattern.Post)
+abbrev body_calls : ℕ → write-body-lts.Claims
+body_calls t = (stands-reads.Asked, stands-reads.Learnt, write_pattern_below t, write-pattern.Post)
 
-abbrev item-calls : ℕ → write-item-lts.Claims
-item-calls t = (
+abbrev item_calls : ℕ → write-item-lts.Claims
+item_calls t = (
   read-item-reads.Asked,
   read-item-reads.Learnt,
   stands-reads.Asked,
   stands-reads.Learnt,
   after-minus-reads.Asked,
   after-minus-reads.Learnt,
-  write-body-below t,
+  write_body_below t,
   write-body.Post,
   finish-reads.Asked,
   finish-reads.Learnt,
 )
 
-abbrev pattern-calls : ℕ → write-pattern-lts.Claims
-pattern-calls t = (
+abbrev pattern_calls : ℕ → write-pattern-lts.Claims
+pattern_calls t = (
   ends-reads.Asked,
   ends-reads.Learnt,
-  write-item-below t,
+  write_item_below t,
   write-item.Post,
   stands-reads.Asked,
   stands-reads.Learnt,
@@ -96,293 +96,296 @@ pattern-calls t = (
 -- THE BODY WRITER
 
 module _ (t : ℕ) where
-  abbrev body-start : write-body-lts.After-stands (body-calls t) (write-body-at t) write-body.Post
-      → write-body-lts.Start (body-calls t) (write-body-at t) write-body.Post
-  body-start c = c.before.before.before
+  abbrev body_start : write-body-lts.After-stands (body_calls t) (write_body_at t) write-body.Post
+      → write-body-lts.Start (body_calls t) (write_body_at t) write-body.Post
+  body_start c = c.before.before.before
 
-  abbrev opening : write-body-lts.After-write-pattern (body-calls t) (write-body-at t) write-body.Post
-      → write-body-lts.Then1 (body-calls t) (write-body-at t) write-body.Post
+  abbrev opening : write-body-lts.After-write_pattern (body_calls t) (write_body_at t) write-body.Post
+      → write-body-lts.Then-stands (body_calls t) (write_body_at t) write-body.Post
   opening c = c.before.before
 
   -- a bracket opens there
-  opens : (c : write-body-lts.Then1 (body-calls t) (write-body-at t) write-body.Post)
-      → stands_first 40 (drop (body-start c.before).args.at (body-start c.before).args.text.now) ≡ true
-  opens c = sym c.before.stands.ensures ∙ c.if1.true
+  opens : (c : write-body-lts.Then-stands (body_calls t) (write_body_at t) write-body.Post)
+      → stands_first 40 (drop c.args.at c.args.text.now) ≡ true
+  opens c = sym c.stands.ensures ∙ c.if-stands.true
 
-  not-shallow : (c : write-body-lts.Then1 (body-calls t) (write-body-at t) write-body.Post) → (body-start c.before).args.depth ≡ 0 → ⊥
-  not-shallow c =
-      let s = body-start c.before in
-      deep s.args.text.now s.args.at s.args.depth s.args.highest s.args.from s.args.area.now s.pre.1 (opens c)
+  not_shallow : (c : write-body-lts.Then-stands (body_calls t) (write_body_at t) write-body.Post) → c.args.depth ≡ 0 → ⊥
+  not_shallow c =
+      let s = body_start c.before in
+      deep s.args.text.now s.args.at s.args.depth s.args.highest s.args.from s.args.area.now s.requires.1 (opens c)
 
-  body-add-write-pattern : write-body-lts.Need-overflow-add-write-pattern (body-calls t) (write-body-at t) write-body.Post
-  body-add-write-pattern c =
-      let s = body-start c.before in
-      next_fits s.args.text.now s.args.at (first_there s.args.text.now s.args.at (λ x. eqb x 40) (opens c)) s.good.0.0
+  body_add_write_pattern : write-body-lts.Need-overflow_add-at (body_calls t) (write_body_at t) write-body.Post
+  body_add_write_pattern c =
+      let s = body_start c.before in
+      next_fits s.args.text.now s.args.at (first_there s.args.text.now s.args.at (λ x. eqb x 40) (opens c)) s.well_formed.0.0
 
-  body-sub-write-pattern : write-body-lts.Need-overflow-sub-write-pattern (body-calls t) (write-body-at t) write-body.Post
-  body-sub-write-pattern c = pos_of_ne-zero (not-shallow c)
+  body_sub_write_pattern : write-body-lts.Need-overflow_sub-depth (body_calls t) (write_body_at t) write-body.Post
+  body_sub_write_pattern c = pos_of_ne-zero (not_shallow c)
 
-  body-write-pattern-requires : write-body-lts.Need-write-pattern-requires (body-calls t) (write-body-at t) write-body.Post
-  body-write-pattern-requires c κs =
+  body_write_pattern_requires : write-body-lts.Need-write_pattern-requires (body_calls t) (write_body_at t) write-body.Post
+  body_write_pattern_requires c κs =
       let o = c.before in
-      let s = body-start o.before in (
-        subst (λ (j : ℕ). 3 * (s.args.depth - 1) + 2 < j) s.pre.0 (omega (arith, pos_of_ne-zero (not-shallow o))),
-        pattern_fits s.args.text.now s.args.at s.args.depth s.args.highest s.args.from s.args.area.now s.pre.1 (opens o),
+      let s = body_start o.before in (
+        subst (λ (j : ℕ). 3 * (s.args.depth - 1) + 2 < j) s.requires.0 (omega (arith, pos_of_ne-zero (not_shallow o))),
+        pattern_fits s.args.text.now s.args.at s.args.depth s.args.highest s.args.from s.args.area.now s.requires.1 (opens o),
       )
 
-  body-same-length : write-body-lts.Need-same-length (body-calls t) (write-body-at t) write-body.Post
-  body-same-length c = c.before.before.write-pattern.ensures.0
+  body_same_length : write-body-lts.Need-shape_of-area-then-stands (body_calls t) (write_body_at t) write-body.Post
+  body_same_length c = c.write_pattern.ensures.0
 
-  body-returns : write-body-lts.Need-returns (body-calls t) (write-body-at t) write-body.Post
-  body-returns c =
+  body_returns : write-body-lts.Need-returns-then-stands (body_calls t) (write_body_at t) write-body.Post
+  body_returns c =
       let w = c.before.before in
-      let s = body-start (opening w).before in (
-        w.write-pattern.ensures.0,
-        pattern_laid s.args.text.now s.args.at s.args.depth s.args.highest s.args.from s.args.area.now s.pre.1 (opens (opening w))
-            w.write-pattern.new.1.1.1.0 w.write-pattern.result w.write-pattern.ensures.1,
+      let s = body_start (opening w).before in (
+        w.write_pattern.ensures.0,
+        pattern_laid s.args.text.now s.args.at s.args.depth s.args.highest s.args.from s.args.area.now s.requires.1 (opens (opening w))
+            w.write_pattern.new.area w.write_pattern.result w.write_pattern.ensures.1,
       )
 
   -- no bracket opens there
-  plain : (c : write-body-lts.Else1 (body-calls t) (write-body-at t) write-body.Post)
-      → stands_first 40 (drop (body-start c.before).args.at (body-start c.before).args.text.now) ≡ false
-  plain c = sym c.before.stands.ensures ∙ c.if1.false
+  plain : (c : write-body-lts.Else-stands (body_calls t) (write_body_at t) write-body.Post)
+      → stands_first 40 (drop c.args.at c.args.text.now) ≡ false
+  plain c = sym c.stands.ensures ∙ c.if-stands.false
 
-  body-slice-write-area : write-body-lts.Need-slice-write-area (body-calls t) (write-body-at t) write-body.Post
-  body-slice-write-area c =
-      let s = body-start c.before in
-      move_room s.args.text.now s.args.at s.args.depth s.args.highest s.args.from s.args.area.now s.pre.1 (plain c)
+  body_slice_write_area : write-body-lts.Need-bounds-area-from (body_calls t) (write_body_at t) write-body.Post
+  body_slice_write_area c =
+      let s = body_start c.before in
+      move_room s.args.text.now s.args.at s.args.depth s.args.highest s.args.from s.args.area.now s.requires.1 (plain c)
 
-  body-add-result : write-body-lts.Need-overflow-add-result (body-calls t) (write-body-at t) write-body.Post
-  body-add-result c = omega (arith, body-slice-write-area c)
+  body_add_result : write-body-lts.Need-overflow_add-result (body_calls t) (write_body_at t) write-body.Post
+  body_add_result c = omega (arith, body_slice_write_area c)
 
-  body-returns-2 : write-body-lts.Need-returns-2 (body-calls t) (write-body-at t) write-body.Post
-  body-returns-2 c =
-      let s = body-start c.before in (
+  body_returns_2 : write-body-lts.Need-returns (body_calls t) (write_body_at t) write-body.Post
+  body_returns_2 c =
+      let s = body_start c.before in (
         length-set s.args.area.now s.args.from s.args.highest,
-        move_laid s.args.text.now s.args.at s.args.depth s.args.highest s.args.from s.args.area.now s.pre.1 (plain c),
+        move_laid s.args.text.now s.args.at s.args.depth s.args.highest s.args.from s.args.area.now s.requires.1 (plain c),
       )
 
 -- THE ITEM WRITER
 
 module _ (t : ℕ) where
-  abbrev item-start : write-item-lts.After-read-item (item-calls t) (write-item-at t) write-item.Post
-      → write-item-lts.Start (item-calls t) (write-item-at t) write-item.Post
-  item-start c = c.before.before.before
+  abbrev item_start : write-item-lts.After-read_item (item_calls t) (write_item_at t) write-item.Post
+      → write-item-lts.Start (item_calls t) (write_item_at t) write-item.Post
+  item_start c = c.before.before.before
 
-  abbrev after-read-item : write-item-lts.After-struct-known (item-calls t) (write-item-at t) write-item.Post
-      → write-item-lts.After-read-item (item-calls t) (write-item-at t) write-item.Post
-  after-read-item c = c.before.before.before.before
+  abbrev after_read_item : write-item-lts.After-struct_known-1 (item_calls t) (write_item_at t) write-item.Post
+      → write-item-lts.After-read_item (item_calls t) (write_item_at t) write-item.Post
+  after_read_item c = c.before.before
 
-  abbrev begun-body : write-item-lts.After-write-body (item-calls t) (write-item-at t) write-item.Post
-      → write-item-lts.After-after-minus (item-calls t) (write-item-at t) write-item.Post
-  begun-body c = c.before.before
+  abbrev begun_body : write-item-lts.After-write_body-once (item_calls t) (write_item_at t) write-item.Post
+      → write-item-lts.After-after_minus-start (item_calls t) (write_item_at t) write-item.Post
+  begun_body c = c.before.before
 
-  abbrev after-write-body : write-item-lts.After-finish-arg (item-calls t) (write-item-at t) write-item.Post
-      → write-item-lts.After-write-body (item-calls t) (write-item-at t) write-item.Post
-  after-write-body c = c.before.before.before
+  abbrev after_write_body : write-item-lts.After-finish-arg-1 (item_calls t) (write_item_at t) write-item.Post
+      → write-item-lts.After-write_body-once (item_calls t) (write_item_at t) write-item.Post
+  after_write_body c = c.before.before.before
 
   -- what was kept of the item
-  abbrev kept : write-item-lts.After-struct-known (item-calls t) (write-item-at t) write-item.Post → Kept
+  abbrev kept : write-item-lts.After-struct_known-1 (item_calls t) (write_item_at t) write-item.Post → Kept
   kept c =
-      let i = c.before.before.item.given.0.0 in
-      record { moves = i.moves; highest = i.highest; rest = drop i.next (item-start (after-read-item c)).args.text.now }
+      let i = c.in-Read.item in
+      record { moves = i.moves; highest = i.highest; rest = drop i.next (item_start (after_read_item c)).args.text.now }
 
-  kept_read : (c : write-item-lts.After-struct-known (item-calls t) (write-item-at t) write-item.Post)
+  kept_read : (c : write-item-lts.After-struct_known-1 (item_calls t) (write_item_at t) write-item.Post)
       → answered (kept c) ≡ kept_item
-      (read_item (within (item-start (after-read-item c)).args.depth)
-      (drop (item-start (after-read-item c)).args.at (item-start (after-read-item c)).args.text.now))
+      (read_item (within (item_start (after_read_item c)).args.depth)
+      (drop (item_start (after_read_item c)).args.at (item_start (after_read_item c)).args.text.now))
   kept_read c =
-      let k = after-read-item c in
-      sym (ap (spanned (item-start k).args.text.now) c.before.before.item.given.1)
-      ∙ k.read-item.ensures
+      let k = after_read_item c in
+      sym (ap (spanned k.args.text.now) c.in-Read.is)
+      ∙ k.read_item.ensures
 
-  ends_inside : (c : write-item-lts.After-struct-known (item-calls t) (write-item-at t) write-item.Post)
-      → (item-start (after-read-item c)).args.from + (kept c).moves ≤ length
-      (item-start (after-read-item c)).args.area.now
+  ends_inside : (c : write-item-lts.After-struct_known-1 (item_calls t) (write_item_at t) write-item.Post)
+      → (item_start (after_read_item c)).args.from + (kept c).moves ≤ length
+      (item_start (after_read_item c)).args.area.now
   ends_inside c =
-      let s = item-start (after-read-item c) in
-      end_inside s.args.text.now s.args.at s.args.depth s.args.from s.args.area.now (kept c) (kept_read c) s.pre.1
+      let s = item_start (after_read_item c) in
+      end_inside s.args.text.now s.args.at s.args.depth s.args.from s.args.area.now (kept c) (kept_read c) s.requires.1
 
-  item-add-end : write-item-lts.Need-overflow-add-end (item-calls t) (write-item-at t) write-item.Post
-  item-add-end c = record { fits = omega (arith, ends_inside c, (item-start (after-read-item c)).good.1.1.1.0.0) }
+  item_add_end : write-item-lts.Need-overflow_add-end (item_calls t) (write_item_at t) write-item.Post
+  item_add_end c = record { fits = omega (arith, ends_inside c, (item_start (after_read_item c)).well_formed.1.1.1.0.0) }
 
-  item-returns : write-item-lts.Need-returns (item-calls t) (write-item-at t) write-item.Post
-  item-returns c =
+  item_returns : write-item-lts.Need-returns-then-end-from (item_calls t) (write_item_at t) write-item.Post
+  item_returns c =
       let k = c.before in
-      let s = item-start (after-read-item k) in (
+      let s = item_start (after_read_item k) in (
         refl,
-        nothing_laid s.args.text.now s.args.at s.args.depth s.args.from s.args.area.now (kept k) (kept_read k) s.pre.1 _ refl refl
-            (omega (arith, c.if1.true)),
+        nothing_laid s.args.text.now s.args.at s.args.depth s.args.from s.args.area.now (kept k) (kept_read k) s.requires.1 _ refl refl
+            (omega (arith, c.if-end-from.true)),
       )
 
-  some : (c : write-item-lts.Else1 (item-calls t) (write-item-at t) write-item.Post) → 1 ≤ (kept c.before).moves
+  some : (c : write-item-lts.Else-end-from (item_calls t) (write_item_at t) write-item.Post) → 1 ≤ (kept c.before).moves
   some c =
-      pos_of_ne-zero (λ e. c.if1.false (none e))
+      pos_of_ne-zero (λ e. c.if-end-from.false (none e))
     where
       from : ℕ
-      from = (item-start (after-read-item c.before)).args.from
+      from = (item_start (after_read_item c.before)).args.from
 
       none : {m : ℕ} → m ≡ 0 → from + m ≡ from
       none e = omega (arith, e)
 
-  item-write-body-requires : write-item-lts.Need-write-body-requires (item-calls t) (write-item-at t) write-item.Post
-  item-write-body-requires c κs =
+  item_write_body_requires : write-item-lts.Need-write_body-once-requires (item_calls t) (write_item_at t) write-item.Post
+  item_write_body_requires c κs =
       let o = c.before.before.before in
       let k = o.before in
-      let s = item-start (after-read-item k) in (
-        subst (λ (j : ℕ). 3 * s.args.depth < j) s.pre.0 (omega arith),
-        body_fits s.args.text.now s.args.at s.args.depth s.args.from s.args.area.now (kept k) (kept_read k) s.pre.1 (some o)
-            c.before.after_minus.result c.before.after_minus.ensures,
+      let s = item_start (after_read_item k) in (
+        subst (λ (j : ℕ). 3 * s.args.depth < j) s.requires.0 (omega arith),
+        body_fits s.args.text.now s.args.at s.args.depth s.args.from s.args.area.now (kept k) (kept_read k) s.requires.1 (some o)
+            c.after_minus-start.result c.after_minus-start.ensures,
       )
 
-  item-sub-finish : write-item-lts.Need-overflow-sub-finish (item-calls t) (write-item-at t) write-item.Post
-  item-sub-finish c =
-      let w = after-write-body c in
-      let b = begun-body w in
+  item_sub_finish : write-item-lts.Need-overflow_sub-once (item_calls t) (write_item_at t) write-item.Post
+  item_sub_finish c =
+      let w = after_write_body c in
+      let b = begun_body w in
       let o = b.before.before in
       let k = o.before in
-      let s = item-start (after-read-item k) in
-      once_after s.args.text.now s.args.at s.args.depth s.args.from s.args.area.now (kept k) (kept_read k) s.pre.1 (some o)
-      b.after_minus.result b.after_minus.ensures w.write-body.last.1.1.1.1.0 w.write-body.result w.write-body.ensures.1
+      let s = item_start (after_read_item k) in
+      once_after s.args.text.now s.args.at s.args.depth s.args.from s.args.area.now (kept k) (kept_read k) s.requires.1 (some o)
+      b.after_minus-start.result b.after_minus-start.ensures w.write_body-once.new.area w.write_body-once.result w.write_body-once.ensures.1
 
-  item-finish-requires : write-item-lts.Need-finish-requires (item-calls t) (write-item-at t) write-item.Post
-  item-finish-requires c κs =
-      let w = after-write-body c in
-      let b = begun-body w in
+  item_finish_requires : write-item-lts.Need-finish-requires (item_calls t) (write_item_at t) write-item.Post
+  item_finish_requires c κs =
+      let w = after_write_body c in
+      let b = begun_body w in
       let o = b.before.before in
       let k = o.before in
-      let s = item-start (after-read-item k) in
-      body_repeats s.args.text.now s.args.at s.args.depth s.args.from s.args.area.now (kept k) (kept_read k) s.pre.1 (some o)
-      b.after_minus.result b.after_minus.ensures w.write-body.last.1.1.1.1.0 w.write-body.result w.write-body.ensures.1
+      let s = item_start (after_read_item k) in
+      body_repeats s.args.text.now s.args.at s.args.depth s.args.from s.args.area.now (kept k) (kept_read k) s.requires.1 (some o)
+      b.after_minus-start.result b.after_minus-start.ensures w.write_body-once.new.area w.write_body-once.result w.write_body-once.ensures.1
 
-  item-returns-2 : write-item-lts.Need-returns-2 (item-calls t) (write-item-at t) write-item.Post
-  item-returns-2 c =
-      let s = item-start c.before.before in
+  item_returns_2 : write-item-lts.Need-returns-in-NotPattern (item_calls t) (write_item_at t) write-item.Post
+  item_returns_2 c =
+      let s = item_start c.before in
       let refused = kept_refused item_moves item_highest (read_item (within s.args.depth) (drop s.args.at s.args.text.now))
-      (sym (ap (spanned s.args.text.now) c.enum_told.given.1) ∙ c.before.before.read-item.ensures) in
-      absurd (subst (λ o. ItemFits o s.args.from (length s.args.area.now)) refused s.pre.1)
+      (sym (ap (spanned s.args.text.now) c.in-NotPattern.is) ∙ c.read_item.ensures) in
+      absurd (subst (λ o. ItemFits o s.args.from (length s.args.area.now)) refused s.requires.1)
 
-  item-same-length : write-item-lts.Need-same-length (item-calls t) (write-item-at t) write-item.Post
-  item-same-length c = c.before.before.finish.ensures.0 ∙ (after-write-body c.before.before.before).write-body.ensures.0
+  item_same_length : write-item-lts.Need-shape_of-area (item_calls t) (write_item_at t) write-item.Post
+  item_same_length c = c.finish.ensures.0 ∙ c.write_body-once.ensures.0
 
-  item-returns-3 : write-item-lts.Need-returns-3 (item-calls t) (write-item-at t) write-item.Post
-  item-returns-3 c =
+  item_returns_3 : write-item-lts.Need-returns-else-end-from (item_calls t) (write_item_at t) write-item.Post
+  item_returns_3 c =
       let f = c.before.before in
-      let w = after-write-body f.before in
-      let b = begun-body w in
+      let w = after_write_body f.before in
+      let b = begun_body w in
       let o = b.before.before in
       let k = o.before in
-      let s = item-start (after-read-item k) in (
-        f.finish.ensures.0 ∙ w.write-body.ensures.0,
-        item_stands s.args.text.now s.args.at s.args.depth s.args.from s.args.area.now (kept k) (kept_read k) s.pre.1 (some o)
-            b.after_minus.result b.after_minus.ensures w.write-body.last.1.1.1.1.0 w.write-body.result w.write-body.ensures.1
-            f.finish.new.0 b.before.stands.result _ f.finish.ensures.1
-            (minus_is (drop s.args.at s.args.text.now) b.before.stands.result b.before.stands.ensures) refl refl,
+      let s = item_start (after_read_item k) in (
+        f.finish.ensures.0 ∙ w.write_body-once.ensures.0,
+        item_stands s.args.text.now s.args.at s.args.depth s.args.from s.args.area.now (kept k) (kept_read k) s.requires.1 (some o)
+            b.after_minus-start.result b.after_minus-start.ensures w.write_body-once.new.area w.write_body-once.result w.write_body-once.ensures.1
+            f.finish.new.area b.stands-minus.result _ f.finish.ensures.1
+            (minus_is (drop s.args.at s.args.text.now) b.stands-minus.result b.stands-minus.ensures) refl refl,
       )
 
 -- THE PATTERN WRITER
 
-abbrev invariant-loop : write-pattern-lts.invariant-loop
-invariant-loop text at depth area₀ from laid₀ area laid = Underway text at depth from area₀ area laid
+abbrev invariant_loop : write-pattern-lts.invariant-loop-laid
+invariant_loop text at depth area₀ from laid₀ area laid = Underway text at depth from area₀ area laid
 
-abbrev decreases-loop : write-pattern-lts.decreases-loop
-decreases-loop text at depth area₀ from laid₀ area laid = length (drop laid.next text)
+abbrev decreases_loop : write-pattern-lts.decreases-loop-laid
+decreases_loop text at depth area₀ from laid₀ area laid = length (drop laid.next text)
 
 module _ (t : ℕ) where
-  abbrev pattern-start : write-pattern-lts.After-ends (pattern-calls t) (write-pattern-at t) write-pattern.Post invariant-loop decreases-loop
-      → write-pattern-lts.Start (pattern-calls t) (write-pattern-at t) write-pattern.Post invariant-loop decreases-loop
-  pattern-start c = c.before.before.before
+  abbrev pattern_start : write-pattern-lts.After-ends (pattern_calls t) (write_pattern_at t) write-pattern.Post invariant_loop decreases_loop
+      → write-pattern-lts.Start (pattern_calls t) (write_pattern_at t) write-pattern.Post invariant_loop decreases_loop
+  pattern_start c = c.before.before.before
 
-  abbrev after-ends : write-pattern-lts.After-area (pattern-calls t) (write-pattern-at t) write-pattern.Post invariant-loop decreases-loop
-      → write-pattern-lts.After-ends (pattern-calls t) (write-pattern-at t) write-pattern.Post invariant-loop decreases-loop
-  after-ends c = c.before.before.before.before.before
+  abbrev after_ends : write-pattern-lts.After-area-1 (pattern_calls t) (write_pattern_at t) write-pattern.Post invariant_loop decreases_loop
+      → write-pattern-lts.After-ends (pattern_calls t) (write_pattern_at t) write-pattern.Post invariant_loop decreases_loop
+  after_ends c = c.before.before.before.before.before
 
-  abbrev after-area : write-pattern-lts.After-stands (pattern-calls t) (write-pattern-at t) write-pattern.Post invariant-loop decreases-loop
-      → write-pattern-lts.After-area (pattern-calls t) (write-pattern-at t) write-pattern.Post invariant-loop decreases-loop
-  after-area c = c.before.before
+  abbrev after_area : write-pattern-lts.After-stands (pattern_calls t) (write_pattern_at t) write-pattern.Post invariant_loop decreases_loop
+      → write-pattern-lts.After-area-1 (pattern_calls t) (write_pattern_at t) write-pattern.Post invariant_loop decreases_loop
+  after_area c = c.before.before
 
-  pattern-returns : write-pattern-lts.Need-returns (pattern-calls t) (write-pattern-at t) write-pattern.Post invariant-loop decreases-loop
-  pattern-returns c =
-      let s = pattern-start c.before in (
+  pattern_returns : write-pattern-lts.Need-returns-then-ends (pattern_calls t) (write_pattern_at t) write-pattern.Post invariant_loop decreases_loop
+  pattern_returns c =
+      let s = pattern_start c.before in (
         refl,
         nothing_written s.args.depth (drop s.args.at s.args.text.now) s.args.from s.args.area.now
-            (sym c.before.ends.ensures ∙ c.if1.true) s.pre.1,
+            (sym c.ends.ensures ∙ c.if-ends.true) s.requires.1,
       )
 
-  pattern-loop-holds : write-pattern-lts.Need-loop-init (pattern-calls t) (write-pattern-at t) write-pattern.Post invariant-loop decreases-loop
-  pattern-loop-holds c =
-      let s = pattern-start c.before in
-      begun s.args.text.now s.args.at s.args.depth s.args.from s.args.area.now (sym c.before.ends.ensures ∙ c.if1.false) s.pre.1
+  pattern_loop_holds : write-pattern-lts.Need-loop-laid-init (pattern_calls t) (write_pattern_at t) write-pattern.Post invariant_loop decreases_loop
+  pattern_loop_holds c =
+      let s = pattern_start c.before in
+      begun s.args.text.now s.args.at s.args.depth s.args.from s.args.area.now (sym c.ends.ensures ∙ c.if-ends.false) s.requires.1
 
-  pattern-write-item-requires : write-pattern-lts.Need-write-item-requires (pattern-calls t) (write-pattern-at t) write-pattern.Post invariant-loop decreases-loop
-  pattern-write-item-requires c κs =
-      let s = pattern-start c.before.before.before in
-      let l = c.before.loop in (
-        subst (λ (j : ℕ). 3 * s.args.depth + 1 < j) s.pre.0 (omega arith),
-        item_fits s.args.text.now s.args.at s.args.depth s.args.from s.args.area.now l.area l.laid s.pre.1 l.invariant,
+  pattern_write_item_requires : write-pattern-lts.Need-write_item-laid-requires (pattern_calls t) (write_pattern_at t) write-pattern.Post invariant_loop
+      decreases_loop
+  pattern_write_item_requires c κs =
+      let s = pattern_start c.before.before.before in
+      let l = c.loop-laid in (
+        subst (λ (j : ℕ). 3 * s.args.depth + 1 < j) s.requires.0 (omega arith),
+        item_fits s.args.text.now s.args.at s.args.depth s.args.from s.args.area.now l.area l.laid s.requires.1 l.invariant,
       )
 
-  pattern-same-length : write-pattern-lts.Need-same-length (pattern-calls t) (write-pattern-at t) write-pattern.Post invariant-loop decreases-loop
-  pattern-same-length c =
-      let k = after-area c.before in
-      let s = pattern-start (after-ends k) in
-      let l = k.before.before.before.loop in
-      k.before.write-item.ensures.0 ∙ put_kept s.args.area.now s.args.from l.inv.done l.area l.inv.so_far
+  pattern_same_length : write-pattern-lts.Need-shape_of-area-then-not-stands (pattern_calls t) (write_pattern_at t) write-pattern.Post invariant_loop
+      decreases_loop
+  pattern_same_length c =
+      let k = after_area c.before in
+      let s = pattern_start (after_ends k) in
+      let l = k.loop-laid in
+      k.write_item-laid.ensures.0 ∙ put_kept s.args.area.now s.args.from l.invariant.done l.area l.invariant.so_far
 
-  pattern-returns-2 : write-pattern-lts.Need-returns-2 (pattern-calls t) (write-pattern-at t) write-pattern.Post invariant-loop decreases-loop
-  pattern-returns-2 c =
-      let k = after-area c.before in
-      let s = pattern-start (after-ends k) in
-      let l = k.before.before.before.loop in
-      let w = k.before.write-item in (
-        w.ensures.0 ∙ put_kept s.args.area.now s.args.from l.inv.done l.area l.inv.so_far,
-        last_written s.args.text.now s.args.at s.args.depth s.args.from s.args.area.now l.area l.laid s.pre.1 l.inv
-            w.last.1.1.1.0 w.result w.ensures.1
-            (sym c.before.stands.ensures ∙ not-true c.before.stands.result c.if2.true),
+  pattern_returns_2 : write-pattern-lts.Need-returns-then-not-stands (pattern_calls t) (write_pattern_at t) write-pattern.Post invariant_loop decreases_loop
+  pattern_returns_2 c =
+      let k = after_area c.before in
+      let s = pattern_start (after_ends k) in
+      let l = k.loop-laid in
+      let w = k.write_item-laid in (
+        w.ensures.0 ∙ put_kept s.args.area.now s.args.from l.invariant.done l.area l.invariant.so_far,
+        last_written s.args.text.now s.args.at s.args.depth s.args.from s.args.area.now l.area l.laid s.requires.1 l.invariant
+            w.new.area w.result w.ensures.1
+            (sym c.stands.ensures ∙ not-true c.stands.result c.if-not-stands.true-raw),
       )
 
   -- a space stands after the item
-  space : (c : write-pattern-lts.Else2 (pattern-calls t) (write-pattern-at t) write-pattern.Post invariant-loop decreases-loop)
-      → stands_first 32 (drop (after-area c.before).before.write-item.result.next
-      (pattern-start (after-ends (after-area c.before))).args.text.now) ≡ true
-  space c = sym c.before.stands.ensures ∙ not-false c.before.stands.result c.if2.false
+  space : (c : write-pattern-lts.Else-not-stands (pattern_calls t) (write_pattern_at t) write-pattern.Post invariant_loop decreases_loop)
+      → stands_first 32 (drop c.write_item-laid.result.next
+      (pattern_start (after_ends (after_area c.before))).args.text.now) ≡ true
+  space c = sym c.stands.ensures ∙ not-false c.stands.result c.if-not-stands.false-raw
 
-  pattern-add-laid : write-pattern-lts.Need-overflow-add-laid (pattern-calls t) (write-pattern-at t) write-pattern.Post invariant-loop decreases-loop
-  pattern-add-laid c =
-      let k = after-area c.before in
-      let s = pattern-start (after-ends k) in
-      let next = k.before.write-item.result.next in
-      next_fits s.args.text.now next (first_there s.args.text.now next (λ x. eqb x 32) (space c)) s.good.0.0
+  pattern_add_laid : write-pattern-lts.Need-overflow_add-laid (pattern_calls t) (write_pattern_at t) write-pattern.Post invariant_loop decreases_loop
+  pattern_add_laid c =
+      let k = after_area c.before in
+      let s = pattern_start (after_ends k) in
+      let next = k.write_item-laid.result.next in
+      next_fits s.args.text.now next (first_there s.args.text.now next (λ x. eqb x 32) (space c)) s.well_formed.0.0
 
-  pattern-loop-less : write-pattern-lts.Need-loop-smaller (pattern-calls t) (write-pattern-at t) write-pattern.Post invariant-loop decreases-loop
-  pattern-loop-less c =
-      let k = after-area c.before in
-      let s = pattern-start (after-ends k) in
-      let l = k.before.before.before.loop in
-      let w = k.before.write-item in
-      less_left s.args.text.now s.args.at s.args.depth s.args.from s.args.area.now l.area l.laid s.pre.1 l.inv
-      w.last.1.1.1.0 w.result w.ensures.1 (space c)
+  pattern_loop_less : write-pattern-lts.Need-loop-laid-smaller (pattern_calls t) (write_pattern_at t) write-pattern.Post invariant_loop decreases_loop
+  pattern_loop_less c =
+      let k = after_area c.before in
+      let s = pattern_start (after_ends k) in
+      let l = k.loop-laid in
+      let w = k.write_item-laid in
+      less_left s.args.text.now s.args.at s.args.depth s.args.from s.args.area.now l.area l.laid s.requires.1 l.invariant
+      w.new.area w.result w.ensures.1 (space c)
 
-  pattern-loop-again : write-pattern-lts.Need-loop-preserved (pattern-calls t) (write-pattern-at t) write-pattern.Post invariant-loop decreases-loop
-  pattern-loop-again c =
-      let k = after-area c.before in
-      let s = pattern-start (after-ends k) in
-      let l = k.before.before.before.loop in
-      let w = k.before.write-item in
-      further s.args.text.now s.args.at s.args.depth s.args.from s.args.area.now l.area l.laid s.pre.1 l.inv
-      w.last.1.1.1.0 w.result w.ensures.1 (space c)
+  pattern_loop_again : write-pattern-lts.Need-loop-laid-preserved (pattern_calls t) (write_pattern_at t) write-pattern.Post invariant_loop decreases_loop
+  pattern_loop_again c =
+      let k = after_area c.before in
+      let s = pattern_start (after_ends k) in
+      let l = k.loop-laid in
+      let w = k.write_item-laid in
+      further s.args.text.now s.args.at s.args.depth s.args.from s.args.area.now l.area l.laid s.requires.1 l.invariant
+      w.new.area w.result w.ensures.1 (space c)
 
-pub +write-body-write-item-write-pattern-spec : {M : Type 1} → statement M
-+write-body-write-item-write-pattern-spec =
+pub +write_body_write_item_write_pattern_spec : {M : Type 1} → statement M
++write_body_write_item_write_pattern_spec =
     close
     μ-write-body
     μ-write-item
     μ-write-pattern
-    (λ t. write-body-lts.spec (body-calls t) (write-body-at t) write-body.Post (λ c κs. search rules) (body-add-write-pattern t) (body-sub-write-pattern t)
-    (body-write-pattern-requires t) (body-same-length t) (body-returns t) (body-slice-write-area t) (body-add-result t) (λ c. search rules) (body-returns-2 t))
-    (λ t. write-item-lts.spec (item-calls t) (write-item-at t) write-item.Post (λ c κs. search rules) (λ c. search rules) (λ c. search rules)
-    (λ c. search rules) (item-add-end t) (item-returns t) (λ c κs. search rules) (λ c κs. search rules) (item-write-body-requires t) (item-sub-finish t)
-    (item-finish-requires t) (item-returns-2 t) (item-same-length t) (item-returns-3 t))
-    (λ t. write-pattern-lts.spec (pattern-calls t) (write-pattern-at t) write-pattern.Post invariant-loop decreases-loop (λ c κs. search rules) (pattern-returns t)
-    (pattern-loop-holds t) (pattern-write-item-requires t) (λ c κs. search rules) (pattern-same-length t) (pattern-returns-2 t) (pattern-add-laid t)
-    (pattern-loop-less t) (pattern-loop-again t))
+    (λ t. write-body-lts.spec (body_calls t) (write_body_at t) write-body.Post (λ c κs. search rules) (body_add_write_pattern t) (body_sub_write_pattern t)
+    (body_write_pattern_requires t) (body_same_length t) (body_returns t) (body_slice_write_area t) (body_add_result t) (λ c. search rules) (body_returns_2 t))
+    (λ t. write-item-lts.spec (item_calls t) (write_item_at t) write-item.Post (λ c κs. search rules) (λ c. search rules) (λ c. search rules)
+    (λ c. search rules) (item_add_end t) (item_returns t) (λ c κs. search rules) (λ c κs. search rules) (item_write_body_requires t) (item_sub_finish t)
+    (item_finish_requires t) (item_returns_2 t) (item_same_length t) (item_returns_3 t))
+    (λ t. write-pattern-lts.spec (pattern_calls t) (write_pattern_at t) write-pattern.Post invariant_loop decreases_loop (λ c κs. search rules)
+    (pattern_returns t)
+    (pattern_loop_holds t) (pattern_write_item_requires t) (λ c κs. search rules) (pattern_same_length t) (pattern_returns_2 t) (pattern_add_laid t)
+    (pattern_loop_less t) (pattern_loop_again t))

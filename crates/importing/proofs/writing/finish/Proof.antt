@@ -14,41 +14,41 @@ use Rattle.importing.proofs.writing.finish.Tie as tie
 abbrev start : tie.After-repeat → tie.Start
 start c = c.before.before.before
 
-abbrev after-repeat : tie.After-invert → tie.After-repeat
-after-repeat c = c.before.before.before.before.before
+abbrev after_repeat : tie.After-invert → tie.After-repeat
+after_repeat c = c.before.before.before.before.before
 
-abbrev after-invert : tie.After-area2 → tie.After-invert
-after-invert c = c.before
+abbrev after_invert : tie.After-area-then-minus-1 → tie.After-invert
+after_invert c = c.before
 
-returns : tie.Need-returns
-returns c =
-    let k = after-invert c.before in
-    let s = start (after-repeat k) in
+returns-then-minus : tie.Need-returns-then-minus
+returns-then-minus c =
+    let k = after_invert c.before in
+    let s = start (after_repeat k) in
     let a = s.args.area.now in
     let from = s.args.from in
-    let repeats = (after-repeat k).repeat in
-    let mid = repeats.last.0 in
-    let inverted = c.before.before.invert in
-    let part = inverted.new.0 in
-    let reaches : from ≤ length mid = omega (arith, repeats.ensures.0, body_inside a from s.args.count s.args.end s.pre) in
+    let repeats = k.repeat in
+    let mid = repeats.new.area in
+    let inverted = c.invert in
+    let part = inverted.new.bytes in
+    let reaches : from ≤ length mid = omega (arith, repeats.ensures.0, body_inside a from s.args.count s.args.end s.requires) in
     let whole : take (length mid - from) (drop from mid) ≡ drop from mid = take_all (length mid - from) (drop from mid) (omega (arith, length-drop from mid)) in
     let turned = subst (λ l. Inverted l (s.args.end - from) part) whole inverted.ensures in (
-      undone_kept a from s.args.count s.args.end s.pre s.args.minus k.before.before.if1.taken mid part _ repeats.ensures.1 turned
+      undone_kept a from s.args.count s.args.end s.requires s.args.minus k.if-minus.true mid part _ repeats.ensures.1 turned
           (part_back from mid part reaches),
-      finished_undone a from s.args.count s.args.end s.pre s.args.minus k.before.before.if1.taken mid part _ repeats.ensures.1 turned
+      finished_undone a from s.args.count s.args.end s.requires s.args.minus k.if-minus.true mid part _ repeats.ensures.1 turned
           (part_back from mid part reaches),
     )
 
-returns-2 : tie.Need-returns-2
-returns-2 c =
+returns-else-minus : tie.Need-returns-else-minus
+returns-else-minus c =
     let s = start c.before.before.before in
-    let repeats = c.before.before.before.repeat in (
+    let repeats = c.repeat in (
       repeats.ensures.0,
-      finished_plain s.args.area.now s.args.from s.args.count s.args.end s.pre s.args.minus c.if1.false
-          repeats.new.0 repeats.ensures.1,
+      finished_plain s.args.area.now s.args.from s.args.count s.args.end s.requires s.args.minus c.if-minus.false
+          repeats.new.area repeats.ensures.1,
     )
 
 pub finish_spec : {M : Type 1} → statement M
 finish_spec =
     tie.close (tie.spec (λ c κs. search rules) (λ c. search rules) (λ c. search rules) (λ c. search rules) (λ c. search rules) (λ c κs. search rules)
-    (λ c. search rules) returns (λ c. search rules) returns-2)
+    (λ c. search rules) returns-then-minus (λ c. search rules) returns-else-minus)

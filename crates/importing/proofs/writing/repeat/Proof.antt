@@ -8,78 +8,79 @@ use Rattle.importing.proofs.Laying.{Copied, copied_once, copied_room, copied_mor
 use Rattle.importing.proofs.writing.repeat.Statement.{statement}
 use Rattle.importing.proofs.writing.repeat.Tie as tie
 
-abbrev invariant-loop : tie.invariant-loop
-invariant-loop area₀ from count end at₀ area at = (length area ≡ length area₀) × Copied area₀ from count end area at
+abbrev invariant-loop-at : tie.invariant-loop-at
+invariant-loop-at area₀ from count end at₀ area at = (length area ≡ length area₀) × Copied area₀ from count end area at
 
-abbrev decreases-loop : tie.decreases-loop
-decreases-loop area₀ from count end at₀ area at = end - at
+abbrev decreases-loop-at : tie.decreases-loop-at
+decreases-loop-at area₀ from count end at₀ area at = end - at
 
-abbrev start : tie.After-copy-on-arg invariant-loop decreases-loop → tie.Start invariant-loop decreases-loop
+abbrev start : tie.After-copy_on-arg-1 invariant-loop-at decreases-loop-at → tie.Start invariant-loop-at decreases-loop-at
 start c = c.before.before.before.before
 
-abbrev after-copy-on-arg : tie.After-copy-on invariant-loop decreases-loop → tie.After-copy-on-arg invariant-loop decreases-loop
-after-copy-on-arg c = c.before
+abbrev after_copy_on_arg : tie.After-copy_on invariant-loop-at decreases-loop-at → tie.After-copy_on-arg-1 invariant-loop-at decreases-loop-at
+after_copy_on_arg c = c.before
 
-first-copied : (c : tie.After-slice-known invariant-loop decreases-loop) → Copied c.before.args.area.now c.before.args.from c.before.args.count
-    c.before.args.end c.before.args.area.now (c.before.args.from + c.before.args.count)
-first-copied c =
+first_copied : (c : tie.After-slice_known-1 invariant-loop-at decreases-loop-at) → Copied c.args.area.now c.args.from c.args.count
+    c.args.end c.args.area.now (c.args.from + c.args.count)
+first_copied c =
     let s = c.before in
     copied_once s.args.area.now s.args.from s.args.count s.args.end s.requires.times s.requires.some s.requires.ends s.requires.inside
     s.requires.once
 
-add_at : tie.Need-overflow-add-at invariant-loop decreases-loop
-add_at c = record { fits = omega (arith, (first-copied c).inside, c.before.ranges.end.fits) }
+overflow_add-at : tie.Need-overflow_add-at invariant-loop-at decreases-loop-at
+overflow_add-at c = record { fits = omega (arith, (first_copied c).inside, c.ranges.end.fits) }
 
-loop-holds : tie.Need-loop-init invariant-loop decreases-loop
-loop-holds c = (refl, first-copied c)
+loop-at-init : tie.Need-loop-at-init invariant-loop-at decreases-loop-at
+loop-at-init c = (refl, first_copied c)
 
 -- there is room for one more
-more_room : (c : tie.In-loop invariant-loop decreases-loop) → c.before.loop.at + c.before.before.before.args.count ≤ c.before.before.before.args.end
+more_room : (c : tie.In-loop-at invariant-loop-at decreases-loop-at) → c.loop-at.at + c.args.count ≤ c.args.end
 more_room c =
     let s = c.before.before.before in
-    let l = c.before.loop in
+    let l = c.loop-at in
     copied_room s.args.area.now s.args.from s.args.count s.args.end s.requires.times s.requires.some s.requires.ends s.requires.inside l.area
-    l.at l.invariant.1 c.loop-test.true
+    l.at l.invariant.1 c.loop-at-test.true
 
-copy-on-requires : tie.Need-copy-on-requires invariant-loop decreases-loop
-copy-on-requires c κs =
+copy_on-requires : tie.Need-copy_on-requires invariant-loop-at decreases-loop-at
+copy_on-requires c κs =
     let s = start c in
-    let l = c.before.before.loop in
+    let l = c.loop-at in
     let copied = l.invariant.1 in
-    (omega (arith, copied.at_is, suc-mul copied.earlier s.args.count), omega (arith, more_room c.before, s.pre.inside, l.invariant.0))
+    (omega (arith, copied.at_is, suc-mul copied.earlier s.args.count), omega (arith, more_room c.before, s.requires.inside, l.invariant.0))
 
-add-at-2 : tie.Need-overflow-add-at-2 invariant-loop decreases-loop
-add-at-2 c =
-    let k = after-copy-on-arg c.before.before in
-    record { fits = omega (arith, more_room k.before, (start k).fits.end.fits) }
+overflow_add-at-in-loop-at : tie.Need-overflow_add-at-in-loop-at invariant-loop-at decreases-loop-at
+overflow_add-at-in-loop-at c =
+    let k = after_copy_on_arg c.before.before in
+    record { fits = omega (arith, more_room k.before, k.ranges.end.fits) }
 
-loop-less : tie.Need-loop-smaller invariant-loop decreases-loop
-loop-less c =
-    let k = after-copy-on-arg c.before.before in
-    omega (arith, k.before.loop-test.taken, (start k).pre.some)
+loop-at-smaller : tie.Need-loop-at-smaller invariant-loop-at decreases-loop-at
+loop-at-smaller c =
+    let k = after_copy_on_arg c.before.before in
+    omega (arith, k.loop-at-test.true, k.requires.some)
 
-loop-again : tie.Need-loop-preserved invariant-loop decreases-loop
-loop-again c =
-    let k = after-copy-on-arg c.before.before in
+loop-at-preserved : tie.Need-loop-at-preserved invariant-loop-at decreases-loop-at
+loop-at-preserved c =
+    let k = after_copy_on_arg c.before.before in
     let s = start k in
-    let l = k.before.before.loop in
-    let copy = c.before.before.copy-on in (
-      copy.ensures.0 ∙ l.inv.0,
-      copied_more s.args.area.now s.args.from s.args.count s.args.end s.pre.times s.pre.some s.pre.ends s.pre.inside l.area
-          copy.new.0 l.at l.inv.1 k.before.loop-test.taken copy.ensures.1,
+    let l = k.loop-at in
+    let copy = c.copy_on in (
+      copy.ensures.0 ∙ l.invariant.0,
+      copied_more s.args.area.now s.args.from s.args.count s.args.end s.requires.times s.requires.some s.requires.ends s.requires.inside l.area
+          copy.new.area l.at l.invariant.1 k.loop-at-test.true copy.ensures.1,
     )
 
-same_length : tie.Need-same-length invariant-loop decreases-loop
-same_length c = c.before.loop.invariant.0
+shape_of-area : tie.Need-shape_of-area invariant-loop-at decreases-loop-at
+shape_of-area c = c.loop-at.invariant.0
 
-returns : tie.Need-returns invariant-loop decreases-loop
+returns : tie.Need-returns invariant-loop-at decreases-loop-at
 returns c =
     let s = c.before.before.before in
-    let l = c.before.loop in (
+    let l = c.loop-at in (
       l.invariant.0,
       copied_all s.args.area.now s.args.from s.args.count s.args.end s.requires.times s.requires.some s.requires.ends s.requires.inside
-          l.area l.at l.invariant.1 c.loop-test.false,
+          l.area l.at l.invariant.1 c.loop-at-test.false,
     )
 
-pub repeat-spec : {M : Type 1} → statement M
-repeat-spec = tie.close (tie.spec invariant-loop decreases-loop add_at loop-holds copy-on-requires add-at-2 loop-less loop-again same_length returns)
+pub repeat_spec : {M : Type 1} → statement M
+repeat_spec = tie.close (tie.spec invariant-loop-at decreases-loop-at overflow_add-at loop-at-init copy_on-requires overflow_add-at-in-loop-at loop-at-smaller
+    loop-at-preserved shape_of-area returns)

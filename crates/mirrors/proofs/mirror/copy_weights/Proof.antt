@@ -11,100 +11,101 @@ use Rattle.mirrors.proofs.Copying.{Copying, copied_none, copied_more, copied_all
 use Rattle.mirrors.proofs.mirror.copy_weights.Statement.{statement}
 use Rattle.mirrors.proofs.mirror.copy_weights.Tie as tie
 
-abbrev invariant-loop : tie.invariant-loop
-invariant-loop cells size mirror₀ a₀ mirror a =
+abbrev invariant-loop-a : tie.invariant-loop-a
+invariant-loop-a cells size mirror₀ a₀ mirror a =
     (1 ≤ a) × (a ≤ size + 1) × (size ≤ most_size) × (length mirror₀ ≡ cell_bytes) × Copying cells mirror₀ mirror a
 
-abbrev decreases-loop : tie.decreases-loop
-decreases-loop cells size mirror₀ a₀ mirror a = size + 1 - a
+abbrev decreases-loop-a : tie.decreases-loop-a
+decreases-loop-a cells size mirror₀ a₀ mirror a = size + 1 - a
 
-abbrev start : tie.At-loop invariant-loop decreases-loop → tie.Start invariant-loop decreases-loop
+abbrev start : tie.At-loop-a invariant-loop-a decreases-loop-a → tie.Start invariant-loop-a decreases-loop-a
 start c = c.before.before.before
 
-abbrev at-loop : tie.In-loop invariant-loop decreases-loop → tie.At-loop invariant-loop decreases-loop
-at-loop c = c.before
+abbrev at_loop : tie.In-loop-a invariant-loop-a decreases-loop-a → tie.At-loop-a invariant-loop-a decreases-loop-a
+at_loop c = c.before
 
-loop-holds : tie.Need-loop-init invariant-loop decreases-loop
-loop-holds c =
+loop-a-init : tie.Need-loop-a-init invariant-loop-a decreases-loop-a
+loop-a-init c =
     let s = c.before.before in
     (omega arith, omega arith, of_few s.requires.0.1, s.requires.1, copied_none s.args.cells.now s.args.mirror.now)
 
-cell-at-requires : tie.Need-cell-at-requires invariant-loop decreases-loop
-cell-at-requires c κs =
-    let l = c.before.loop in
-    let named : InRange most_size l.a = record { low = l.invariant.0; high = omega (arith, l.invariant.2, c.loop-test.true) } in
+cell_at-cell-requires : tie.Need-cell_at-cell-requires invariant-loop-a decreases-loop-a
+cell_at-cell-requires c κs =
+    let l = c.loop-a in
+    let named : InRange most_size l.a = record { low = l.invariant.0; high = omega (arith, l.invariant.2, c.loop-a-test.true) } in
     (named, named)
 
-slice-write-mirror : tie.Need-slice-write-mirror invariant-loop decreases-loop
-slice-write-mirror c =
-    let l = c.before.before.loop in
-    omega (arith, c.Cell-at.ensures, l.invariant.4.same_length, l.invariant.3, l.invariant.0, l.invariant.2, c.before.loop-test.true)
+bounds-mirror-cell : tie.Need-bounds-mirror-cell invariant-loop-a decreases-loop-a
+bounds-mirror-cell c =
+    let l = c.loop-a in
+    omega (arith, c.cell_at-cell.ensures, l.invariant.4.same_length, l.invariant.3, l.invariant.0, l.invariant.2, c.loop-a-test.true)
 
-weight-at-requires : tie.Need-weight-at-requires invariant-loop decreases-loop
-weight-at-requires c κs =
-    let l = c.before.before.loop in
-    record { low = l.invariant.0; high = omega (arith, l.invariant.2, c.before.loop-test.true) }
+weight_at-place-requires : tie.Need-weight_at-place-requires invariant-loop-a decreases-loop-a
+weight_at-place-requires c κs =
+    let l = c.loop-a in
+    record { low = l.invariant.0; high = omega (arith, l.invariant.2, c.loop-a-test.true) }
 
-shared-slice-read-mirror : tie.Need-shared-slice-read-mirror invariant-loop decreases-loop
-shared-slice-read-mirror c =
-    let k = at-loop c.before.before.before in
+bounds-cells-place : tie.Need-bounds-cells-place invariant-loop-a decreases-loop-a
+bounds-cells-place c =
+    let k = at_loop c.before.before.before in
     let s = start k in
-    let l = k.loop in
+    let l = k.loop-a in
     omega (
       arith,
-      c.before.before.Cell-at.ensures,
-      c.before.weight-at.ensures,
-      s.pre.0.1.stands.full,
-      l.inv.0,
-      l.inv.2,
-      c.before.before.before.loop-test.true,
+      c.cell_at-cell.ensures,
+      c.weight_at-place.ensures,
+      s.requires.0.1.stands.full,
+      l.invariant.0,
+      l.invariant.2,
+      c.loop-a-test.true,
     )
 
-slice-write-mirror-2 : tie.Need-slice-write-mirror-2 invariant-loop decreases-loop
-slice-write-mirror-2 c =
-    let l = (at-loop c.before.before.before).loop in
+bounds-mirror-place : tie.Need-bounds-mirror-place invariant-loop-a decreases-loop-a
+bounds-mirror-place c =
+    let l = (at_loop c.before.before.before).loop-a in
     simp length-set (omega (
       arith,
-      c.before.weight-at.ensures,
-      l.inv.4.same_length,
-      l.inv.3,
-      l.inv.0,
-      l.inv.2,
-      c.before.before.before.loop-test.true,
+      c.weight_at-place.ensures,
+      l.invariant.4.same_length,
+      l.invariant.3,
+      l.invariant.0,
+      l.invariant.2,
+      c.loop-a-test.true,
     ))
 
-add_a : tie.Need-overflow-add-a invariant-loop decreases-loop
-add_a c = omega (arith, (at-loop c.before.before.before).loop.inv.2, c.before.before.before.loop-test.true)
+overflow_add-a : tie.Need-overflow_add-a invariant-loop-a decreases-loop-a
+overflow_add-a c = omega (arith, (at_loop c.before.before.before).loop-a.invariant.2, c.loop-a-test.true)
 
-loop-less : tie.Need-loop-smaller invariant-loop decreases-loop
-loop-less c = omega (arith, c.before.before.before.loop-test.true)
+loop-a-smaller : tie.Need-loop-a-smaller invariant-loop-a decreases-loop-a
+loop-a-smaller c = omega (arith, c.loop-a-test.true)
 
-loop-again : tie.Need-loop-preserved invariant-loop decreases-loop
-loop-again c =
-    let k = at-loop c.before.before.before in
+loop-a-preserved : tie.Need-loop-a-preserved invariant-loop-a decreases-loop-a
+loop-a-preserved c =
+    let k = at_loop c.before.before.before in
     let s = start k in
-    let l = k.loop in (
-      omega (arith, l.inv.0),
-      omega (arith, c.before.before.before.loop-test.true),
-      l.inv.2,
-      l.inv.3,
-      copied_more s.args.cells.now s.args.mirror.now l.inv.3 l.mirror l.a
-          (record { low = l.inv.0; high = omega (arith, l.inv.2, c.before.before.before.loop-test.true) }) l.inv.4
-          c.before.before.Cell-at.result c.before.weight-at.result c.before.weight-at.result 0
-          c.before.before.Cell-at.ensures c.before.weight-at.ensures
-          (omega (arith, c.before.before.Cell-at.ensures, c.before.weight-at.ensures)) (omega arith),
+    let l = k.loop-a in (
+      omega (arith, l.invariant.0),
+      omega (arith, c.loop-a-test.true),
+      l.invariant.2,
+      l.invariant.3,
+      copied_more s.args.cells.now s.args.mirror.now l.invariant.3 l.mirror l.a
+          (record { low = l.invariant.0; high = omega (arith, l.invariant.2, c.loop-a-test.true) }) l.invariant.4
+          c.cell_at-cell.result c.weight_at-place.result c.weight_at-place.result 0
+          c.cell_at-cell.ensures c.weight_at-place.ensures
+          (omega (arith, c.cell_at-cell.ensures, c.weight_at-place.ensures)) (omega arith),
     )
 
-same_length : tie.Need-same-length invariant-loop decreases-loop
-same_length c = c.before.loop.invariant.4.same_length
+shape_of-mirror : tie.Need-shape_of-mirror invariant-loop-a decreases-loop-a
+shape_of-mirror c = c.loop-a.invariant.4.same_length
 
-returns : tie.Need-returns invariant-loop decreases-loop
+returns : tie.Need-returns invariant-loop-a decreases-loop-a
 returns c =
     let s = start c.before in
-    let l = c.before.loop in
-    copied_all s.args.cells.now s.args.size s.args.mirror.now l.mirror l.a c.loop-test.false l.invariant.4
+    let l = c.loop-a in
+    copied_all s.args.cells.now s.args.size s.args.mirror.now l.mirror l.a c.loop-a-test.false l.invariant.4
 
-pub copy-weights-spec : {M : Type 1} → statement M
-copy-weights-spec =
-    tie.close (tie.spec invariant-loop decreases-loop loop-holds cell-at-requires slice-write-mirror weight-at-requires shared-slice-read-mirror slice-write-mirror-2 add_a
-    loop-less loop-again same_length returns)
+pub copy_weights_spec : {M : Type 1} → statement M
+copy_weights_spec =
+    tie.close (tie.spec invariant-loop-a decreases-loop-a loop-a-init cell_at-cell-requires bounds-mirror-cell weight_at-place-requires bounds-cells-place
+    bounds-mirror-place overflow_add-a
+    loop-a-smaller loop-a-preserved shape_of-mirror returns)

@@ -11,136 +11,137 @@ use borrow.Author.Rules.{rules}
 use Rattle.mirrors.proofs.mirror.mirror_pair.Statement.{statement}
 use Rattle.mirrors.proofs.mirror.mirror_pair.Tie as tie
 
-abbrev start-from-after-cell-at : tie.After-cell-at → tie.Start
-start-from-after-cell-at c = c.before.before.before
+abbrev start_from_after_cell_at : tie.After-cell_at-there → tie.Start
+start_from_after_cell_at c = c.before.before.before
 
-abbrev else3 : tie.After-put-backward → tie.Else3
+abbrev else3 : tie.After-put_backward → tie.Else-mirror-to
 else3 c = c.before.before
 
-abbrev after-put-backward : tie.After-mirror → tie.After-put-backward
-after-put-backward c = c.before
+abbrev after_put_backward : tie.After-mirror-1 → tie.After-put_backward
+after_put_backward c = c.before
 
-abbrev start : tie.Else1 → tie.Start
+abbrev start : tie.Else-cells-there → tie.Start
 start o = o.before.before.before.before.before.before
 
-defined : (o : tie.Else1) → get_or (start o).args.cells.now o.before.before.before.Cell-at.result 0 ≡ 255 → ⊥
-defined o e = omega (arith, o.if1.false)
+defined : (o : tie.Else-cells-there) → get_or (start o).args.cells.now o.cell_at-there.result 0 ≡ 255 → ⊥
+defined o e = omega (arith, o.if-cells-there.false)
 
 -- the letters in which the two sides end
-named : (e : tie.After-last-letter2) → Letters e.before.last_letter.result e.last-letter2.result
+named : (e : tie.After-last_letter-q) → Letters e.last_letter-p.result e.last_letter-q.result
 named e =
     let o = e.before.before in
     let s = start o in
-    ends_named s.args.cells.now s.args.a s.args.b o.before.before.before.Cell-at.result o.before.before.cell-at2.result
-    o.before.before.before.Cell-at.ensures o.before.before.cell-at2.ensures (defined o) e.before.last_letter.result
-    e.last-letter2.result e.before.last_letter.ensures e.last-letter2.ensures s.pre.0
+    ends_named s.args.cells.now s.args.a s.args.b o.cell_at-there.result o.cell_at-back.result
+    o.cell_at-there.ensures o.cell_at-back.ensures (defined o) e.last_letter-p.result
+    e.last_letter-q.result e.last_letter-p.ensures e.last_letter-q.ensures s.requires.0
 
-differ : (k : tie.Else2) → k.before.before.last_letter.result ≢ k.before.last-letter2.result
-differ k e = omega (arith, k.if2.false)
+differ : (k : tie.Else-p-q) → k.last_letter-p.result ≢ k.last_letter-q.result
+differ k e = omega (arith, k.if-p-q.false)
 
-there : (o : tie.Else1) → Short (start o).args.cells.now o.before.before.before.Cell-at.result
+there : (o : tie.Else-cells-there) → Short (start o).args.cells.now o.cell_at-there.result
 there o =
     let s = start o in
-    short_there s.args.cells.now s.args.a s.args.b o.before.before.before.Cell-at.result o.before.before.cell-at2.result
-    o.before.before.before.Cell-at.ensures o.before.before.cell-at2.ensures (defined o) s.pre.0
+    short_there s.args.cells.now s.args.a s.args.b o.cell_at-there.result o.cell_at-back.result
+    o.cell_at-there.ensures o.cell_at-back.ensures (defined o) s.requires.0
 
-back : (o : tie.Else1) → Short (start o).args.cells.now o.before.before.cell-at2.result
+back : (o : tie.Else-cells-there) → Short (start o).args.cells.now o.cell_at-back.result
 back o =
     let s = start o in
-    short_back s.args.cells.now s.args.a s.args.b o.before.before.before.Cell-at.result o.before.before.cell-at2.result
-    o.before.before.before.Cell-at.ensures o.before.before.cell-at2.ensures (defined o) s.pre.0
+    short_back s.args.cells.now s.args.a s.args.b o.cell_at-there.result o.cell_at-back.result
+    o.cell_at-there.ensures o.cell_at-back.ensures (defined o) s.requires.0
 
-returns : tie.Need-returns
-returns c =
-    let s = start-from-after-cell-at c.before.before.before in (
+returns-then-cells-there : tie.Need-returns-then-cells-there
+returns-then-cells-there c =
+    let s = start_from_after_cell_at c.before.before.before in (
       refl,
-      open_done s.args.cells.now s.args.a s.args.b c.before.before.before.Cell-at.result c.before.before.before.Cell-at.ensures
-          (omega (arith, c.if1.true)) s.args.mirror.now,
+      open_done s.args.cells.now s.args.a s.args.b c.cell_at-there.result c.cell_at-there.ensures
+          (omega (arith, c.if-cells-there.true)) s.args.mirror.now,
     )
 
-last-letter-requires : tie.Need-last-letter-requires
-last-letter-requires c κs = there c
+last_letter-p-requires : tie.Need-last_letter-p-requires
+last_letter-p-requires c κs = there c
 
-last-letter-requires-2 : tie.Need-last-letter-requires-2
-last-letter-requires-2 c κs = back c.before
+last_letter-q-requires : tie.Need-last_letter-q-requires
+last_letter-q-requires c κs = back c.before
 
-returns-2 : tie.Need-returns-2
-returns-2 c =
+returns-then-p-q : tie.Need-returns-then-p-q
+returns-then-p-q c =
     let e = c.before in
     let o = e.before.before in
     let s = start o in (
       refl,
-      alike_done s.args.cells.now s.args.a s.args.b o.before.before.before.Cell-at.result o.before.before.cell-at2.result
-          o.before.before.before.Cell-at.ensures o.before.before.cell-at2.ensures (defined o) e.before.last_letter.result
-          e.last-letter2.result e.before.last_letter.ensures e.last-letter2.ensures (omega (arith, c.if2.true)) s.args.mirror.now,
+      alike_done s.args.cells.now s.args.a s.args.b o.cell_at-there.result o.cell_at-back.result
+          o.cell_at-there.ensures o.cell_at-back.ensures (defined o) e.last_letter-p.result
+          e.last_letter-q.result e.last_letter-p.ensures e.last_letter-q.ensures (omega (arith, c.if-p-q.true)) s.args.mirror.now,
     )
 
-cell-at-requires-3 : tie.Need-cell-at-requires-3
-cell-at-requires-3 c κs = named c.before
+cell_at-to-requires : tie.Need-cell_at-to-requires
+cell_at-to-requires c κs = named c.before
 
-slice-read-if3 : tie.Need-slice-read-if3
-slice-read-if3 c =
+bounds-mirror-to : tie.Need-bounds-mirror-to
+bounds-mirror-to c =
     let k = c.before in
     let e = k.before.before in
-    omega (arith, k.cell-at3.ensures, cell_inside e.before.last_letter.result e.last-letter2.result (named e), (start e.before.before).requires.1)
+    omega (arith, k.cell_at-to.ensures, cell_inside e.last_letter-p.result e.last_letter-q.result (named e), (start e.before.before).requires.1)
 
-returns-3 : tie.Need-returns-3
-returns-3 c =
+returns-then-mirror-to : tie.Need-returns-then-mirror-to
+returns-then-mirror-to c =
     let k = c.before.before in
     let e = k.before.before in
     let o = e.before.before in
     let s = start o in (
       refl,
-      taken_done s.args.cells.now s.args.a s.args.b o.before.before.before.Cell-at.result o.before.before.cell-at2.result
-          o.before.before.before.Cell-at.ensures o.before.before.cell-at2.ensures (defined o) e.before.last_letter.result
-          e.last-letter2.result e.before.last_letter.ensures e.last-letter2.ensures (differ k.before) s.args.mirror.now
-          k.cell-at3.result
-          k.cell-at3.ensures (λ e. omega (arith, c.if3.true)),
+      taken_done s.args.cells.now s.args.a s.args.b o.cell_at-there.result o.cell_at-back.result
+          o.cell_at-there.ensures o.cell_at-back.ensures (defined o) e.last_letter-p.result
+          e.last_letter-q.result e.last_letter-p.ensures e.last_letter-q.ensures (differ k.before) s.args.mirror.now
+          k.cell_at-to.result
+          k.cell_at-to.ensures (λ e. omega (arith, c.if-mirror-to.true)),
     )
 
-put-backward-requires : tie.Need-put-backward-requires
-put-backward-requires c κs =
+put_backward-requires : tie.Need-put_backward-requires
+put_backward-requires c κs =
     let k = c.before.before.before in
     let e = k.before.before in
     let o = e.before.before in
-    (there o, omega (arith, k.cell-at3.ensures, cell_inside e.before.last_letter.result e.last-letter2.result (named e), (start o).requires.1))
+    (there o, omega (arith, k.cell_at-to.ensures, cell_inside e.last_letter-p.result e.last_letter-q.result (named e), (start o).requires.1))
 
-cell-at-requires-4 : tie.Need-cell-at-requires-4
-cell-at-requires-4 c κs =
-    let k = (else3 (after-put-backward c.before.before)).before.before in
+cell_at-requires : tie.Need-cell_at-requires
+cell_at-requires c κs =
+    let k = (else3 (after_put_backward c.before.before)).before.before in
     let n = named k.before.before in (
       record { low = omega (arith, n.0.low, n.1.low); high = omega (arith, n.0.high, n.1.high) },
       record { low = omega (arith, n.0.low, n.1.low); high = omega (arith, n.0.high, n.1.high) },
     )
 
-put-backward-requires-2 : tie.Need-put-backward-requires-2
-put-backward-requires-2 c κs =
-    let w = after-put-backward c.before.before.before in
+put_backward-requires-2 : tie.Need-put_backward-requires-2
+put_backward-requires-2 c κs =
+    let w = after_put_backward c.before.before.before in
     let k = (else3 w).before.before in
     let e = k.before.before in
     let o = e.before.before in
     let n = named e in
-    (back o, omega (arith, c.cell-at4.ensures, n.0.low, n.0.high, n.1.low, n.1.high, (start o).pre.1, w.put-backward.ensures.same_length))
+    (back o, omega (arith, c.cell_at.ensures, n.0.low, n.0.high, n.1.low, n.1.high, (start o).requires.1, w.put_backward.ensures.same_length))
 
-returns-4 : tie.Need-returns-4
-returns-4 c =
+returns : tie.Need-returns
+returns c =
     let v = c.before.before in
     let f = v.before in
-    let w = after-put-backward f.before.before.before in
+    let w = after_put_backward f.before.before.before in
     let k = (else3 w).before.before in
     let e = k.before.before in
     let o = e.before.before in
     let s = start o in (
-      v.put-backward2.ensures.same_length ∙ w.put-backward.ensures.same_length,
-      entered_done s.args.cells.now s.args.a s.args.b o.before.before.before.Cell-at.result o.before.before.cell-at2.result
-          o.before.before.before.Cell-at.ensures o.before.before.cell-at2.ensures (defined o) e.before.last_letter.result
-          e.last-letter2.result e.before.last_letter.ensures e.last-letter2.ensures (differ k.before) s.args.mirror.now
-          k.cell-at3.result k.cell-at3.ensures (omega (arith, w.before.before.if3.left))
-          f.cell-at4.result (omega (arith, f.cell-at4.ensures)) w.put-backward.last.1.1.1.0 v.put-backward2.new.1.1.1.0
-          w.put-backward.ensures v.put-backward2.ensures,
+      v.put_backward-2.ensures.same_length ∙ w.put_backward.ensures.same_length,
+      entered_done s.args.cells.now s.args.a s.args.b o.cell_at-there.result o.cell_at-back.result
+          o.cell_at-there.ensures o.cell_at-back.ensures (defined o) e.last_letter-p.result
+          e.last_letter-q.result e.last_letter-p.ensures e.last_letter-q.ensures (differ k.before) s.args.mirror.now
+          k.cell_at-to.result k.cell_at-to.ensures (omega (arith, w.if-mirror-to.false))
+          f.cell_at.result (omega (arith, f.cell_at.ensures)) w.put_backward.new.mirror v.put_backward-2.new.mirror
+          w.put_backward.ensures v.put_backward-2.ensures,
     )
 
-pub mirror-pair-spec : {M : Type 1} → statement M
-mirror-pair-spec =
-    tie.close (tie.spec (λ c κs. search rules) (λ c κs. search rules) (λ c. search rules) returns last-letter-requires last-letter-requires-2 returns-2
-    cell-at-requires-3 slice-read-if3 returns-3 put-backward-requires cell-at-requires-4 put-backward-requires-2 (λ c. search rules) returns-4)
+pub mirror_pair_spec : {M : Type 1} → statement M
+mirror_pair_spec =
+    tie.close (tie.spec (λ c κs. search rules) (λ c κs. search rules) (λ c. search rules) returns-then-cells-there last_letter-p-requires last_letter-q-requires
+    returns-then-p-q
+    cell_at-to-requires bounds-mirror-to returns-then-mirror-to put_backward-requires cell_at-requires put_backward-requires-2 (λ c. search rules) returns)

@@ -11,27 +11,27 @@ use Rattle.mirrors.proofs.Rows.{RowBuilding, row_begun, row_more, row_offends, r
 use Rattle.mirrors.proofs.mirror.mirror_row.Statement.{statement}
 use Rattle.mirrors.proofs.mirror.mirror_row.Tie as tie
 
-abbrev invariant-loop : tie.invariant-loop
-invariant-loop cells size a mirror₀ b₀ mirror b =
+abbrev invariant-loop-b : tie.invariant-loop-b
+invariant-loop-b cells size a mirror₀ b₀ mirror b =
     (a < b) × (b ≤ size + 1) × (size ≤ most_size) × (length mirror ≡ length mirror₀) × RowBuilding cells size a mirror₀ mirror b
 
-abbrev decreases-loop : tie.decreases-loop
-decreases-loop cells size a mirror₀ b₀ mirror b = size + 1 - b
+abbrev decreases-loop-b : tie.decreases-loop-b
+decreases-loop-b cells size a mirror₀ b₀ mirror b = size + 1 - b
 
-abbrev start : tie.At-loop invariant-loop decreases-loop → tie.Start invariant-loop decreases-loop
+abbrev start : tie.At-loop-b invariant-loop-b decreases-loop-b → tie.Start invariant-loop-b decreases-loop-b
 start l = l.before.before.before
 
-first_named : (l : tie.At-loop invariant-loop decreases-loop) → InRange (start l).args.size (start l).args.a
+first_named : (l : tie.At-loop-b invariant-loop-b decreases-loop-b) → InRange (start l).args.size (start l).args.a
 first_named l = (start l).requires.0.1
 
-second_named : (t : tie.In-loop invariant-loop decreases-loop) → InRange (start t.before).args.size t.before.loop.b
-second_named t = record { low = omega (arith, t.before.loop.invariant.0, (first_named t.before).low); high = t.loop-test.true }
+second_named : (t : tie.In-loop-b invariant-loop-b decreases-loop-b) → InRange (start t.before).args.size t.loop-b.b
+second_named t = record { low = omega (arith, t.loop-b.invariant.0, (first_named t.before).low); high = t.loop-b-test.true }
 
-add-b : tie.Need-overflow-add-b invariant-loop decreases-loop
-add-b c = let s = c.before.before in omega (arith, s.requires.0.1.high, of_few s.requires.0.0.1)
+overflow_add-b : tie.Need-overflow_add-b invariant-loop-b decreases-loop-b
+overflow_add-b c = let s = c.before.before in omega (arith, s.requires.0.1.high, of_few s.requires.0.0.1)
 
-loop-holds : tie.Need-loop-init invariant-loop decreases-loop
-loop-holds c =
+loop-b-init : tie.Need-loop-b-init invariant-loop-b decreases-loop-b
+loop-b-init c =
     let s = c.before.before in (
       omega arith,
       omega (arith, s.requires.0.1.high),
@@ -41,75 +41,76 @@ loop-holds c =
           s.args.mirror.now,
     )
 
-mirror-pair-requires : tie.Need-mirror-pair-requires invariant-loop decreases-loop
-mirror-pair-requires c κs =
+mirror_pair-requires : tie.Need-mirror_pair-requires invariant-loop-b decreases-loop-b
+mirror_pair-requires c κs =
     let t = c.before in
     let s = start t.before in
-    let l = t.before.loop in
+    let l = t.loop-b in
     let ra = first_named t.before in
     let rb = second_named t in
-    (filled s.pre.0.0 s.args.a l.b ra.low ra.high rb.low rb.high, l.invariant.3 ∙ s.pre.1)
+    (filled s.requires.0.0 s.args.a l.b ra.low ra.high rb.low rb.high, l.invariant.3 ∙ s.requires.1)
 
-same_length : tie.Need-same-length invariant-loop decreases-loop
-same_length c =
+shape_of-mirror-then-not-mirror_pair : tie.Need-shape_of-mirror-then-not-mirror_pair invariant-loop-b decreases-loop-b
+shape_of-mirror-then-not-mirror_pair c =
     let v = c.before.before.before in
     let t = v.before.before in
     let s = start t.before in
-    let l = t.before.loop in
-    v.mirror-pair.ensures.0 ∙ l.invariant.3
+    let l = t.loop-b in
+    v.mirror_pair.ensures.0 ∙ l.invariant.3
 
-returns : tie.Need-returns invariant-loop decreases-loop
-returns c =
+returns-then-not-mirror_pair : tie.Need-returns-then-not-mirror_pair invariant-loop-b decreases-loop-b
+returns-then-not-mirror_pair c =
     let v = c.before.before.before in
     let t = v.before.before in
     let s = start t.before in
-    let l = t.before.loop in (
-      v.mirror-pair.ensures.0 ∙ l.invariant.3,
+    let l = t.loop-b in (
+      v.mirror_pair.ensures.0 ∙ l.invariant.3,
       row_offends s.args.cells.now s.args.size s.args.a s.args.mirror.now l.mirror l.b
-          l.invariant.4 (first_named t.before) (second_named t) v.mirror-pair.new.1.1.1.0 v.mirror-pair.result v.mirror-pair.ensures.1
-          (not-true v.mirror-pair.result c.if1.true),
+          l.invariant.4 (first_named t.before) (second_named t) v.mirror_pair.new.mirror v.mirror_pair.result v.mirror_pair.ensures.1
+          (not-true v.mirror_pair.result c.if-not-mirror_pair.true-raw),
     )
 
-add-b-2 : tie.Need-overflow-add-b-2 invariant-loop decreases-loop
-add-b-2 c =
+overflow_add-b-in-loop-b : tie.Need-overflow_add-b-in-loop-b invariant-loop-b decreases-loop-b
+overflow_add-b-in-loop-b c =
     let v = c.before.before.before in
     let t = v.before.before in
     let s = start t.before in
-    let l = t.before.loop in
-    omega (arith, l.invariant.2, t.loop-test.true)
+    let l = t.loop-b in
+    omega (arith, l.invariant.2, t.loop-b-test.true)
 
-loop-less : tie.Need-loop-smaller invariant-loop decreases-loop
-loop-less c =
+loop-b-smaller : tie.Need-loop-b-smaller invariant-loop-b decreases-loop-b
+loop-b-smaller c =
     let v = c.before.before.before in
     let t = v.before.before in
     let s = start t.before in
-    let l = t.before.loop in
-    omega (arith, t.loop-test.true)
+    let l = t.loop-b in
+    omega (arith, t.loop-b-test.true)
 
-loop-again : tie.Need-loop-preserved invariant-loop decreases-loop
-loop-again c =
+loop-b-preserved : tie.Need-loop-b-preserved invariant-loop-b decreases-loop-b
+loop-b-preserved c =
     let v = c.before.before.before in
     let t = v.before.before in
     let s = start t.before in
-    let l = t.before.loop in (
+    let l = t.loop-b in (
       omega (arith, l.invariant.0),
-      omega (arith, t.loop-test.true),
+      omega (arith, t.loop-b-test.true),
       l.invariant.2,
-      v.mirror-pair.ensures.0 ∙ l.invariant.3,
+      v.mirror_pair.ensures.0 ∙ l.invariant.3,
       row_more s.args.cells.now s.args.size s.args.a s.args.mirror.now l.mirror l.b l.invariant.4 (first_named t.before)
-          (second_named t) v.mirror-pair.new.1.1.1.0 v.mirror-pair.result v.mirror-pair.ensures.1
-          (not-false v.mirror-pair.result c.if1.false),
+          (second_named t) v.mirror_pair.new.mirror v.mirror_pair.result v.mirror_pair.ensures.1
+          (not-false v.mirror_pair.result c.if-not-mirror_pair.false-raw),
     )
 
-same-length-2 : tie.Need-same-length-2 invariant-loop decreases-loop
-same-length-2 c = c.before.loop.invariant.3
+shape_of-mirror : tie.Need-shape_of-mirror invariant-loop-b decreases-loop-b
+shape_of-mirror c = c.loop-b.invariant.3
 
-returns-2 : tie.Need-returns-2 invariant-loop decreases-loop
-returns-2 c =
+returns : tie.Need-returns invariant-loop-b decreases-loop-b
+returns c =
     let s = start c.before in
-    let l = c.before.loop in
-    (l.invariant.3, row_built s.args.cells.now s.args.size s.args.a s.args.mirror.now l.mirror l.b l.invariant.4 c.loop-test.false)
+    let l = c.loop-b in
+    (l.invariant.3, row_built s.args.cells.now s.args.size s.args.a s.args.mirror.now l.mirror l.b l.invariant.4 c.loop-b-test.false)
 
-pub mirror-row-spec : {M : Type 1} → statement M
-mirror-row-spec =
-    tie.close (tie.spec invariant-loop decreases-loop add-b loop-holds mirror-pair-requires same_length returns add-b-2 loop-less loop-again same-length-2 returns-2)
+pub mirror_row_spec : {M : Type 1} → statement M
+mirror_row_spec =
+    tie.close (tie.spec invariant-loop-b decreases-loop-b overflow_add-b loop-b-init mirror_pair-requires shape_of-mirror-then-not-mirror_pair
+    returns-then-not-mirror_pair overflow_add-b-in-loop-b loop-b-smaller loop-b-preserved shape_of-mirror returns)

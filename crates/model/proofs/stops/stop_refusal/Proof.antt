@@ -5,11 +5,11 @@ use borrow.Author.Rules.{rules}
 use Rattle.model.proofs.stops.stop_refusal.Statement.{statement}
 use Rattle.model.proofs.stops.stop_refusal.Tie as tie
 
-returns : tie.Need-returns
-returns c = sym (ap stop_refusal c.enum_told.given.1)
+returns-in-Budget : tie.Need-returns-in-Budget
+returns-in-Budget c = sym (ap stop_refusal c.in-Budget.is)
 
-returns-2 : tie.Need-returns-2
-returns-2 c = sym (ap stop_refusal c.enum-told2.given.1)
+returns-in-Room : tie.Need-returns-in-Room
+returns-in-Room c = sym (ap stop_refusal c.in-Room.is)
 
-pub stop-refusal-spec : {M : Type 1} → statement M
-stop-refusal-spec = tie.close (tie.spec (λ c. search rules) (λ c. search rules) returns returns-2)
+pub stop_refusal_spec : {M : Type 1} → statement M
+stop_refusal_spec = tie.close (tie.spec (λ c. search rules) (λ c. search rules) returns-in-Budget returns-in-Room)

@@ -7,11 +7,11 @@ use borrow.Author.Tests.{lt-leb, le-leb}
 use Rattle.plain_forms.proofs.reading.names_letter.Statement.{statement}
 use Rattle.plain_forms.proofs.reading.names_letter.Tie as tie
 
+returns-then-number-lt1 : tie.Need-returns-then-number-lt1
+returns-then-number-lt1 c = sym (ap (λ t. t && leb (c.args.x % 128) c.args.size) (lt-leb 1 (c.args.x % 128) c.if-number-lt1.true))
+
 returns : tie.Need-returns
-returns c = sym (ap (λ t. t && leb (c.before.args.x % 128) c.before.args.size) (lt-leb 1 (c.before.args.x % 128) c.if1.true))
+returns c = sym (ap (λ t. t && leb (c.args.x % 128) c.args.size) (le-leb 1 (c.args.x % 128) c.if-number-lt1.false))
 
-returns-2 : tie.Need-returns-2
-returns-2 c = sym (ap (λ t. t && leb (c.before.args.x % 128) c.before.args.size) (le-leb 1 (c.before.args.x % 128) c.if1.false))
-
-pub names-letter-spec : {M : Type 1} → statement M
-names-letter-spec = tie.close (tie.spec returns returns-2)
+pub names_letter_spec : {M : Type 1} → statement M
+names_letter_spec = tie.close (tie.spec returns-then-number-lt1 returns)

@@ -1,75 +1,75 @@
 -- `plain_forms::reading::read_plain_program` meets its contract. The loop's invariant: the bytes passed that name no letter are counted.
-use mathlib.Core.Path.{◌≡◌, sym, subst}
-use Prim.Native.Nat.{ℕ, ◌+◌, ◌-◌, ◌≤◌}
+use mathlib.Core.Path.{sym, subst}
+use Prim.Native.Nat.{◌+◌, ◌-◌, ◌≤◌}
 use native.Mathlib.Omega.{arith}
-use borrow.Author.Rules.{rules}
 use lib.ListN.{length}
 use Rattle.model.specs.Plain.{most_letters}
 use Rattle.plain_forms.proofs.Programs.{Counted, counted_none, counted_more, too_many, plain_accepted, plain_refused}
 use Rattle.plain_forms.proofs.reading.read_plain_program.Statement.{statement}
 use Rattle.plain_forms.proofs.reading.read_plain_program.Tie as tie
 
-abbrev invariant-loop : tie.invariant-loop
-invariant-loop plain size faults₀ i₀ faults i = Counted plain size faults i
+abbrev invariant-loop-i : tie.invariant-loop-i
+invariant-loop-i plain size faults₀ i₀ faults i = Counted plain size faults i
 
-abbrev decreases-loop : tie.decreases-loop
-decreases-loop plain size faults₀ i₀ faults i = length plain - i
+abbrev decreases-loop-i : tie.decreases-loop-i
+decreases-loop-i plain size faults₀ i₀ faults i = length plain - i
 
-abbrev start : tie.At-loop invariant-loop decreases-loop → tie.Start invariant-loop decreases-loop
+abbrev start : tie.At-loop-i invariant-loop-i decreases-loop-i → tie.Start invariant-loop-i decreases-loop-i
 start c = c.before.before.before
 
-abbrev loop : tie.After-fault invariant-loop decreases-loop → tie.At-loop invariant-loop decreases-loop
+abbrev loop : tie.After-fault-faults invariant-loop-i decreases-loop-i → tie.At-loop-i invariant-loop-i decreases-loop-i
 loop c = c.before.before.before
 
-more : (c : tie.After-fault invariant-loop decreases-loop)
-    → Counted (start (loop c)).args.plain.now (start (loop c)).args.size ((loop c).loop.faults + c.fault.result) ((loop c).loop.i + 1)
+more : (c : tie.After-fault-faults invariant-loop-i decreases-loop-i)
+    → Counted (start (loop c)).args.plain.now (start (loop c)).args.size ((loop c).loop-i.faults + c.fault-faults.result) ((loop c).loop-i.i + 1)
 more c =
     let l = loop c in
     let s = start l in
-    subst (λ n. Counted s.args.plain.now s.args.size (l.loop.faults + n) (l.loop.i + 1)) (sym c.fault.ensures)
-    (counted_more s.args.plain.now s.args.size l.loop.faults l.loop.i l.loop.inv c.before.before.loop-test.true)
+    subst (λ n. Counted s.args.plain.now s.args.size (l.loop-i.faults + n) (l.loop-i.i + 1)) (sym c.fault-faults.ensures)
+    (counted_more s.args.plain.now s.args.size l.loop-i.faults l.loop-i.i l.loop-i.invariant c.loop-i-test.true)
 
-few : (c : tie.At-loop invariant-loop decreases-loop) → length (start c).args.plain.now ≤ most_letters
-few c = c.before.if1.false
+few : (c : tie.At-loop-i invariant-loop-i decreases-loop-i) → length (start c).args.plain.now ≤ most_letters
+few c = c.if-plain-gt-MOST_LETTERS.false
 
-returns : tie.Need-returns invariant-loop decreases-loop
-returns c = too_many c.before.before.args.plain.now c.before.before.args.size c.if1.true
+returns-then-plain-gt-MOST_LETTERS : tie.Need-returns-then-plain-gt-MOST_LETTERS invariant-loop-i decreases-loop-i
+returns-then-plain-gt-MOST_LETTERS c = too_many c.args.plain.now c.args.size c.if-plain-gt-MOST_LETTERS.true
 
-loop-holds : tie.Need-loop-init invariant-loop decreases-loop
-loop-holds c = counted_none c.before.before.args.plain.now c.before.before.args.size
+loop-i-init : tie.Need-loop-i-init invariant-loop-i decreases-loop-i
+loop-i-init c = counted_none c.args.plain.now c.args.size
 
-shared-slice-read-fault : tie.Need-shared-slice-read-fault invariant-loop decreases-loop
-shared-slice-read-fault c = omega (arith, c.before.loop-test.true)
+bounds-plain-i : tie.Need-bounds-plain-i invariant-loop-i decreases-loop-i
+bounds-plain-i c = omega (arith, c.loop-i-test.true)
 
-fault-requires : tie.Need-fault-requires invariant-loop decreases-loop
-fault-requires c κs = tt
+fault-faults-requires : tie.Need-fault-faults-requires invariant-loop-i decreases-loop-i
+fault-faults-requires c κs = tt
 
-add-faults : tie.Need-overflow-add-faults invariant-loop decreases-loop
-add-faults c = omega (arith, (more c).few, (more c).inside, few (loop c))
+overflow_add-faults : tie.Need-overflow_add-faults invariant-loop-i decreases-loop-i
+overflow_add-faults c = omega (arith, (more c).few, (more c).inside, few (loop c))
 
-add-i : tie.Need-overflow-add-i invariant-loop decreases-loop
-add-i c = omega (arith, c.before.before.loop-test.true, few (loop c))
+overflow_add-i : tie.Need-overflow_add-i invariant-loop-i decreases-loop-i
+overflow_add-i c = omega (arith, c.loop-i-test.true, few (loop c))
 
-loop-less : tie.Need-loop-smaller invariant-loop decreases-loop
-loop-less c = omega (arith, c.before.before.loop-test.true)
+loop-i-smaller : tie.Need-loop-i-smaller invariant-loop-i decreases-loop-i
+loop-i-smaller c = omega (arith, c.loop-i-test.true)
 
-loop-again : tie.Need-loop-preserved invariant-loop decreases-loop
-loop-again c = more c
+loop-i-preserved : tie.Need-loop-i-preserved invariant-loop-i decreases-loop-i
+loop-i-preserved c = more c
 
-returns-2 : tie.Need-returns-2 invariant-loop decreases-loop
-returns-2 c =
+returns-then-faults-gt0 : tie.Need-returns-then-faults-gt0 invariant-loop-i decreases-loop-i
+returns-then-faults-gt0 c =
     let l = c.before.before in
     let s = start l in
-    let u = l.loop.invariant.unnamed c.if2.true in
+    let u = l.loop-i.invariant.unnamed c.if-faults-gt0.true in
     plain_refused s.args.plain.now s.args.size (few l) u.0 u.1 u.2
 
-returns-3 : tie.Need-returns-3 invariant-loop decreases-loop
-returns-3 c =
+returns : tie.Need-returns invariant-loop-i decreases-loop-i
+returns c =
     let l = c.before.before in
     let s = start l in
     plain_accepted s.args.plain.now s.args.size (few l)
-    (λ i h. l.loop.invariant.named (omega (arith, c.if2.false)) i (omega (arith, c.before.loop-test.false)))
+    (λ i h. l.loop-i.invariant.named (omega (arith, c.if-faults-gt0.false)) i (omega (arith, c.loop-i-test.false)))
 
-pub read-plain-program-spec : {M : Type 1} → statement M
-read-plain-program-spec =
-    tie.close (tie.spec invariant-loop decreases-loop returns loop-holds shared-slice-read-fault fault-requires add-faults add-i loop-less loop-again returns-2 returns-3)
+pub read_plain_program_spec : {M : Type 1} → statement M
+read_plain_program_spec =
+    tie.close (tie.spec invariant-loop-i decreases-loop-i returns-then-plain-gt-MOST_LETTERS loop-i-init bounds-plain-i fault-faults-requires
+    overflow_add-faults overflow_add-i loop-i-smaller loop-i-preserved returns-then-faults-gt0 returns)

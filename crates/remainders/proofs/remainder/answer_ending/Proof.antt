@@ -13,82 +13,83 @@ use borrow.Author.Rules.{rules}
 use Rattle.remainders.proofs.remainder.answer_ending.Statement.{statement}
 use Rattle.remainders.proofs.remainder.answer_ending.Tie as tie
 
-abbrev start : tie.At-match-keys2 → tie.Start
+abbrev start : tie.In-Undefined → tie.Start
 start c = c.before.before.before
 
-abbrev start-from-at-match-keys3 : tie.At-match-keys3 → tie.Start
-start-from-at-match-keys3 c = c.before.before.before
+abbrev start_from_at_match_keys3 : tie.In-Stopped → tie.Start
+start_from_at_match_keys3 c = c.before.before.before
 
-abbrev start-from-after-known-told : tie.After-known-told → tie.Start
-start-from-after-known-told c = c.before.before.before.before.before
+abbrev start_from_after_known_told : tie.In-Finished → tie.Start
+start_from_after_known_told c = c.before.before.before
 
-abbrev after-known-told : tie.After-copy-bytes-arg → tie.After-known-told
-after-known-told c = c.before.before.before
+abbrev after_known_told : tie.After-copy_bytes-arg-1 → tie.In-Finished
+after_known_told c = c.before.before.before
 
-abbrev after-copy-bytes-arg : tie.After-copy-bytes → tie.After-copy-bytes-arg
-after-copy-bytes-arg c = c.before
+abbrev after_copy_bytes_arg : tie.After-copy_bytes → tie.After-copy_bytes-arg-1
+after_copy_bytes_arg c = c.before
 
-returns : tie.Need-returns
-returns c =
-    let s = start-from-after-known-told c.before in
-    let e = c.before.before.ending in
-    let n = e.given.0.0 in
-    let d = e.given.0.1.0 in
-    let k = e.given.0.1.1.0 in
-    let r = e.given.0.1.1.1.0 in
-    λ T w i p. no_moves T w i s.args.workspace.now s.args.answer.now n d k r (subst (Reverses T w i s.args.workspace.now) e.given.1 p)
-    c.if1.true
+returns-then-denominator-ne0 : tie.Need-returns-then-denominator-ne0
+returns-then-denominator-ne0 c =
+    let s = start_from_after_known_told c.before in
+    let e = c.in-Finished in
+    let n = e.numerator in
+    let d = e.denominator in
+    let k = e.steps in
+    let r = e.relations in
+    λ T w i p. no_moves T w i s.args.workspace.now s.args.answer.now n d k r (subst (Reverses T w i s.args.workspace.now) e.is p)
+    c.if-denominator-ne0.true
 
-returns-2 : tie.Need-returns-2
-returns-2 c =
-    let s = start-from-after-known-told c.before.before in
-    let e = c.before.before.before.ending in
-    let n = e.given.0.0 in
-    let d = e.given.0.1.0 in
-    let k = e.given.0.1.1.0 in
-    let r = e.given.0.1.1.1.0 in
-    λ T w i p. area_short T w i s.args.workspace.now s.args.answer.now n d k r (subst (Reverses T w i s.args.workspace.now) e.given.1 p)
-    c.before.if1.false c.if2.true
+returns-then-answer-numerator : tie.Need-returns-then-answer-numerator
+returns-then-answer-numerator c =
+    let s = start_from_after_known_told c.before.before in
+    let e = c.in-Finished in
+    let n = e.numerator in
+    let d = e.denominator in
+    let k = e.steps in
+    let r = e.relations in
+    λ T w i p. area_short T w i s.args.workspace.now s.args.answer.now n d k r (subst (Reverses T w i s.args.workspace.now) e.is p)
+    c.if-denominator-ne0.false c.if-answer-numerator.true
 
-copy-bytes-requires : tie.Need-copy-bytes-requires
-copy-bytes-requires c κs =
-    let j = after-known-told c in
-    let s = start-from-after-known-told j in
-    let e = j.before.ending in
-    let n = e.given.0.0 in
-    let d = e.given.0.1.0 in
-    let k = e.given.0.1.1.0 in
-    let r = e.given.0.1.1.1.0 in
-    let f : n + d ≤ length s.args.workspace.now = subst (Finishable s.args.workspace.now) e.given.1 s.pre in (omega arith, omega arith)
+copy_bytes-requires : tie.Need-copy_bytes-requires
+copy_bytes-requires c κs =
+    let j = after_known_told c in
+    let s = start_from_after_known_told j in
+    let e = j.in-Finished in
+    let n = e.numerator in
+    let d = e.denominator in
+    let k = e.steps in
+    let r = e.relations in
+    let f : n + d ≤ length s.args.workspace.now = subst (Finishable s.args.workspace.now) e.is s.requires in (omega arith, omega arith)
 
-returns-3 : tie.Need-returns-3
-returns-3 c =
-    let j = after-copy-bytes-arg c.before.before in
-    let s = start-from-after-known-told (after-known-told j) in
-    let e = (after-known-told j).before.ending in
-    let n = e.given.0.0 in
-    let d = e.given.0.1.0 in
-    let k = e.given.0.1.1.0 in
-    let r = e.given.0.1.1.1.0 in
-    λ T w i p. moves_written T w i s.args.workspace.now s.args.answer.now n d k r (subst (Reverses T w i s.args.workspace.now) e.given.1 p)
-    j.before.before.if1.left j.before.if2.left c.before.before.copy-bytes.new.1.1.0 c.before.before.copy-bytes.ensures.1
+returns-else-answer-numerator : tie.Need-returns-else-answer-numerator
+returns-else-answer-numerator c =
+    let j = after_copy_bytes_arg c.before.before in
+    let s = start_from_after_known_told (after_known_told j) in
+    let e = j.in-Finished in
+    let n = e.numerator in
+    let d = e.denominator in
+    let k = e.steps in
+    let r = e.relations in
+    λ T w i p. moves_written T w i s.args.workspace.now s.args.answer.now n d k r (subst (Reverses T w i s.args.workspace.now) e.is p)
+    j.if-denominator-ne0.false j.if-answer-numerator.false c.copy_bytes.new.area c.copy_bytes.ensures.1
 
-returns-4 : tie.Need-returns-4
-returns-4 c =
-    let s = start c.before.before in
-    let e = c.before.ending2 in
-    λ T w i p. met_open T w i s.args.workspace.now s.args.answer.now e.given.0.0 e.given.0.1.0
-    (subst (Reverses T w i s.args.workspace.now) e.given.1 p)
+returns-in-Undefined : tie.Need-returns-in-Undefined
+returns-in-Undefined c =
+    let s = start c in
+    let e = c.in-Undefined in
+    λ T w i p. met_open T w i s.args.workspace.now s.args.answer.now e.pair e.steps
+    (subst (Reverses T w i s.args.workspace.now) e.is p)
 
-returns-5 : tie.Need-returns-5
-returns-5 c =
-    let s = start-from-at-match-keys3 c.before.before.before in
-    let e = c.before.before.ending3 in
+returns-in-Stopped : tie.Need-returns-in-Stopped
+returns-in-Stopped c =
+    let s = start_from_at_match_keys3 c.before in
+    let e = c.in-Stopped in
     λ T w i p. subst (λ q. States (remainder_of (length s.args.answer.now) (reversing T i (length s.args.workspace.now) w)) s.args.answer.now
-    s.args.answer.now (Refused q)) (sym c.stop-refusal.ensures)
-    (was_stopped T w i s.args.workspace.now s.args.answer.now e.given.0.0 (subst (Reverses T w i s.args.workspace.now) e.given.1 p))
+    s.args.answer.now (Refused q)) (sym c.stop_refusal.ensures)
+    (was_stopped T w i s.args.workspace.now s.args.answer.now e.stop (subst (Reverses T w i s.args.workspace.now) e.is p))
 
-pub answer-ending-spec : {M : Type 1} → statement M
-answer-ending-spec =
-    tie.close (tie.spec (λ c. search rules) returns returns-2 copy-bytes-requires (λ c. search rules) (λ c. search rules) (λ c κs. search rules)
-    (λ c. search rules) returns-3 returns-4 returns-5)
+pub answer_ending_spec : {M : Type 1} → statement M
+answer_ending_spec =
+    tie.close (tie.spec (λ c. search rules) returns-then-denominator-ne0 returns-then-answer-numerator copy_bytes-requires (λ c. search rules)
+    (λ c. search rules) (λ c κs. search rules)
+    (λ c. search rules) returns-else-answer-numerator returns-in-Undefined returns-in-Stopped)

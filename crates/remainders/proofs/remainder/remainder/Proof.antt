@@ -14,44 +14,44 @@ use borrow.Author.Rules.{rules}
 use Rattle.remainders.proofs.remainder.remainder.Statement.{statement}
 use Rattle.remainders.proofs.remainder.remainder.Tie as tie
 
-abbrev start : tie.After-cells2 → tie.Start
+abbrev start : tie.After-cells-2-1 → tie.Start
 start c = c.before.before.before.before.before.before.before.before
 
-abbrev after-cells2 : tie.At-match-keys1 → tie.After-cells2
-after-cells2 c = c.before
+abbrev after_cells2 : tie.In-Refused → tie.After-cells-2-1
+after_cells2 c = c.before
 
-abbrev after-cells2-from-after-known-told2 : tie.After-known-told2 → tie.After-cells2
-after-cells2-from-after-known-told2 c = c.before.before.before
+abbrev after_cells2_from_after_known_told2 : tie.In-Programs → tie.After-cells-2-1
+after_cells2_from_after_known_told2 c = c.before
 
-abbrev after-known-told2 : tie.After-cells3 → tie.After-known-told2
-after-known-told2 c = c.before
+abbrev after_known_told2 : tie.After-cells-in-Programs-1 → tie.In-Programs
+after_known_told2 c = c.before
 
-abbrev after-cells3 : tie.After-workspace → tie.After-cells3
-after-cells3 c = c.before.before.before.before
+abbrev after_cells3 : tie.After-workspace-1 → tie.After-cells-in-Programs-1
+after_cells3 c = c.before.before.before.before
 
-abbrev after-workspace : tie.After-answer → tie.After-workspace
-after-workspace c = c.before.before
+abbrev after_workspace : tie.After-answer-1 → tie.After-workspace-1
+after_workspace c = c.before.before
 
-read-programs-requires : tie.Need-read-programs-requires
-read-programs-requires c κs =
+read_programs-read-requires : tie.Need-read_programs-read-requires
+read_programs-read-requires c κs =
     blank_zeros
 
-remainder-programs-requires : tie.Need-remainder-programs-requires
-remainder-programs-requires c κs =
-    let k = after-cells2-from-after-known-told2 (after-known-told2 c.before.before) in
-    let a = (start k).args in
-    let v = k.before.read-programs in
-    let t = subst (ProgramsDone a.table.now a.done.now a.pattern.now ForwardAlone v.last.1.1.1.1.0)
-    (after-known-told2 c.before.before).before.read2.given.1 v.ensures in
+remainder_programs-requires : tie.Need-remainder_programs-requires
+remainder_programs-requires c κs =
+    let k = after_cells2_from_after_known_told2 (after_known_told2 c.before.before) in
+    let a = k.args in
+    let v = k.read_programs-read in
+    let t = subst (ProgramsDone a.table.now a.done.now a.pattern.now ForwardAlone v.new.cells)
+    c.in-Programs.is v.ensures in
     (t.forward, t.weights)
 
-returns : tie.Need-returns
-returns c =
-    let k = after-cells2 c.before.before in
-    let a = (start k).args in
-    let v = k.before.read-programs in
-    let r = c.before.read.given.0.0 in
-    let e = subst (ProgramsDone a.table.now a.done.now a.pattern.now ForwardAlone v.last.1.1.1.1.0) c.before.read.given.1
+returns-in-Refused : tie.Need-returns-in-Refused
+returns-in-Refused c =
+    let k = after_cells2 c in
+    let a = k.args in
+    let v = k.read_programs-read in
+    let r = c.in-Refused.refusal in
+    let e = subst (ProgramsDone a.table.now a.done.now a.pattern.now ForwardAlone v.new.cells) c.in-Refused.is
     v.ensures in
     let o = remainder_refused a.table.now a.done.now a.pattern.now a.allowance (length a.workspace.now) (length a.answer.now) r e in
     let told = refused_stated _ r (sym o.stated) counted in
@@ -65,15 +65,15 @@ returns c =
           a.answer.now _ told written;
     }
 
-returns-2 : tie.Need-returns-2
-returns-2 c =
-    let k = after-known-told2 (after-cells3 (after-workspace c.before)) in
-    let a = (start (after-cells2-from-after-known-told2 k)).args in
-    let v = (after-cells2-from-after-known-told2 k).before.read-programs in
-    let t = subst (ProgramsDone a.table.now a.done.now a.pattern.now ForwardAlone v.last.1.1.1.1.0) k.before.read2.given.1
+returns-in-Programs : tie.Need-returns-in-Programs
+returns-in-Programs c =
+    let k = after_known_told2 (after_cells3 (after_workspace c.before)) in
+    let a = (start (after_cells2_from_after_known_told2 k)).args in
+    let v = k.read_programs-read in
+    let t = subst (ProgramsDone a.table.now a.done.now a.pattern.now ForwardAlone v.new.cells) k.in-Programs.is
     v.ensures in
     let f = t.forward in
-    let z = (after-workspace c.before).before.remainder-programs in
+    let z = c.remainder_programs in
     let q = z.ensures.states f.table f.of f.pair.one.word f.pair.two.word f.pair.one.read f.pair.two.read in
     let o = sym (remainder_runs a.table.now a.done.now a.pattern.now a.allowance (length a.workspace.now) (length a.answer.now)
     f.table f.pair.one.word f.pair.two.word t.reads) in
@@ -92,7 +92,7 @@ returns-2 c =
           a.answer.now _ told written;
     }
 
-pub remainder-spec : {M : Type 1} → statement M
-remainder-spec =
-    tie.close (tie.spec (λ c. search rules) read-programs-requires (λ c. search rules) (λ c. search rules) (λ c. search rules) remainder-programs-requires
-    returns (λ c. search rules) (λ c. search rules) returns-2)
+pub remainder_spec : {M : Type 1} → statement M
+remainder_spec =
+    tie.close (tie.spec (λ c. search rules) read_programs-read-requires (λ c. search rules) (λ c. search rules) (λ c. search rules) remainder_programs-requires
+    returns-in-Refused (λ c. search rules) (λ c. search rules) returns-in-Programs)

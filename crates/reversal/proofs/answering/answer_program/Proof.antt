@@ -14,56 +14,56 @@ use borrow.Author.Rules.{rules}
 use Rattle.reversal.proofs.answering.answer_program.Statement.{statement}
 use Rattle.reversal.proofs.answering.answer_program.Tie as tie
 
-abbrev after-workspace : tie.After-slice-known3 → tie.After-workspace
-after-workspace c = c.before
+abbrev after_workspace : tie.After-slice_known-3-1 → tie.After-workspace-1
+after_workspace c = c.before
 
-abbrev start : tie.After-reverse-image → tie.Start
+abbrev start : tie.After-reverse_image-ending → tie.Start
 start c = c.before.before.before.before.before.before.before
 
-abbrev ran : tie.After-answer-asked → tie.After-reverse-image
-ran c = c.before.before.before.before.before
+abbrev ran : tie.After-answer_asked-result → tie.After-reverse_image-ending
+ran c = c.before.before.before.before
 
-abbrev told : tie.After-wipe → tie.After-answer-asked
+abbrev told : tie.After-wipe → tie.After-answer_asked-result
 told c = c.before.before.before.before
 
 -- the program was read backward exactly where that is asked
-abbrev asked-word : tie.After-reverse-image → Word → Word
-asked-word c w = faced (reads_backward (start c).args.asked) w
+abbrev asked_word : tie.After-reverse_image-ending → Word → Word
+asked_word c w = faced (reads_backward c.args.asked) w
 
-reverses : (c : tie.After-reverse-image) (T : Presentation) → Of (start c).args.cells.now (start c).args.size T → (w : Word)
-    → read_program (start c).args.size (start c).args.program.now ≡ answered w
-    → Reverses T (asked-word c w) (start c).args.budget c.reverse-image.new.1.1.1.1.1.1.0 c.reverse-image.result
+reverses : (c : tie.After-reverse_image-ending) (T : Presentation) → Of c.args.cells.now c.args.size T → (w : Word)
+    → read_program c.args.size c.args.program.now ≡ answered w
+    → Reverses T (asked_word c w) c.args.budget c.reverse_image-ending.new.workspace c.reverse_image-ending.result
 reverses c T o w e =
-    subst (λ b. Reverses T (faced b w) (start c).args.budget c.reverse-image.new.1.1.1.1.1.1.0 c.reverse-image.result)
-    c.before.before.reads-backward.ensures (c.reverse-image.ensures.1 T o w e)
+    subst (λ b. Reverses T (faced b w) c.args.budget c.reverse_image-ending.new.workspace c.reverse_image-ending.result)
+    c.reads_backward-backward.ensures (c.reverse_image-ending.ensures.1 T o w e)
 
-answer-asked-requires : tie.Need-answer-asked-requires
-answer-asked-requires c κs =
-    let k = (after-workspace c.before.before).before in
+answer_asked-result-requires : tie.Need-answer_asked-result-requires
+answer_asked-result-requires c κs =
+    let k = (after_workspace c.before).before in
     let s = start k in
-    let q = s.pre.accepted.program in
+    let q = s.requires.accepted.program in
     record {
-      table = s.pre.table;
-      word = asked-word k q.word;
+      table = s.requires.table;
+      word = asked_word k q.word;
       budget = s.args.budget;
-      reverses = reverses k s.pre.table s.pre.of q.word q.read;
+      reverses = reverses k s.requires.table s.requires.of q.word q.read;
     }
 
 returns : tie.Need-returns
 returns c =
     let w = c.before.before in
-    let a = (told w).answer-asked in
+    let a = w.answer_asked-result in
     let k = ran (told w) in
-    let same = k.reverse-image.ensures.0 in
-    let x = (start k).args in
+    let same = k.reverse_image-ending.ensures.0 in
+    let x = k.args in
     record {
       wiped = w.wipe.ensures ∙ ap (λ i. replicate i 0) same;
       answers = λ T o u e.
           let before = x.answer.now in
-          subst (λ i. Answers (made_of x.asked (length before) (reversing T x.budget i (asked-word k u))) before a.last.1.1.1.0 a.result)
-          same (a.ensures T (asked-word k u) x.budget (reverses k T o u e));
+          subst (λ i. Answers (made_of x.asked (length before) (reversing T x.budget i (asked_word k u))) before a.new.answer a.result)
+          same (a.ensures T (asked_word k u) x.budget (reverses k T o u e));
     }
 
-pub answer-program-spec : {M : Type 1} → statement M
-answer-program-spec = tie.close
-    (tie.spec (λ c κs. search rules) (λ c κs. search rules) answer-asked-requires (λ c κs. search rules) (λ c. search rules) (λ c. search rules) returns)
+pub answer_program_spec : {M : Type 1} → statement M
+answer_program_spec = tie.close
+    (tie.spec (λ c κs. search rules) (λ c κs. search rules) answer_asked-result-requires (λ c κs. search rules) (λ c. search rules) (λ c. search rules) returns)

@@ -16,58 +16,59 @@ use borrow.Author.Rules.{rules}
 use Rattle.reversal.proofs.endings.answer_backward.Statement.{statement}
 use Rattle.reversal.proofs.endings.answer_backward.Tie as tie
 
-abbrev after-slice-known2 : tie.At-match-keys1 → tie.After-slice-known2
-after-slice-known2 c = c.before
+abbrev after_slice_known2 : tie.In-Refused → tie.After-slice_known-2-1
+after_slice_known2 c = c.before
 
-abbrev start : tie.After-answer-ending → tie.Start
+abbrev start : tie.After-answer_ending-result → tie.Start
 start c = c.before.before.before.before
 
 -- the answer of reverse
-told : (c : tie.After-answer-ending) (r : Reversed) → c.answer-ending.result ≡ r → (T : Presentation) (w : Word) (b : ℕ)
-    → Reverses T w b (start c).args.workspace.now (start c).args.ending
-    → Answers (fraction_of (length (start c).args.answer.now) (reversing T b (length (start c).args.workspace.now) w)) (start c).args.answer.now
-    c.answer-ending.new.1.1.0 r
+told : (c : tie.After-answer_ending-result) (r : Reversed) → c.answer_ending-result.result ≡ r → (T : Presentation) (w : Word) (b : ℕ)
+    → Reverses T w b c.args.workspace.now c.args.ending
+    → Answers (fraction_of (length c.args.answer.now) (reversing T b (length c.args.workspace.now) w)) c.args.answer.now
+    c.answer_ending-result.new.answer r
 told c r e T w b p =
-    let a = (start c).args in
+    let a = c.args in
     let o = fraction_of (length a.answer.now) (reversing T b (length a.workspace.now) w) in
-    subst (Answers o a.answer.now c.answer-ending.new.1.1.0) e (c.answer-ending.ensures T w b p)
+    subst (Answers o a.answer.now c.answer_ending-result.new.answer) e (c.answer_ending-result.ensures T w b p)
 
 -- .. that is read backward
-abbrev answered : tie.After-result2 → tie.After-answer-ending
-answered c = c.before.before.before.before
+abbrev answered : tie.In-Answer → tie.After-answer_ending-result
+answered c = c.before.before.before
 
-answer-ending-requires : tie.Need-answer-ending-requires
-answer-ending-requires c κs =
+answer_ending-result-requires : tie.Need-answer_ending-result-requires
+answer_ending-result-requires c κs =
     let s = c.before.before.before in
     finishable s.requires.table s.requires.word s.requires.budget s.args.workspace.now s.args.ending s.requires.reverses
 
-turn-words-requires : tie.Need-turn-words-requires
-turn-words-requires c κs =
-    let k = c.before.before in
+turn_words-requires : tie.Need-turn_words-requires
+turn_words-requires c κs =
+    let k = c.before in
     let s = start (answered k) in
-    let g = k.result2.given in
-    let p = s.pre in
-    let f = words_fit p.table p.word p.budget (length s.args.workspace.now) s.args.answer.now (answered k).answer-ending.new.1.1.0
-    g.0.0 g.0.1.0 g.0.1.1.0 (told (answered k) _ g.1 p.table p.word p.budget p.reverses) in
+    let g = k.in-Answer in
+    let p = s.requires in
+    let f = words_fit p.table p.word p.budget (length s.args.workspace.now) s.args.answer.now k.answer_ending-result.new.answer
+    g.numerator g.denominator g.steps (told (answered k) _ g.is p.table p.word p.budget p.reverses) in
     omega (arith, f)
 
-returns : tie.Need-returns
-returns c =
-    let k = (after-slice-known2 c.before.before).before.before in
-    let a = (start k).args in
-    let g = c.before.result.given in
-    λ T w b p. refused_backward T w b (length a.workspace.now) a.answer.now k.answer-ending.last.1.1.0 g.0.0 (told k _ g.1 T w b p)
+returns-in-Refused : tie.Need-returns-in-Refused
+returns-in-Refused c =
+    let k = (after_slice_known2 c).before.before in
+    let a = k.args in
+    let g = c.in-Refused in
+    λ T w b p. refused_backward T w b (length a.workspace.now) a.answer.now k.answer_ending-result.new.answer g.refusal (told k _ g.is T w b p)
 
-returns-2 : tie.Need-returns-2
-returns-2 c =
+returns-in-Answer : tie.Need-returns-in-Answer
+returns-in-Answer c =
     let t = c.before.before in
-    let k = t.before.before.before in
+    let k = t.before.before in
     let a = (start (answered k)).args in
-    let g = k.result2.given in
-    λ T w b p. answered_backward T w b (length a.workspace.now) a.answer.now (answered k).answer-ending.new.1.1.0
-    g.0.0 g.0.1.0 g.0.1.1.0 (told (answered k) _ g.1 T w b p) t.turn-words.new.0 t.turn-words.ensures
+    let g = k.in-Answer in
+    λ T w b p. answered_backward T w b (length a.workspace.now) a.answer.now k.answer_ending-result.new.answer
+    g.numerator g.denominator g.steps (told (answered k) _ g.is T w b p) t.turn_words.new.answer t.turn_words.ensures
 
-pub answer-backward-spec : {M : Type 1} → statement M
-answer-backward-spec =
-    tie.close (tie.spec answer-ending-requires (λ c. search rules) (λ c. search rules) turn-words-requires (λ c. search rules) returns (λ c. search rules)
-    returns-2)
+pub answer_backward_spec : {M : Type 1} → statement M
+answer_backward_spec =
+    tie.close (tie.spec answer_ending-result-requires (λ c. search rules) (λ c. search rules) turn_words-requires (λ c. search rules) returns-in-Refused
+    (λ c. search rules)
+    returns-in-Answer)

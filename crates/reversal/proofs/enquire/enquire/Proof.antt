@@ -14,35 +14,35 @@ use borrow.Author.Rules.{rules}
 use Rattle.reversal.proofs.enquire.enquire.Statement.{statement}
 use Rattle.reversal.proofs.enquire.enquire.Tie as tie
 
-abbrev after-cells2 : tie.At-match-keys1 → tie.After-cells2
-after-cells2 c = c.before
+abbrev after_cells2 : tie.In-Refused → tie.After-cells-2-1
+after_cells2 c = c.before
 
-abbrev start : tie.After-read-table-program → tie.Start
+abbrev start : tie.After-read_table_program-read → tie.Start
 start c = c.before.before.before.before.before
 
-done : (c : tie.After-read-table-program) (r : TableProgram) → c.read-table-program.result ≡ r
-    → TableProgramDone (start c).args.table.now (start c).args.program.now Any c.read-table-program.new.1.1.1.0 r
+done : (c : tie.After-read_table_program-read) (r : TableProgram) → c.read_table_program-read.result ≡ r
+    → TableProgramDone c.args.table.now c.args.program.now Any c.read_table_program-read.new.cells r
 done c r e =
-    let v = c.read-table-program in
-    subst (TableProgramDone (start c).args.table.now (start c).args.program.now Any v.new.1.1.1.0) e v.ensures
+    let v = c.read_table_program-read in
+    subst (TableProgramDone c.args.table.now c.args.program.now Any v.new.cells) e v.ensures
 
 -- the images that were read
-abbrev reading : tie.After-read2 → tie.After-read-table-program
-reading c = c.before.before.before
+abbrev reading : tie.In-Loaded → tie.After-read_table_program-read
+reading c = c.before.before
 
-abbrev loaded : tie.After-enquire-program → tie.After-read2
-loaded c = c.before.before.before.before
+abbrev loaded : tie.After-enquire_program → tie.In-Loaded
+loaded c = c.before.before.before
 
-enquire-program-requires : tie.Need-enquire-program-requires
-enquire-program-requires c κs = let k = c.before.before.before in (done (reading k) _ k.read2.given.1).runs
+enquire_program-requires : tie.Need-enquire_program-requires
+enquire_program-requires c κs = let k = c.before.before in (done (reading k) _ k.in-Loaded.is).runs
 
-returns : tie.Need-returns
-returns c =
-    let k = (after-cells2 c.before.before).before in
-    let a = (start k).args in
-    let r = c.before.read.given in
+returns-in-Refused : tie.Need-returns-in-Refused
+returns-in-Refused c =
+    let k = (after_cells2 c).before in
+    let a = k.args in
+    let r = c.in-Refused in
     let room = length a.workspace.now in
-    let o = enquire_refused a.table.now a.program.now a.allowance room r.0.0 (done k _ r.1) in
+    let o = enquire_refused a.table.now a.program.now a.allowance room r.refusal (done k _ r.is) in
     let means = foretells a.table.now a.program.now a.allowance room in
     record {
       stated = o.stated;
@@ -50,12 +50,12 @@ returns c =
       meaning = subst (EnquireSays a.table.now a.program.now a.allowance room) (sym o.stated) means;
     }
 
-returns-2 : tie.Need-returns-2
-returns-2 c =
-    let z = c.before.before.enquire-program.ensures in
+returns-in-Loaded : tie.Need-returns-in-Loaded
+returns-in-Loaded c =
+    let z = c.enquire_program.ensures in
     let k = loaded c.before.before in
     let a = (start (reading k)).args in
-    let t = done (reading k) _ k.read2.given.1 in
+    let t = done (reading k) _ k.in-Loaded.is in
     let p = t.runs in
     let q = p.accepted.program in
     let room = length a.workspace.now in
@@ -69,7 +69,8 @@ returns-2 c =
       meaning = subst (EnquireSays a.table.now a.program.now a.allowance room) (sym stated) means;
     }
 
-pub enquire-spec : {M : Type 1} → statement M
-enquire-spec =
-    tie.close (tie.spec (λ c. search rules) (λ c κs. blank_zeros) (λ c. search rules) (λ c. search rules) (λ c. search rules) enquire-program-requires returns
-    (λ c. search rules) returns-2)
+pub enquire_spec : {M : Type 1} → statement M
+enquire_spec =
+    tie.close (tie.spec (λ c. search rules) (λ c κs. blank_zeros) (λ c. search rules) (λ c. search rules) (λ c. search rules) enquire_program-requires
+    returns-in-Refused
+    (λ c. search rules) returns-in-Loaded)

@@ -10,24 +10,24 @@ use borrow.Author.Rules.{rules}
 use Rattle.reversal.proofs.enquire.enquire_program.Statement.{statement}
 use Rattle.reversal.proofs.enquire.enquire_program.Tie as tie
 
-abbrev start : tie.After-reverse-image → tie.Start
+abbrev start : tie.After-reverse_image-ending → tie.Start
 start c = c.before.before.before.before.before
 
-abbrev after-reverse-image : tie.After-wipe → tie.After-reverse-image
-after-reverse-image c = c.before.before.before.before
+abbrev after_reverse_image : tie.After-wipe → tie.After-reverse_image-ending
+after_reverse_image c = c.before.before.before.before
 
 returns : tie.Need-returns
 returns c =
-    let k = after-reverse-image c.before.before.before in
+    let k = after_reverse_image c.before.before.before in
     let s = start k in
-    let v = k.reverse-image in
+    let v = k.reverse_image-ending in
     record {
-      wiped = c.before.before.before.wipe.ensures ∙ ap (λ i. replicate i 0) v.ensures.0;
-      answers = λ T o w e. ap reversed c.sizes-of.ensures
+      wiped = c.wipe.ensures ∙ ap (λ i. replicate i 0) v.ensures.0;
+      answers = λ T o w e. ap reversed c.sizes_of.ensures
           ∙ (ap (λ x. reversed (sizes_told x)) (v.ensures.1 T o w e).answer
-          ∙ (sizes_stated (reversing T s.args.budget (length v.last.1.1.1.1.1.1.0) w) ∙ ap (λ i. sizes_of (reversing T s.args.budget i w))
+          ∙ (sizes_stated (reversing T s.args.budget (length v.new.workspace) w) ∙ ap (λ i. sizes_of (reversing T s.args.budget i w))
           v.ensures.0));
     }
 
-pub enquire-program-spec : {M : Type 1} → statement M
-enquire-program-spec = tie.close (tie.spec (λ c κs. search rules) (λ c κs. search rules) (λ c κs. search rules) (λ c. search rules) returns)
+pub enquire_program_spec : {M : Type 1} → statement M
+enquire_program_spec = tie.close (tie.spec (λ c κs. search rules) (λ c κs. search rules) (λ c κs. search rules) (λ c. search rules) returns)

@@ -6,14 +6,15 @@ use borrow.Author.Rules.{rules}
 use Rattle.reversal.proofs.enquire.sizes_of.Statement.{statement}
 use Rattle.reversal.proofs.enquire.sizes_of.Tie as tie
 
-returns : tie.Need-returns
-returns c = sym (ap sizes_told c.before.ending.given.1)
+returns-in-Finished : tie.Need-returns-in-Finished
+returns-in-Finished c = sym (ap sizes_told c.in-Finished.is)
 
-returns-2 : tie.Need-returns-2
-returns-2 c = sym (ap sizes_told c.before.ending2.given.1)
+returns-in-Undefined : tie.Need-returns-in-Undefined
+returns-in-Undefined c = sym (ap sizes_told c.in-Undefined.is)
 
-returns-3 : tie.Need-returns-3
-returns-3 c = ap Refused c.stop-refusal.ensures ∙ sym (ap sizes_told c.before.before.ending3.given.1)
+returns-in-Stopped : tie.Need-returns-in-Stopped
+returns-in-Stopped c = ap Refused c.stop_refusal.ensures ∙ sym (ap sizes_told c.in-Stopped.is)
 
-pub sizes-of-spec : {M : Type 1} → statement M
-sizes-of-spec = tie.close (tie.spec (λ c. search rules) (λ c. search rules) (λ c. search rules) (λ c κs. search rules) returns returns-2 returns-3)
+pub sizes_of_spec : {M : Type 1} → statement M
+sizes_of_spec = tie.close (tie.spec (λ c. search rules) (λ c. search rules) (λ c. search rules) (λ c κs. search rules) returns-in-Finished returns-in-Undefined
+    returns-in-Stopped)

@@ -4,17 +4,17 @@ use borrow.Author.Rules.{rules}
 use Rattle.reversal.proofs.left_reverse.left_reverse.Statement.{statement}
 use Rattle.reversal.proofs.left_reverse.left_reverse.Tie as tie
 
-abbrev answered : tie.After-slice-known4 → tie.After-answer-images
+abbrev answered : tie.After-slice_known-4-1 → tie.After-answer_images
 answered c = c.before.before.before.before
 
-abbrev start : tie.After-answer-images → tie.Start
+abbrev start : tie.After-answer_images → tie.Start
 start c = c.before.before.before.before.before.before.before
 
 returns : tie.Need-returns
 returns c =
-    let z = (answered c).answer-images.ensures in
+    let z = c.answer_images.ensures in
     let a = (start (answered c)).args in
     promised a.table.now a.program.now a.allowance a.workspace.now a.answer.now _ _ _ z.result z.area z.work
 
-pub left-reverse-spec : {M : Type 1} → statement M
-left-reverse-spec = tie.close (tie.spec (λ c κs. search rules) (λ c. search rules) (λ c. search rules) returns)
+pub left_reverse_spec : {M : Type 1} → statement M
+left_reverse_spec = tie.close (tie.spec (λ c κs. search rules) (λ c. search rules) (λ c. search rules) returns)

@@ -9,56 +9,57 @@ use Rattle.sets.proofs.Adding.{listed_stays, too_large, long_stops, word_added}
 use Rattle.sets.proofs.growing.add_word.Statement.{statement}
 use Rattle.sets.proofs.growing.add_word.Tie as tie
 
-abbrev start : tie.After-is-listed → tie.Start
-start c = c.before.before.before
+abbrev start : tie.After-is_listed → tie.Start
+start c = c.before.before
 
-abbrev after-is-listed : tie.After-struct-known → tie.After-is-listed
-after-is-listed c = c.before.before
+abbrev after_is_listed : tie.After-struct_known-1 → tie.After-is_listed
+after_is_listed c = c.before.before
 
-abbrev after-struct-known : tie.Else2 → tie.After-struct-known
-after-struct-known c = c.before
+abbrev after_struct_known : tie.Else-held-ge-MOST_WORDS → tie.After-struct_known-1
+after_struct_known c = c.before
+
+returns-then-is_listed : tie.Need-returns-then-is_listed
+returns-then-is_listed c =
+    let s = start c.before in
+    let f = c.is_listed in (
+      refl,
+      λ n vs g w b l. listed_stays n s.args.area.now s.args.held vs g s.args.count s.requires.1 w b
+          (ap (λ x. is_listed x vs) (sym b) ∙ (sym (f.ensures n vs g.lists) ∙ c.if-is_listed.true)),
+    )
+
+returns-then-held-ge-MOST_WORDS : tie.Need-returns-then-held-ge-MOST_WORDS
+returns-then-held-ge-MOST_WORDS c =
+    let s = start (after_is_listed c.before) in
+    let f = c.is_listed in (
+      refl,
+      λ n vs g w b l after stops. too_large n s.args.area.now s.args.held vs g s.args.count s.requires.1 w b
+          (ap (λ x. is_listed x vs) (sym b) ∙ (sym (f.ensures n vs g.lists) ∙ c.if-is_listed.false)) (omega (arith, c.if-held-ge-MOST_WORDS.true)) after,
+    )
+
+returns-then-end-area : tie.Need-returns-then-end-area
+returns-then-end-area c =
+    let k = after_is_listed (after_struct_known c.before) in
+    let s = start k in
+    let f = k.is_listed in (
+      refl,
+      λ n vs g w b l after stops. long_stops n s.args.area.now s.args.held vs g s.args.count s.requires.1 w b
+          (ap (λ x. is_listed x vs) (sym b) ∙ (sym (f.ensures n vs g.lists) ∙ c.if-is_listed.false)) (omega (arith, c.if-held-ge-MOST_WORDS.false))
+          c.if-end-area.true after stops,
+    )
 
 returns : tie.Need-returns
 returns c =
-    let s = start c.before in
-    let f = c.before.is-listed in (
-      refl,
-      λ n vs g w b l. listed_stays n s.args.area.now s.args.held vs g s.args.count s.pre.1 w b
-          (ap (λ x. is_listed x vs) (sym b) ∙ (sym (f.ensures n vs g.lists) ∙ c.if1.true)),
-    )
-
-returns-2 : tie.Need-returns-2
-returns-2 c =
-    let s = start (after-is-listed c.before) in
-    let f = c.before.before.before.is-listed in (
-      refl,
-      λ n vs g w b l after stops. too_large n s.args.area.now s.args.held vs g s.args.count s.pre.1 w b
-          (ap (λ x. is_listed x vs) (sym b) ∙ (sym (f.ensures n vs g.lists) ∙ c.before.before.if1.false)) (omega (arith, c.if2.true)) after,
-    )
-
-returns-3 : tie.Need-returns-3
-returns-3 c =
-    let k = after-is-listed (after-struct-known c.before) in
-    let s = start k in
-    let f = k.is-listed in (
-      refl,
-      λ n vs g w b l after stops. long_stops n s.args.area.now s.args.held vs g s.args.count s.pre.1 w b
-          (ap (λ x. is_listed x vs) (sym b) ∙ (sym (f.ensures n vs g.lists) ∙ c.before.before.before.if1.false)) (omega (arith, c.before.if2.false))
-          c.if3.true after stops,
-    )
-
-returns-4 : tie.Need-returns-4
-returns-4 c =
-    let k = after-struct-known c.before.before in
-    let s = start (after-is-listed k) in
-    let f = (after-is-listed k).is-listed in (
+    let k = after_struct_known c.before.before in
+    let s = start (after_is_listed k) in
+    let f = k.is_listed in (
       length-set s.args.area.now (s.args.held.used + s.args.count) 0,
-      λ n vs g w b l. word_added n s.args.area.now s.args.held vs g s.args.count s.pre.1 w b
-          (ap (λ x. is_listed x vs) (sym b) ∙ (sym (f.ensures n vs g.lists) ∙ k.before.if1.left)) (omega (arith, c.before.before.if2.false)) l
-          (omega (arith, s.pre.1, c.before.if3.false)),
+      λ n vs g w b l. word_added n s.args.area.now s.args.held vs g s.args.count s.requires.1 w b
+          (ap (λ x. is_listed x vs) (sym b) ∙ (sym (f.ensures n vs g.lists) ∙ k.if-is_listed.false)) (omega (arith, c.if-held-ge-MOST_WORDS.false)) l
+          (omega (arith, s.requires.1, c.if-end-area.false)),
     )
 
-pub add-word-spec : {M : Type 1} → statement M
-add-word-spec =
-    tie.close (tie.spec (λ c κs. search rules) (λ c. search rules) returns (λ c. search rules) returns-2 (λ c. search rules) (λ c. search rules) returns-3
-    (λ c. search rules) (λ c. search rules) (λ c. search rules) (λ c. search rules) returns-4)
+pub add_word_spec : {M : Type 1} → statement M
+add_word_spec =
+    tie.close (tie.spec (λ c κs. search rules) (λ c. search rules) returns-then-is_listed (λ c. search rules) returns-then-held-ge-MOST_WORDS
+    (λ c. search rules) (λ c. search rules) returns-then-end-area
+    (λ c. search rules) (λ c. search rules) (λ c. search rules) (λ c. search rules) returns)

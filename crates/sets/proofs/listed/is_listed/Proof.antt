@@ -10,74 +10,75 @@ use Rattle.sets.proofs.Lookup.{Passed, passed_none, passed_end, passed_inside, p
 use Rattle.sets.proofs.listed.is_listed.Statement.{statement}
 use Rattle.sets.proofs.listed.is_listed.Tie as tie
 
-abbrev invariant-loop : tie.invariant-loop
-invariant-loop area used count new at₀ at = (at ≤ used) × ((n : ℕ) (vs : List Positive) → Lists n area used vs → Passed vs (take count (drop used area)) at)
+abbrev invariant-loop-at : tie.invariant-loop-at
+invariant-loop-at area used count new at₀ at = (at ≤ used) × ((n : ℕ) (vs : List Positive) → Lists n area used vs → Passed vs (take count (drop used area)) at)
 
-abbrev decreases-loop : tie.decreases-loop
-decreases-loop area used count new at₀ at = used - at
+abbrev decreases-loop-at : tie.decreases-loop-at
+decreases-loop-at area used count new at₀ at = used - at
 
-abbrev start : tie.In-loop invariant-loop decreases-loop → tie.Start invariant-loop decreases-loop
+abbrev start : tie.In-loop-at invariant-loop-at decreases-loop-at → tie.Start invariant-loop-at decreases-loop-at
 start c = c.before.before.before
 
-abbrev in-loop : tie.After-word-end invariant-loop decreases-loop → tie.In-loop invariant-loop decreases-loop
-in-loop c = c.before
+abbrev in_loop : tie.After-word_end-end invariant-loop-at decreases-loop-at → tie.In-loop-at invariant-loop-at decreases-loop-at
+in_loop c = c.before
 
-loop-holds : tie.Need-loop-init invariant-loop decreases-loop
-loop-holds c =
+loop-at-init : tie.Need-loop-at-init invariant-loop-at decreases-loop-at
+loop-at-init c =
     let s = c.before in
     (omega arith, λ n vs h. passed_none vs (take s.args.count (drop s.args.used s.args.area.now)))
 
-word-end-requires : tie.Need-word-end-requires invariant-loop decreases-loop
-word-end-requires c κs =
+word_end-end-requires : tie.Need-word_end-end-requires invariant-loop-at decreases-loop-at
+word_end-end-requires c κs =
     let s = c.before.before.before in
-    let l = c.before.loop in
+    let l = c.loop-at in
     let g = s.requires.0 in
     passed_end g.0 s.args.area.now s.args.used g.1 g.2 (take s.args.count (drop s.args.used s.args.area.now)) l.at
-    (l.invariant.1 g.0 g.1 g.2) c.loop-test.true
+    (l.invariant.1 g.0 g.1 g.2) c.loop-at-test.true
 
-sub-t9 : tie.Need-overflow-sub-t9 invariant-loop decreases-loop
-sub-t9 c = omega (arith, c.word-end.ensures.after)
+overflow_sub-word : tie.Need-overflow_sub-word invariant-loop-at decreases-loop-at
+overflow_sub-word c = omega (arith, c.word_end-end.ensures.after)
 
-same-word-requires : tie.Need-same-word-requires invariant-loop decreases-loop
-same-word-requires c κs =
-    let s = start (in-loop c) in
-    (s.pre.1, omega (arith, c.word-end.ensures.after, c.word-end.ensures.inside))
+same_word-requires : tie.Need-same_word-requires invariant-loop-at decreases-loop-at
+same_word-requires c κs =
+    let s = start (in_loop c) in
+    (s.requires.1, omega (arith, c.word_end-end.ensures.after, c.word_end-end.ensures.inside))
 
-returns : tie.Need-returns invariant-loop decreases-loop
-returns c =
-    let k = in-loop c.before.before in
+returns-then-same_word : tie.Need-returns-then-same_word invariant-loop-at decreases-loop-at
+returns-then-same_word c =
+    let k = in_loop c.before.before in
     let s = start k in
-    let l = k.before.loop in
+    let l = k.loop-at in
     λ n vs h. sym (passed_found n s.args.area.now s.args.used vs h (take s.args.count (drop s.args.used s.args.area.now)) l.at
-    (l.inv.1 n vs h) c.before.before.before.loop-test.true c.before.before.word-end.result c.before.before.word-end.ensures
-    (sym c.before.same_word.ensures ∙ c.if1.true))
+    (l.invariant.1 n vs h) c.loop-at-test.true c.word_end-end.result c.word_end-end.ensures
+    (sym c.same_word.ensures ∙ c.if-same_word.true))
 
-add_at : tie.Need-overflow-add-at invariant-loop decreases-loop
-add_at c = omega (arith, c.before.before.word-end.ensures.inside)
+overflow_add-at : tie.Need-overflow_add-at invariant-loop-at decreases-loop-at
+overflow_add-at c = omega (arith, c.word_end-end.ensures.inside)
 
-loop-less : tie.Need-loop-smaller invariant-loop decreases-loop
-loop-less c = omega (arith, c.before.before.word-end.ensures.after, c.before.before.before.loop-test.true)
+loop-at-smaller : tie.Need-loop-at-smaller invariant-loop-at decreases-loop-at
+loop-at-smaller c = omega (arith, c.word_end-end.ensures.after, c.loop-at-test.true)
 
-loop-again : tie.Need-loop-preserved invariant-loop decreases-loop
-loop-again c =
-    let k = in-loop c.before.before in
+loop-at-preserved : tie.Need-loop-at-preserved invariant-loop-at decreases-loop-at
+loop-at-preserved c =
+    let k = in_loop c.before.before in
     let s = start k in
-    let l = k.before.loop in
-    let g = s.pre.0 in
+    let l = k.loop-at in
+    let g = s.requires.0 in
     let w = take s.args.count (drop s.args.used s.args.area.now) in (
-      passed_inside g.0 s.args.area.now s.args.used g.1 g.2 w l.at (l.inv.1 g.0 g.1 g.2)
-          c.before.before.before.loop-test.true
-          c.before.before.word-end.result c.before.before.word-end.ensures,
-      λ n vs h. passed_more n s.args.area.now s.args.used vs h w l.at (l.inv.1 n vs h) c.before.before.before.loop-test.true
-          c.before.before.word-end.result c.before.before.word-end.ensures (sym c.before.same_word.ensures ∙ c.if1.false),
+      passed_inside g.0 s.args.area.now s.args.used g.1 g.2 w l.at (l.invariant.1 g.0 g.1 g.2)
+          c.loop-at-test.true
+          c.word_end-end.result c.word_end-end.ensures,
+      λ n vs h. passed_more n s.args.area.now s.args.used vs h w l.at (l.invariant.1 n vs h) c.loop-at-test.true
+          c.word_end-end.result c.word_end-end.ensures (sym c.same_word.ensures ∙ c.if-same_word.false),
     )
 
-returns-2 : tie.Need-returns-2 invariant-loop decreases-loop
-returns-2 c =
+returns : tie.Need-returns invariant-loop-at decreases-loop-at
+returns c =
     let s = c.before.before.before in
-    let l = c.before.loop in
+    let l = c.loop-at in
     λ n vs h. sym (passed_all n s.args.area.now s.args.used vs h (take s.args.count (drop s.args.used s.args.area.now)) l.at
-    (l.invariant.1 n vs h) (omega (arith, c.loop-test.false)))
+    (l.invariant.1 n vs h) (omega (arith, c.loop-at-test.false)))
 
-pub is-listed-spec : {M : Type 1} → statement M
-is-listed-spec = tie.close (tie.spec invariant-loop decreases-loop loop-holds word-end-requires sub-t9 same-word-requires returns add_at loop-less loop-again returns-2)
+pub is_listed_spec : {M : Type 1} → statement M
+is_listed_spec = tie.close (tie.spec invariant-loop-at decreases-loop-at loop-at-init word_end-end-requires overflow_sub-word same_word-requires
+    returns-then-same_word overflow_add-at loop-at-smaller loop-at-preserved returns)

@@ -5,11 +5,11 @@ use Rattle.sets.specs.Places.{is_taken}
 use Rattle.sets.proofs.places.is_taken.Statement.{statement}
 use Rattle.sets.proofs.places.is_taken.Tie as tie
 
-returns : tie.Need-returns
-returns c = let a = c.before.before.args in sym (ap (λ s. is_taken s a.at a.last) c.enum_told.given.1)
+returns-in-Second : tie.Need-returns-in-Second
+returns-in-Second c = let a = c.args in sym (ap (λ s. is_taken s a.at a.last) c.in-Second.is)
 
-returns-2 : tie.Need-returns-2
-returns-2 c = let a = c.before.before.args in sym (ap (λ s. is_taken s a.at a.last) c.enum-told2.given.1)
+returns-in-First : tie.Need-returns-in-First
+returns-in-First c = let a = c.args in sym (ap (λ s. is_taken s a.at a.last) c.in-First.is)
 
-pub is-taken-spec : {M : Type 1} → statement M
-is-taken-spec = tie.close (tie.spec (λ c. search rules) (λ c. search rules) returns returns-2)
+pub is_taken_spec : {M : Type 1} → statement M
+is_taken_spec = tie.close (tie.spec (λ c. search rules) (λ c. search rules) returns-in-Second returns-in-First)

@@ -5,46 +5,47 @@ use Rattle.sets.proofs.PlacePairs.{place_ended, place_half, place_taken}
 use Rattle.sets.proofs.places.take_place.Statement.{statement}
 use Rattle.sets.proofs.places.take_place.Tie as tie
 
-abbrev start : tie.After-take-side → tie.Start
+abbrev start : tie.After-take_side-step → tie.Start
 start c = c.before.before.before.before
 
-abbrev ended : tie.After-known-told → tie.After-take-side
-ended c = c.before.before.before.before.before
+abbrev ended : tie.In-Ended → tie.After-take_side-step
+ended c = c.before.before.before
 
-abbrev went : tie.After-known-told2 → tie.After-take-side
-went c = c.before.before.before.before.before
+abbrev went : tie.In-Going → tie.After-take_side-step
+went c = c.before.before.before
 
-abbrev both : tie.After-slice-known3 → tie.After-known-told2
+abbrev both : tie.After-slice_known-in-Going-1 → tie.In-Going
 both c = c.before.before.before.before
 
-take-side-requires-2 : tie.Need-take-side-requires-2
-take-side-requires-2 c κs =
+take_side-requires : tie.Need-take_side-requires
+take_side-requires c κs =
     let s = start (went c.before) in
     let a = s.args in
-    let t = (went c.before).take-side in
-    place_half a.cells.now a.area.now a.held a.later a.budget t.last.1.0 t.result t.ensures.0 t.ensures.1
-    c.before.before.step2.given.1 s.pre
+    let t = c.take_side-step in
+    place_half a.cells.now a.area.now a.held a.later a.budget t.new.area t.result t.ensures.0 t.ensures.1
+    c.in-Going.is s.requires
 
-returns : tie.Need-returns
-returns c =
+returns-in-Ended : tie.Need-returns-in-Ended
+returns-in-Ended c =
     let a = (start (ended c)).args in
-    let t = (ended c).take-side in (
+    let t = c.take_side-step in (
       t.ensures.0,
-      place_ended a.cells.now a.area.now a.held a.later a.budget t.last.1.0 t.result t.ensures.0 t.ensures.1
-          c.before.step.given.1,
+      place_ended a.cells.now a.area.now a.held a.later a.budget t.new.area t.result t.ensures.0 t.ensures.1
+          c.in-Ended.is,
     )
 
-returns-2 : tie.Need-returns-2
-returns-2 c =
+returns-in-Going : tie.Need-returns-in-Going
+returns-in-Going c =
     let a = (start (went (both c))).args in
-    let t = (went (both c)).take-side in
-    let f = c.before.before.take-side2 in (
+    let t = (went (both c)).take_side-step in
+    let f = c.take_side in (
       f.ensures.0 ∙ t.ensures.0,
-      place_taken a.cells.now a.area.now a.held a.later a.budget t.last.1.0 t.result t.ensures.0 t.ensures.1
-          (both c).before.step2.given.1 f.new.1.0 f.result f.ensures.1,
+      place_taken a.cells.now a.area.now a.held a.later a.budget t.new.area t.result t.ensures.0 t.ensures.1
+          c.in-Going.is f.new.area f.result f.ensures.1,
     )
 
-pub take-place-spec : {M : Type 1} → statement M
-take-place-spec =
-    tie.close (tie.spec (λ c κs. search rules) (λ c. search rules) (λ c. search rules) take-side-requires-2 (λ c. search rules) returns (λ c. search rules)
-    returns-2)
+pub take_place_spec : {M : Type 1} → statement M
+take_place_spec =
+    tie.close (tie.spec (λ c κs. search rules) (λ c. search rules) (λ c. search rules) take_side-requires (λ c. search rules) returns-in-Ended
+    (λ c. search rules)
+    returns-in-Going)

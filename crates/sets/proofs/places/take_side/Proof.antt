@@ -14,108 +14,106 @@ use Rattle.sets.proofs.PlacePairs.{sided_few, sided_on, sided_all, sided_paired}
 use Rattle.sets.proofs.places.take_side.Statement.{statement}
 use Rattle.sets.proofs.places.take_side.Tie as tie
 
-abbrev invariant-loop : tie.invariant-loop
-invariant-loop cells area₀ later side budget last current₀ at₀ area current at =
+abbrev invariant-loop-later : tie.invariant-loop-later
+invariant-loop-later cells area₀ later side budget last current₀ at₀ area current at =
     (length area ≡ length area₀)
     × ((T : Presentation) (vs : List Positive) (m : ℕ) → LaterWord cells area₀ current₀ later T vs m
     → Taking T budget (length area₀) vs (sided_pair side m) (sided_count side m) area current at)
 
-abbrev decreases-loop : tie.decreases-loop
-decreases-loop cells area₀ later side budget last current₀ at₀ area current at = length area - at
+abbrev decreases-loop-later : tie.decreases-loop-later
+decreases-loop-later cells area₀ later side budget last current₀ at₀ area current at = length area - at
 
-abbrev start : tie.After-is-taken invariant-loop decreases-loop → tie.Start invariant-loop decreases-loop
-start c = c.before.before.before.before
-
-abbrev found : tie.After-take-with invariant-loop decreases-loop → tie.After-word-end invariant-loop decreases-loop
+abbrev found : tie.After-take_with-step invariant-loop-later decreases-loop-later → tie.After-word_end-end invariant-loop-later decreases-loop-later
 found c = c.before.before
 
-abbrev ended : tie.After-known-told invariant-loop decreases-loop → tie.After-take-with invariant-loop decreases-loop
-ended c = c.before.before.before.before.before
+abbrev ended : tie.In-Ended invariant-loop-later decreases-loop-later → tie.After-take_with-step invariant-loop-later decreases-loop-later
+ended c = c.before.before.before
 
-abbrev went : tie.After-known-told2 invariant-loop decreases-loop → tie.After-take-with invariant-loop decreases-loop
-went c = c.before.before.before.before.before
+abbrev went : tie.In-Going invariant-loop-later decreases-loop-later → tie.After-take_with-step invariant-loop-later decreases-loop-later
+went c = c.before.before.before
 
 -- the round goes on
-on : (c : tie.Then1 invariant-loop decreases-loop) → is_taken (start c.before).args.side c.before.before.loop.at (start c.before).args.later.at ≡ true
-on c = sym c.before.is-taken.ensures ∙ c.if1.true
+on : (c : tie.In-loop-later invariant-loop-later decreases-loop-later) → is_taken c.args.side c.loop-later.at c.args.later.at ≡ true
+on c = sym c.is_taken.ensures ∙ c.loop-later-test.true
 
-loop-holds : tie.Need-loop-init invariant-loop decreases-loop
-loop-holds c =
-    let a = c.before.before.args in
+loop-later-init : tie.Need-loop-later-init invariant-loop-later decreases-loop-later
+loop-later-init c =
+    let a = c.args in
     let n = length a.area.now in
     (refl, λ T vs m w. taking_begun T a.budget n vs (sided_pair a.side m) (sided_count a.side m) a.area.now a.held w.growing)
 
-word-end-requires : tie.Need-word-end-requires invariant-loop decreases-loop
-word-end-requires c κs =
-    let b = c.before in
-    let p = (start b.before).pre in
-    let k = b.before.before.loop.invariant.1 p.0 p.1 p.2 p.3 in
-    taking_end k (sided_few p.3 (start b.before).args.side) (sided_on p.3 (start b.before).args.side k (on b))
+word_end-end-requires : tie.Need-word_end-end-requires invariant-loop-later decreases-loop-later
+word_end-end-requires c κs =
+    let b = c in
+    let p = b.requires in
+    let k = b.loop-later.invariant.1 p.0 p.1 p.2 p.3 in
+    taking_end k (sided_few p.3 b.args.side) (sided_on p.3 b.args.side k (on b))
 
-sub-letters : tie.Need-overflow-sub-t18 invariant-loop decreases-loop
-sub-letters c = omega (arith, c.word-end.ensures.after)
+overflow_sub-other : tie.Need-overflow_sub-other invariant-loop-later decreases-loop-later
+overflow_sub-other c = omega (arith, c.word_end-end.ensures.after)
 
-take-with-requires : tie.Need-take-with-requires invariant-loop decreases-loop
-take-with-requires c κs =
+take_with-step-requires : tie.Need-take_with-step-requires invariant-loop-later decreases-loop-later
+take_with-step-requires c κs =
     let f = c.before in
-    let b = f.before.before in
-    let p = (start b.before).pre in
-    let side = (start b.before).args.side in
-    let k = b.before.before.loop.invariant.1 p.0 p.1 p.2 p.3 in
-    (p.0, k.words, sided_pair side p.2 k.passed, sided_paired p.3 side k (on b) f.word-end.ensures)
+    let b = f.before in
+    let p = b.requires in
+    let side = b.args.side in
+    let k = b.loop-later.invariant.1 p.0 p.1 p.2 p.3 in
+    (p.0, k.words, sided_pair side p.2 k.passed, sided_paired p.3 side k (on b) f.word_end-end.ensures)
 
-same_length : tie.Need-same-length invariant-loop decreases-loop
-same_length c = let b = (found (ended c)).before.before in (ended c).take-with.ensures.0 ∙ b.before.before.loop.inv.0
+shape_of-area-in-Ended : tie.Need-shape_of-area-in-Ended invariant-loop-later decreases-loop-later
+shape_of-area-in-Ended c = let b = (found (ended c)).before in c.take_with-step.ensures.0 ∙ b.loop-later.invariant.0
 
-returns : tie.Need-returns invariant-loop decreases-loop
-returns c =
+returns-in-Ended : tie.Need-returns-in-Ended invariant-loop-later decreases-loop-later
+returns-in-Ended c =
     let f = found (ended c) in
-    let b = f.before.before in
-    let l = b.before.before.loop in
-    let side = (start b.before).args.side in
-    let t = (ended c).take-with in
-    let e = c.before.step.given in (
-      t.ensures.0 ∙ l.inv.0,
+    let b = f.before in
+    let l = b.loop-later in
+    let side = b.args.side in
+    let t = c.take_with-step in
+    let e = c.in-Ended in (
+      t.ensures.0 ∙ l.invariant.0,
       λ T vs m w.
-          let k = l.inv.1 T vs m w in
-          let p = sided_paired w side k (on b) f.word-end.ensures in
-          taking_ended k (sided_few w side) (sided_on w side k (on b)) t.last.1.0 t.result l.inv.0 t.ensures.0
-          (t.ensures.1 T k.words (sided_pair side m k.passed) p) e.0.0 e.1,
+          let k = l.invariant.1 T vs m w in
+          let p = sided_paired w side k (on b) f.word_end-end.ensures in
+          taking_ended k (sided_few w side) (sided_on w side k (on b)) t.new.area t.result l.invariant.0 t.ensures.0
+          (t.ensures.1 T k.words (sided_pair side m k.passed) p) e.answer e.is,
     )
 
-add_at : tie.Need-overflow-add-at invariant-loop decreases-loop
-add_at c = omega (arith, (found (went c)).word-end.ensures.inside)
+overflow_add-at : tie.Need-overflow_add-at invariant-loop-later decreases-loop-later
+overflow_add-at c = omega (arith, (found (went c)).word_end-end.ensures.inside)
 
-loop-less : tie.Need-loop-smaller invariant-loop decreases-loop
-loop-less c = let f = (found (went c)).word-end.ensures in omega (arith, f.inside, f.after, (went c).take-with.ensures.0)
+loop-later-smaller : tie.Need-loop-later-smaller invariant-loop-later decreases-loop-later
+loop-later-smaller c = let f = (found (went c)).word_end-end.ensures in omega (arith, f.inside, f.after, c.take_with-step.ensures.0)
 
-loop-again : tie.Need-loop-preserved invariant-loop decreases-loop
-loop-again c =
+loop-later-preserved : tie.Need-loop-later-preserved invariant-loop-later decreases-loop-later
+loop-later-preserved c =
     let f = found (went c) in
-    let b = f.before.before in
-    let l = b.before.before.loop in
-    let side = (start b.before).args.side in
-    let t = (went c).take-with in
-    let e = c.before.step2.given in (
-      t.ensures.0 ∙ l.inv.0,
+    let b = f.before in
+    let l = b.loop-later in
+    let side = b.args.side in
+    let t = c.take_with-step in
+    let e = c.in-Going in (
+      t.ensures.0 ∙ l.invariant.0,
       λ T vs m w.
-          let k = l.inv.1 T vs m w in
-          let p = sided_paired w side k (on b) f.word-end.ensures in
-          taking_more k (sided_few w side) (sided_on w side k (on b)) t.last.1.0 t.result l.inv.0 t.ensures.0
-          (t.ensures.1 T k.words (sided_pair side m k.passed) p) e.0.0 e.1 f.word-end.result f.word-end.ensures,
+          let k = l.invariant.1 T vs m w in
+          let p = sided_paired w side k (on b) f.word_end-end.ensures in
+          taking_more k (sided_few w side) (sided_on w side k (on b)) t.new.area t.result l.invariant.0 t.ensures.0
+          (t.ensures.1 T k.words (sided_pair side m k.passed) p) e.next e.is f.word_end-end.result f.word_end-end.ensures,
     )
 
-same-length-2 : tie.Need-same-length-2 invariant-loop decreases-loop
-same-length-2 c = c.before.before.loop.invariant.0
+shape_of-area : tie.Need-shape_of-area invariant-loop-later decreases-loop-later
+shape_of-area c = c.loop-later.invariant.0
 
-returns-2 : tie.Need-returns-2 invariant-loop decreases-loop
-returns-2 c =
-    let l = c.before.before.loop in
-    let side = (start c.before).args.side in
-    let off = sym c.before.is-taken.ensures ∙ c.if1.false in
+returns : tie.Need-returns invariant-loop-later decreases-loop-later
+returns c =
+    let l = c.loop-later in
+    let side = c.args.side in
+    let off = sym c.is_taken.ensures ∙ c.loop-later-test.false in
     (l.invariant.0, λ T vs m w. taking_done (l.invariant.1 T vs m w) (sided_few w side) (sided_all w side (l.invariant.1 T vs m w) off))
 
-pub take-side-spec : {M : Type 1} → statement M
-take-side-spec =
-    tie.close (tie.spec invariant-loop decreases-loop loop-holds (λ c κs. search rules) word-end-requires sub-letters take-with-requires (λ c. search rules) same_length
-    returns (λ c. search rules) add_at loop-less loop-again same-length-2 returns-2)
+pub take_side_spec : {M : Type 1} → statement M
+take_side_spec =
+    tie.close (tie.spec invariant-loop-later decreases-loop-later loop-later-init (λ c κs. search rules) word_end-end-requires overflow_sub-other
+    take_with-step-requires (λ c. search rules) shape_of-area-in-Ended
+    returns-in-Ended (λ c. search rules) overflow_add-at loop-later-smaller loop-later-preserved shape_of-area returns)

@@ -8,51 +8,52 @@ use Rattle.swaps.proofs.Comparing.{Rest, rest_start, rest_done, rest_more, rest_
 use Rattle.sets.proofs.words.same_letters.Statement.{statement}
 use Rattle.sets.proofs.words.same_letters.Tie as tie
 
-abbrev invariant-loop : tie.invariant-loop
-invariant-loop area first second count i₀ i =
+abbrev invariant-loop-i : tie.invariant-loop-i
+invariant-loop-i area first second count i₀ i =
     (i ≤ count) × (equal (take count (drop first area)) (take count (drop second area)) ≡ Rest area area first second count i)
 
-abbrev decreases-loop : tie.decreases-loop
-decreases-loop area first second count i₀ i = count - i
+abbrev decreases-loop-i : tie.decreases-loop-i
+decreases-loop-i area first second count i₀ i = count - i
 
-abbrev start : tie.In-loop invariant-loop decreases-loop → tie.Start invariant-loop decreases-loop
+abbrev start : tie.In-loop-i invariant-loop-i decreases-loop-i → tie.Start invariant-loop-i decreases-loop-i
 start c = c.before.before
 
-abbrev in-loop : tie.After-shared-slice-known invariant-loop decreases-loop → tie.In-loop invariant-loop decreases-loop
-in-loop c = c.before
+abbrev in_loop : tie.After-shared_slice_known-1 invariant-loop-i decreases-loop-i → tie.In-loop-i invariant-loop-i decreases-loop-i
+in_loop c = c.before
 
-loop-holds : tie.Need-loop-init invariant-loop decreases-loop
-loop-holds c =
+loop-i-init : tie.Need-loop-i-init invariant-loop-i decreases-loop-i
+loop-i-init c =
     let area = c.args.area.now in
     (omega arith, sym (rest_start area area c.args.first c.args.second c.args.count))
 
-returns : tie.Need-returns invariant-loop decreases-loop
-returns c =
-    let k = in-loop c.before.before in
+returns-then-area-first : tie.Need-returns-then-area-first invariant-loop-i decreases-loop-i
+returns-then-area-first c =
+    let k = in_loop c.before.before in
     let s = start k in
-    let l = k.before.loop in
+    let l = k.loop-i in
     let area = s.args.area.now in
-    sym (l.inv.1 ∙ rest_fails area area s.args.first s.args.second s.args.count s.pre.0 s.pre.1 l.i (omega arith) c.if1.true)
+    sym (l.invariant.1 ∙ rest_fails area area s.args.first s.args.second s.args.count s.requires.0 s.requires.1 l.i (omega arith) c.if-area-first.true)
 
-loop-again : tie.Need-loop-preserved invariant-loop decreases-loop
-loop-again c =
-    let k = in-loop c.before.before in
+loop-i-preserved : tie.Need-loop-i-preserved invariant-loop-i decreases-loop-i
+loop-i-preserved c =
+    let k = in_loop c.before.before in
     let s = start k in
-    let l = k.before.loop in
+    let l = k.loop-i in
     let area = s.args.area.now in (
       omega arith,
-      l.inv.1 ∙ rest_more area area s.args.first s.args.second s.args.count s.pre.0 s.pre.1 l.i (omega arith)
-          c.if1.false,
+      l.invariant.1 ∙ rest_more area area s.args.first s.args.second s.args.count s.requires.0 s.requires.1 l.i (omega arith)
+          c.if-area-first.false,
     )
 
-returns-2 : tie.Need-returns-2 invariant-loop decreases-loop
-returns-2 c =
+returns : tie.Need-returns invariant-loop-i decreases-loop-i
+returns c =
     let s = c.before.before in
-    let l = c.before.loop in
+    let l = c.loop-i in
     let area = s.args.area.now in
     sym (l.invariant.1 ∙ rest_done area area s.args.first s.args.second s.args.count l.i (omega arith))
 
-pub same-letters-spec : {M : Type 1} → statement M
-same-letters-spec =
-    tie.close (tie.spec invariant-loop decreases-loop loop-holds (λ c. omega arith) (λ c. omega arith) (λ c. omega arith) (λ c. omega arith) returns (λ c. omega arith)
-    (λ c. omega arith) loop-again returns-2)
+pub same_letters_spec : {M : Type 1} → statement M
+same_letters_spec =
+    tie.close (tie.spec invariant-loop-i decreases-loop-i loop-i-init (λ c. omega arith) (λ c. omega arith) (λ c. omega arith) (λ c. omega arith)
+    returns-then-area-first (λ c. omega arith)
+    (λ c. omega arith) loop-i-preserved returns)

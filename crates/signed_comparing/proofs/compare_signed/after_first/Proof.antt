@@ -5,13 +5,13 @@ use borrow.Author.Rules.{rules}
 use Rattle.signed_comparing.proofs.compare_signed.after_first.Statement.{statement}
 use Rattle.signed_comparing.proofs.compare_signed.after_first.Tie as tie
 
-pub after-first-spec : {M : Type 1} → statement M
-after-first-spec =
+pub after_first_spec : {M : Type 1} → statement M
+after_first_spec =
     tie.close
     (tie.spec
     (λ c. search rules)
     (λ c. search rules)
     (λ c. search rules)
-    (λ c. sym (ap (after_first_as c.before.before.before.args.first) c.before.second.given.1))
-    (λ c. sym (ap (after_first_as c.before.before.before.args.first) c.before.second2.given.1))
-    (λ c. sym (ap (after_first_as c.before.before.before.args.first) c.before.second3.given.1)))
+    (λ c. sym (ap (after_first_as c.args.first) c.in-Same.is))
+    (λ c. sym (ap (after_first_as c.args.first) c.in-Different.is))
+    (λ c. sym (ap (after_first_as c.args.first) c.in-Refused.is)))

@@ -11,33 +11,33 @@ use borrow.Author.Rules.{rules}
 use Rattle.signed_comparing.proofs.compare_signed.compare_signed.Statement.{statement}
 use Rattle.signed_comparing.proofs.compare_signed.compare_signed.Tie as tie
 
-abbrev start : tie.After-cells2 → tie.Start
+abbrev start : tie.After-cells-2-1 → tie.Start
 start c = c.before.before.before.before.before.before.before
 
-abbrev after-cells2 : tie.At-match-keys1 → tie.After-cells2
-after-cells2 c = c.before
+abbrev after_cells2 : tie.In-Refused → tie.After-cells-2-1
+after_cells2 c = c.before
 
-abbrev after-cells2-from-after-read2 : tie.After-read2 → tie.After-cells2
-after-cells2-from-after-read2 c = c.before.before
+abbrev after_cells2_from_after_read2 : tie.In-Programs → tie.After-cells-2-1
+after_cells2_from_after_read2 c = c.before
 
-abbrev after-read2 : tie.After-compare-loaded-arg → tie.After-read2
-after-read2 c = c.before.before.before
+abbrev after_read2 : tie.After-compare_loaded-arg-1 → tie.In-Programs
+after_read2 c = c.before.before
 
-compare-loaded-requires : tie.Need-compare-loaded-requires
-compare-loaded-requires c κs =
-    let k = after-cells2-from-after-read2 (after-read2 c) in
-    let a = (start k).args in
-    let v = k.before.read-programs in
-    (subst (ProgramsDone a.table.now a.first.now a.second.now Any v.last.1.1.1.1.0) c.before.before.before.read2.given.1
+compare_loaded-requires : tie.Need-compare_loaded-requires
+compare_loaded-requires c κs =
+    let k = after_cells2_from_after_read2 (after_read2 c) in
+    let a = k.args in
+    let v = k.read_programs-read in
+    (subst (ProgramsDone a.table.now a.first.now a.second.now Any v.new.cells) c.in-Programs.is
     v.ensures).runs
 
-returns : tie.Need-returns
-returns c =
-    let k = after-cells2 c.before.before in
-    let a = (start k).args in
-    let v = k.before.read-programs in
-    let e = subst (ProgramsDone a.table.now a.first.now a.second.now Any v.last.1.1.1.1.0) c.before.read.given.1 v.ensures in
-    let o = read_refused a.table.now a.first.now a.second.now a.allowance (length a.workspace.now) c.before.read.given.0.0 e in
+returns-in-Refused : tie.Need-returns-in-Refused
+returns-in-Refused c =
+    let k = after_cells2 c in
+    let a = k.args in
+    let v = k.read_programs-read in
+    let e = subst (ProgramsDone a.table.now a.first.now a.second.now Any v.new.cells) c.in-Refused.is v.ensures in
+    let o = read_refused a.table.now a.first.now a.second.now a.allowance (length a.workspace.now) c.in-Refused.refusal e in
     record {
       stated = o.stated;
       workspace_is = o.workspace a.workspace.now;
@@ -45,16 +45,16 @@ returns c =
           says a.table.now a.first.now a.second.now a.allowance (length a.workspace.now) _ o.stated;
     }
 
-returns-2 : tie.Need-returns-2
-returns-2 c =
-    let k = after-read2 c.before.before.before in
-    let a = (start (after-cells2-from-after-read2 k)).args in
-    let v = (after-cells2-from-after-read2 k).before.read-programs in
-    let t = subst (ProgramsDone a.table.now a.first.now a.second.now Any v.last.1.1.1.1.0) k.read2.given.1 v.ensures in
+returns-in-Programs : tie.Need-returns-in-Programs
+returns-in-Programs c =
+    let k = after_read2 c.before.before.before in
+    let a = (start (after_cells2_from_after_read2 k)).args in
+    let v = k.read_programs-read in
+    let t = subst (ProgramsDone a.table.now a.first.now a.second.now Any v.new.cells) k.in-Programs.is v.ensures in
     let T = t.runs.table in
     let one = t.runs.programs.one.program in
     let two = t.runs.programs.two.program in
-    let z = c.before.before.compare-loaded in
+    let z = c.compare_loaded in
     let sized = t.runs.of.sized in
     let o =
     z.ensures.states T t.runs.of one.word two.word one.read two.read
@@ -67,7 +67,8 @@ returns-2 c =
           says a.table.now a.first.now a.second.now a.allowance (length a.workspace.now) _ o;
     }
 
-pub compare-signed-spec : {M : Type 1} → statement M
-compare-signed-spec =
-    tie.close (tie.spec (λ c. search rules) (λ c κs. blank_zeros) (λ c. search rules) (λ c. search rules) (λ c. search rules) compare-loaded-requires returns
-    (λ c. search rules) returns-2)
+pub compare_signed_spec : {M : Type 1} → statement M
+compare_signed_spec =
+    tie.close (tie.spec (λ c. search rules) (λ c κs. blank_zeros) (λ c. search rules) (λ c. search rules) (λ c. search rules) compare_loaded-requires
+    returns-in-Refused
+    (λ c. search rules) returns-in-Programs)

@@ -6,19 +6,19 @@ use borrow.Author.Rules.{rules}
 use Rattle.signed_comparing.proofs.preparing.grown_answer.Statement.{statement}
 use Rattle.signed_comparing.proofs.preparing.grown_answer.Tie as tie
 
-returns-2 : tie.Need-returns-2
-returns-2 c = sym (ap grown_refusal c.before.grown.given.1)
+returns-in-OpenPair : tie.Need-returns-in-OpenPair
+returns-in-OpenPair c = sym (ap grown_refusal c.in-OpenPair.is)
 
-returns-3 : tie.Need-returns-3
-returns-3 c = sym (ap grown_refusal c.enum-told2.given.1)
+returns-in-TooLarge : tie.Need-returns-in-TooLarge
+returns-in-TooLarge c = sym (ap grown_refusal c.in-TooLarge.is)
 
-returns-4 : tie.Need-returns-4
-returns-4 c = sym (ap grown_refusal (c.before.before.before.grown2.given.1 ∙ ap Stopped c.enum-told3.given.1))
+returns-in-Budget : tie.Need-returns-in-Budget
+returns-in-Budget c = sym (ap grown_refusal (c.in-Stopped.is ∙ ap Stopped c.in-Budget.is))
 
-returns-5 : tie.Need-returns-5
-returns-5 c = sym (ap grown_refusal (c.before.before.before.grown2.given.1 ∙ ap Stopped c.enum-told4.given.1))
+returns-in-Room : tie.Need-returns-in-Room
+returns-in-Room c = sym (ap grown_refusal (c.in-Stopped.is ∙ ap Stopped c.in-Room.is))
 
-pub grown-answer-spec : {M : Type 1} → statement M
-grown-answer-spec =
+pub grown_answer_spec : {M : Type 1} → statement M
+grown_answer_spec =
     tie.close (tie.spec (λ c. search rules) (λ c. search rules) (λ c. search rules) (λ c. search rules) (λ c. search rules) (λ c. search rules)
-    (λ c. search rules) returns-2 returns-3 returns-4 returns-5)
+    (λ c. search rules) returns-in-OpenPair returns-in-TooLarge returns-in-Budget returns-in-Room)

@@ -16,60 +16,60 @@ use borrow.Author.Rules.{rules}
 use Rattle.signed_comparing.proofs.running.load_signed.Statement.{statement}
 use Rattle.signed_comparing.proofs.running.load_signed.Tie as tie
 
-abbrev start-from-after-shared-slice-known : tie.After-shared-slice-known → tie.Start
-start-from-after-shared-slice-known c = c.before
+abbrev start_from_after_shared_slice_known : tie.After-shared_slice_known-1 → tie.Start
+start_from_after_shared_slice_known c = c.before
 
-abbrev after-shared-slice-known : tie.After-unpack-letters → tie.After-shared-slice-known
-after-shared-slice-known c = c.before.before.before.before
+abbrev after_shared_slice_known : tie.After-unpack_letters → tie.After-shared_slice_known-1
+after_shared_slice_known c = c.before.before.before.before
 
-abbrev after-unpack-letters : tie.After-invert → tie.After-unpack-letters
-after-unpack-letters c = c.before.before.before.before
+abbrev after_unpack_letters : tie.After-invert → tie.After-unpack_letters
+after_unpack_letters c = c.before.before.before.before
 
-abbrev after-invert : tie.After-unpack-letters-arg2 → tie.After-invert
-after-invert c = c.before.before.before
+abbrev after_invert : tie.After-unpack_letters-arg-2-1 → tie.After-invert
+after_invert c = c.before.before.before
 
-unpack-letters-requires : tie.Need-unpack-letters-requires
-unpack-letters-requires c κs =
-    let s = start-from-after-shared-slice-known c.before.before.before in
-    (s.pre.0.one, omega (arith, s.pre.1))
+unpack_letters-requires : tie.Need-unpack_letters-requires
+unpack_letters-requires c κs =
+    let s = start_from_after_shared_slice_known c.before.before.before in
+    (s.requires.0.one, omega (arith, s.requires.1))
 
-unpack-letters-requires-2 : tie.Need-unpack-letters-requires-2
-unpack-letters-requires-2 c κs =
-    let k = after-unpack-letters (after-invert c) in
-    let s = start-from-after-shared-slice-known (after-shared-slice-known k) in
+unpack_letters-requires-2 : tie.Need-unpack_letters-requires-2
+unpack_letters-requires-2 c κs =
+    let k = after_unpack_letters (after_invert c) in
+    let s = start_from_after_shared_slice_known (after_shared_slice_known k) in
     let right = s.args.right in
-    let a = k.unpack-letters in
-    let i = c.before.before.before.invert in
-    let mid = a.last.1.1.1.0 in
-    let reaches : right ≤ length mid = omega (arith, a.ensures.0, s.pre.1) in
-    (s.pre.0.two, omega (arith, part_length right mid i.new.0 reaches i.ensures.same_length, a.ensures.0, s.pre.1))
+    let a = k.unpack_letters in
+    let i = c.invert in
+    let mid = a.new.area in
+    let reaches : right ≤ length mid = omega (arith, a.ensures.0, s.requires.1) in
+    (s.requires.0.two, omega (arith, part_length right mid i.new.bytes reaches i.ensures.same_length, a.ensures.0, s.requires.1))
 
-same_length : tie.Need-same-length
-same_length c =
-    let k = after-invert c.before.before.before in
-    let s = start-from-after-shared-slice-known (after-shared-slice-known (after-unpack-letters k)) in
+shape_of-workspace : tie.Need-shape_of-workspace
+shape_of-workspace c =
+    let k = after_invert c.before.before.before in
+    let s = start_from_after_shared_slice_known (after_shared_slice_known (after_unpack_letters k)) in
     let right = s.args.right in
-    let a = (after-unpack-letters k).unpack-letters in
+    let a = k.unpack_letters in
     let i = k.invert in
-    let mid = a.last.1.1.1.0 in
-    let reaches : right ≤ length mid = omega (arith, a.ensures.0, s.pre.1) in
-    c.before.before.unpack-letters2.ensures.0 ∙ part_length right mid i.last.0 reaches i.ensures.same_length ∙ a.ensures.0
+    let mid = a.new.area in
+    let reaches : right ≤ length mid = omega (arith, a.ensures.0, s.requires.1) in
+    c.unpack_letters-2.ensures.0 ∙ part_length right mid i.new.bytes reaches i.ensures.same_length ∙ a.ensures.0
 
 returns : tie.Need-returns
 returns c =
-    let k = after-invert c.before.before.before in
-    let s = start-from-after-shared-slice-known (after-shared-slice-known (after-unpack-letters k)) in
+    let k = after_invert c.before.before.before in
+    let s = start_from_after_shared_slice_known (after_shared_slice_known (after_unpack_letters k)) in
     let size = s.args.size in
-    let one = s.pre.0.one in
-    let two = s.pre.0.two in
+    let one = s.requires.0.one in
+    let two = s.requires.0.two in
     let right = s.args.right in
     let start = s.args.workspace.now in
-    let a = (after-unpack-letters k).unpack-letters in
+    let a = k.unpack_letters in
     let i = k.invert in
-    let b = c.before.before.unpack-letters2 in
-    let mid = a.last.1.1.1.0 in
-    let part = i.last.0 in
-    let reaches : right ≤ length mid = omega (arith, a.ensures.0, s.pre.1) in
+    let b = c.unpack_letters-2 in
+    let mid = a.new.area in
+    let part = i.new.bytes in
+    let reaches : right ≤ length mid = omega (arith, a.ensures.0, s.requires.1) in
     let whole : take (length mid - right) (drop right mid) ≡ drop right mid =
     take_all (length mid - right) (drop right mid) (omega (arith, length-drop right mid)) in
     let turned = subst (λ l. Inverted l s.args.firsts part) whole i.ensures in
@@ -82,11 +82,11 @@ returns c =
           subst (λ l. letters (drop right l) ≡ inverse w ++ v) (sym (b.ensures.1 v ev))
           (both_letters size one.few w v (program_in_range size one.few s.args.first.now w ew)
           (program_in_range size two.few s.args.second.now v ev) start _ right s.args.firsts s.args.seconds
-          (ap length (sym fw) ∙ one.program.count_is) (ap length (sym fv) ∙ two.program.count_is) s.pre.1 part
+          (ap length (sym fw) ∙ one.program.count_is) (ap length (sym fv) ∙ two.program.count_is) s.requires.1 part
           (subst (λ l. Inverted (drop right l) s.args.firsts part) made turned) (part_back right mid part reaches ∙ ap (λ l. take right l ++ part) made));
     }
 
-pub load-signed-spec : {M : Type 1} → statement M
-load-signed-spec =
-    tie.close (tie.spec unpack-letters-requires (λ c. search rules) (λ c. search rules) (λ c. search rules) (λ c κs. search rules) (λ c. search rules)
-    unpack-letters-requires-2 same_length returns)
+pub load_signed_spec : {M : Type 1} → statement M
+load_signed_spec =
+    tie.close (tie.spec unpack_letters-requires (λ c. search rules) (λ c. search rules) (λ c. search rules) (λ c κs. search rules) (λ c. search rules)
+    unpack_letters-requires-2 shape_of-workspace returns)

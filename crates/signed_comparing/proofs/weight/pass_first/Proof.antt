@@ -9,11 +9,11 @@ use Rattle.signed_comparing.proofs.Weighing.{first_range, first_light, first_mor
 use Rattle.signed_comparing.proofs.weight.pass_first.Statement.{statement}
 use Rattle.signed_comparing.proofs.weight.pass_first.Tie as tie
 
-abbrev start : tie.After-letter-weight → tie.Start
+abbrev start : tie.After-letter_weight → tie.Start
 start c = c.before.before.before.before
 
-letter-weight-requires : tie.Need-letter-weight-requires
-letter-weight-requires c κs =
+letter_weight-requires : tie.Need-letter_weight-requires
+letter_weight-requires c κs =
     let s = c.before.before.before in
     let p = s.requires in
     let t = p.2.3 in
@@ -24,13 +24,13 @@ light s =
     let p = s.requires in
     first_light s.args.cells.now s.args.bytes.now p.0 p.1 p.2.0 p.2.1 p.2.2 p.2.3 s.args.at.first p.4
 
-add-t9 : tie.Need-overflow-add-t9
-add-t9 c = omega (arith, c.before.letter-weight.ensures, light (start c.before), (start c.before).requires.5)
+overflow_add-result-2 : tie.Need-overflow_add-result-2
+overflow_add-result-2 c = omega (arith, c.letter_weight.ensures, light (start c.before), c.requires.5)
 
 returns : tie.Need-returns
 returns c =
     let s = start c.before in
-    let w = c.before.letter-weight.ensures in
+    let w = c.letter_weight.ensures in
     let a = s.args in
     record {
       one_more = refl;
@@ -41,10 +41,10 @@ returns c =
             second_after = b.second_after;
             second_inside = b.second_inside;
             low = omega (arith, b.low);
-            high = omega (arith, w, light s, s.pre.5);
+            high = omega (arith, w, light s, s.requires.5);
             even = λ T u v t. omega (arith, w, b.even T u v t, first_more a.cells.now a.bytes.now middle end T u v t a.at.first more);
           };
     }
 
-pub pass-first-spec : {M : Type 1} → statement M
-pass-first-spec = tie.close (tie.spec (λ c. search rules) (λ c. search rules) letter-weight-requires add-t9 returns)
+pub pass_first_spec : {M : Type 1} → statement M
+pass_first_spec = tie.close (tie.spec (λ c. search rules) (λ c. search rules) letter_weight-requires overflow_add-result-2 returns)

@@ -9,11 +9,11 @@ use Rattle.signed_comparing.proofs.Weighing.{second_range, second_light, second_
 use Rattle.signed_comparing.proofs.weight.pass_second.Statement.{statement}
 use Rattle.signed_comparing.proofs.weight.pass_second.Tie as tie
 
-abbrev start : tie.After-letter-weight → tie.Start
+abbrev start : tie.After-letter_weight → tie.Start
 start c = c.before.before.before.before
 
-letter-weight-requires : tie.Need-letter-weight-requires
-letter-weight-requires c κs =
+letter_weight-requires : tie.Need-letter_weight-requires
+letter_weight-requires c κs =
     let s = c.before.before.before in
     let p = s.requires in
     let t = p.2.3 in (
@@ -28,13 +28,13 @@ light s =
     second_light s.args.cells.now s.args.bytes.now p.0 p.1 p.2.0 p.2.1 p.2.2 p.2.3 s.args.at.second
     p.3.second_after p.4
 
-sub-t9 : tie.Need-overflow-sub-t9
-sub-t9 c = omega (arith, c.before.letter-weight.ensures, light (start c.before), (start c.before).requires.5)
+overflow_sub-result : tie.Need-overflow_sub-result
+overflow_sub-result c = omega (arith, c.letter_weight.ensures, light (start c.before), c.requires.5)
 
 returns : tie.Need-returns
 returns c =
     let s = start c.before in
-    let w = c.before.letter-weight.ensures in
+    let w = c.letter_weight.ensures in
     let a = s.args in
     record {
       one_more = refl;
@@ -44,19 +44,19 @@ returns c =
             first_inside = b.first_inside;
             second_after = omega (arith, b.second_after);
             second_inside = omega arith;
-            low = omega (arith, w, light s, s.pre.5);
+            low = omega (arith, w, light s, s.requires.5);
             high = omega (arith, b.high);
             even = λ T u v t.
                 omega (
                   arith,
                   w,
                   light s,
-                  s.pre.5,
+                  s.requires.5,
                   b.even T u v t,
                   second_more a.cells.now a.bytes.now middle end T u v t a.at.second b.second_after more,
                 );
           };
     }
 
-pub pass-second-spec : {M : Type 1} → statement M
-pass-second-spec = tie.close (tie.spec (λ c. search rules) (λ c. search rules) letter-weight-requires sub-t9 returns)
+pub pass_second_spec : {M : Type 1} → statement M
+pass_second_spec = tie.close (tie.spec (λ c. search rules) (λ c. search rules) letter_weight-requires overflow_sub-result returns)

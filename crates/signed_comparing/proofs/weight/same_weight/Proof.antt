@@ -11,23 +11,23 @@ use Rattle.signed_comparing.proofs.Weighing.{first_lighter, second_lighter, even
 use Rattle.signed_comparing.proofs.weight.same_weight.Statement.{statement}
 use Rattle.signed_comparing.proofs.weight.same_weight.Tie as tie
 
-abbrev invariant-loop : tie.invariant-loop
-invariant-loop cells bytes middle end at₀ at = Balanced cells bytes middle end at
+abbrev invariant-loop-at : tie.invariant-loop-at
+invariant-loop-at cells bytes middle end at₀ at = Balanced cells bytes middle end at
 
-abbrev decreases-loop : tie.decreases-loop
-decreases-loop cells bytes middle end at₀ at = (middle - at.first) + (end - at.second)
+abbrev decreases-loop-at : tie.decreases-loop-at
+decreases-loop-at cells bytes middle end at₀ at = (middle - at.first) + (end - at.second)
 
-abbrev start : tie.At-loop invariant-loop decreases-loop → tie.Start invariant-loop decreases-loop
+abbrev start : tie.At-loop-at invariant-loop-at decreases-loop-at → tie.Start invariant-loop-at decreases-loop-at
 start c = c.before.before.before
 
-abbrev first : tie.After-struct-known2 invariant-loop decreases-loop → tie.At-loop invariant-loop decreases-loop
+abbrev first : tie.After-struct_known-then-at-le-EVEN-1 invariant-loop-at decreases-loop-at → tie.At-loop-at invariant-loop-at decreases-loop-at
 first c = c.before.before.before
 
-abbrev second : tie.After-struct-known5 invariant-loop decreases-loop → tie.At-loop invariant-loop decreases-loop
+abbrev second : tie.After-struct_known-else-at-le-EVEN-1 invariant-loop-at decreases-loop-at → tie.At-loop-at invariant-loop-at decreases-loop-at
 second c = c.before.before.before
 
-loop-holds : tie.Need-loop-init invariant-loop decreases-loop
-loop-holds c =
+loop-at-init : tie.Need-loop-at-init invariant-loop-at decreases-loop-at
+loop-at-init c =
     let s = c.before.before in
     record {
       first_inside = omega arith;
@@ -38,65 +38,66 @@ loop-holds c =
       even = λ T u v t. ap (λ k. weigh T (take k v) + even_lead) {x = 0} {y = s.args.middle - s.args.middle} (omega arith);
     }
 
-returns : tie.Need-returns invariant-loop decreases-loop
-returns c =
+returns-then-at-eq-EVEN : tie.Need-returns-then-at-eq-EVEN invariant-loop-at decreases-loop-at
+returns-then-at-eq-EVEN c =
     let k = c.before.before.before in
     let a = (start (first k.before)).args in
-    let l = (first k.before).loop in
-    λ T u v t. even_ends a.cells.now a.bytes.now a.middle a.end T u v t l.at.first l.at.second l.at.lead (l.inv.even T u v t)
-    (omega (arith, k.if2.true)) c.before.if3.true l.inv.second_after l.inv.second_inside
+    let l = k.loop-at in
+    λ T u v t. even_ends a.cells.now a.bytes.now a.middle a.end T u v t l.at.first l.at.second l.at.lead (l.invariant.even T u v t)
+    (omega (arith, k.if-at-middle.true)) c.if-at-eq-EVEN.true l.invariant.second_after l.invariant.second_inside
 
-returns-2 : tie.Need-returns-2 invariant-loop decreases-loop
-returns-2 c =
+returns-else-at-eq-EVEN : tie.Need-returns-else-at-eq-EVEN invariant-loop-at decreases-loop-at
+returns-else-at-eq-EVEN c =
     let k = c.before.before in
     let a = (start (first k.before)).args in
-    let l = (first k.before).loop in
-    λ T u v t. ne_eqb l.at.lead even_lead c.if3.false
-    ∙ first_lighter a.cells.now a.bytes.now a.middle a.end T u v t l.at.first l.at.second l.at.lead (l.inv.even T u v t)
-    (omega (arith, k.if2.true)) (lt_of_le-ne k.before.before.if1.true c.if3.false)
+    let l = k.loop-at in
+    λ T u v t. ne_eqb l.at.lead even_lead c.if-at-eq-EVEN.false
+    ∙ first_lighter a.cells.now a.bytes.now a.middle a.end T u v t l.at.first l.at.second l.at.lead (l.invariant.even T u v t)
+    (omega (arith, k.if-at-middle.true)) (lt_of_le-ne k.if-at-le-EVEN.true c.if-at-eq-EVEN.false)
 
 -- a letter of the first word is next
-more-first : (c : tie.Else2 invariant-loop decreases-loop) → (first c.before).loop.at.first < (start (first c.before)).args.middle
-more-first c = lt_of_le-ne (first c.before).loop.inv.first_inside c.if2.false
+more_first : (c : tie.Else-at-middle invariant-loop-at decreases-loop-at) → c.loop-at.at.first < (start (first c.before)).args.middle
+more_first c = lt_of_le-ne c.loop-at.invariant.first_inside c.if-at-middle.false
 
-pass-first-requires : tie.Need-pass-first-requires invariant-loop decreases-loop
-pass-first-requires c κs =
-    let s = start (first c.before) in (s.args.middle, s.args.end, s.pre, (first c.before).loop.inv, more-first c, c.before.before.if1.true)
+pass_first-at-requires : tie.Need-pass_first-at-requires invariant-loop-at decreases-loop-at
+pass_first-at-requires c κs =
+    let s = start (first c.before) in (s.args.middle, s.args.end, s.requires, c.loop-at.invariant, more_first c, c.if-at-le-EVEN.true)
 
-loop-less : tie.Need-loop-smaller invariant-loop decreases-loop
-loop-less c = let r = c.pass-first.ensures in omega (arith, r.one_more, r.same, more-first c.before)
+loop-at-smaller-then-at-le-EVEN : tie.Need-loop-at-smaller-then-at-le-EVEN invariant-loop-at decreases-loop-at
+loop-at-smaller-then-at-le-EVEN c = let r = c.pass_first-at.ensures in omega (arith, r.one_more, r.same, more_first c.before)
 
-loop-again : tie.Need-loop-preserved invariant-loop decreases-loop
-loop-again c =
+loop-at-preserved-then-at-le-EVEN : tie.Need-loop-at-preserved-then-at-le-EVEN invariant-loop-at decreases-loop-at
+loop-at-preserved-then-at-le-EVEN c =
     let l = first c.before.before in
-    let a = (start l).args in
-    c.pass-first.ensures.balanced a.middle a.end (more-first c.before) l.loop.inv
+    let a = l.args in
+    c.pass_first-at.ensures.balanced a.middle a.end (more_first c.before) l.loop-at.invariant
 
-returns-3 : tie.Need-returns-3 invariant-loop decreases-loop
-returns-3 c =
+returns-then-at-end : tie.Need-returns-then-at-end invariant-loop-at decreases-loop-at
+returns-then-at-end c =
     let a = (start (second c.before)).args in
-    let l = (second c.before).loop in
-    λ T u v t. second_lighter a.cells.now a.bytes.now a.middle a.end T u v t l.at.first l.at.second l.at.lead (l.inv.even T u v t)
-    (omega (arith, c.if4.true)) c.before.before.if1.false
+    let l = c.loop-at in
+    λ T u v t. second_lighter a.cells.now a.bytes.now a.middle a.end T u v t l.at.first l.at.second l.at.lead (l.invariant.even T u v t)
+    (omega (arith, c.if-at-end.true)) c.if-at-le-EVEN.false
 
 -- or one of the second
-more-second : (c : tie.Else4 invariant-loop decreases-loop) → (second c.before).loop.at.second < (start (second c.before)).args.end
-more-second c = lt_of_le-ne (second c.before).loop.inv.second_inside c.if4.false
+more_second : (c : tie.Else-at-end invariant-loop-at decreases-loop-at) → c.loop-at.at.second < (start (second c.before)).args.end
+more_second c = lt_of_le-ne c.loop-at.invariant.second_inside c.if-at-end.false
 
-pass-second-requires : tie.Need-pass-second-requires invariant-loop decreases-loop
-pass-second-requires c κs =
-    let s = start (second c.before) in (s.args.middle, s.args.end, s.pre, (second c.before).loop.inv, more-second c, c.before.before.if1.false)
+pass_second-at-requires : tie.Need-pass_second-at-requires invariant-loop-at decreases-loop-at
+pass_second-at-requires c κs =
+    let s = start (second c.before) in (s.args.middle, s.args.end, s.requires, c.loop-at.invariant, more_second c, c.if-at-le-EVEN.false)
 
-loop-less-2 : tie.Need-loop-smaller-2 invariant-loop decreases-loop
-loop-less-2 c = let r = c.pass-second.ensures in omega (arith, r.one_more, r.same, more-second c.before)
+loop-at-smaller : tie.Need-loop-at-smaller invariant-loop-at decreases-loop-at
+loop-at-smaller c = let r = c.pass_second-at.ensures in omega (arith, r.one_more, r.same, more_second c.before)
 
-loop-again-2 : tie.Need-loop-preserved-2 invariant-loop decreases-loop
-loop-again-2 c =
+loop-at-preserved : tie.Need-loop-at-preserved invariant-loop-at decreases-loop-at
+loop-at-preserved c =
     let l = second c.before.before in
-    let a = (start l).args in
-    c.pass-second.ensures.balanced a.middle a.end (more-second c.before) l.loop.inv
+    let a = l.args in
+    c.pass_second-at.ensures.balanced a.middle a.end (more_second c.before) l.loop-at.invariant
 
-pub same-weight-spec : {M : Type 1} → statement M
-same-weight-spec =
-    tie.close (tie.spec invariant-loop decreases-loop loop-holds returns returns-2 pass-first-requires loop-less loop-again returns-3 pass-second-requires loop-less-2
-    loop-again-2)
+pub same_weight_spec : {M : Type 1} → statement M
+same_weight_spec =
+    tie.close (tie.spec invariant-loop-at decreases-loop-at loop-at-init returns-then-at-eq-EVEN returns-else-at-eq-EVEN pass_first-at-requires
+    loop-at-smaller-then-at-le-EVEN loop-at-preserved-then-at-le-EVEN returns-then-at-end pass_second-at-requires loop-at-smaller
+    loop-at-preserved)

@@ -7,47 +7,48 @@ use Rattle.spans.proofs.Runs.{inside_none, inside_before}
 use Rattle.spans.proofs.ends.word_start.Statement.{statement}
 use Rattle.spans.proofs.ends.word_start.Tie as tie
 
-abbrev invariant-loop : tie.invariant-loop
-invariant-loop area low at start₀ start = (low ≤ start) × (start ≤ at) × Inside area start at
+abbrev invariant-loop-start : tie.invariant-loop-start
+invariant-loop-start area low at start₀ start = (low ≤ start) × (start ≤ at) × Inside area start at
 
-abbrev decreases-loop : tie.decreases-loop
-decreases-loop area low at start₀ start = start
+abbrev decreases-loop-start : tie.decreases-loop-start
+decreases-loop-start area low at start₀ start = start
 
-abbrev loop : tie.After-is-ending invariant-loop decreases-loop → tie.At-loop invariant-loop decreases-loop
+abbrev loop : tie.After-is_ending invariant-loop-start decreases-loop-start → tie.At-loop-start invariant-loop-start decreases-loop-start
 loop c = c.before.before.before
 
-abbrev start : tie.At-loop invariant-loop decreases-loop → tie.Start invariant-loop decreases-loop
+abbrev start : tie.At-loop-start invariant-loop-start decreases-loop-start → tie.Start invariant-loop-start decreases-loop-start
 start c = c.before.before
 
-loop-holds : tie.Need-loop-init invariant-loop decreases-loop
-loop-holds c =
+loop-start-init : tie.Need-loop-start-init invariant-loop-start decreases-loop-start
+loop-start-init c =
     let s = c.before in
     (s.requires.0, omega arith, inside_none s.args.area.now s.args.at)
 
-is-ending-requires : tie.Need-is-ending-requires invariant-loop decreases-loop
-is-ending-requires c κs = tt
+is_ending-requires : tie.Need-is_ending-requires invariant-loop-start decreases-loop-start
+is_ending-requires c κs = tt
 
-returns : tie.Need-returns invariant-loop decreases-loop
-returns c =
-    let l = (loop c.before).loop in
-    record { after = l.inv.0; before = l.inv.1; letters = l.inv.2; begins = λ h. sym c.before.is-ending.ensures ∙ c.if1.true }
+returns-then-is_ending : tie.Need-returns-then-is_ending invariant-loop-start decreases-loop-start
+returns-then-is_ending c =
+    let l = (loop c.before).loop-start in
+    record { after = l.invariant.0; before = l.invariant.1; letters = l.invariant.2; begins = λ h. sym c.is_ending.ensures ∙ c.if-is_ending.true }
 
-loop-again : tie.Need-loop-preserved invariant-loop decreases-loop
-loop-again c =
+loop-start-preserved : tie.Need-loop-start-preserved invariant-loop-start decreases-loop-start
+loop-start-preserved c =
     let l = loop c.before in
     let s = start l in
-    let letter = sym c.before.is-ending.ensures ∙ c.if1.false in (
-      omega (arith, c.before.before.before.loop-test.true),
-      omega (arith, l.loop.inv.1),
-      inside_before s.args.area.now l.loop.start s.args.at letter l.loop.inv.2,
+    let letter = sym c.is_ending.ensures ∙ c.if-is_ending.false in (
+      omega (arith, c.loop-start-test.true),
+      omega (arith, l.loop-start.invariant.1),
+      inside_before s.args.area.now l.loop-start.start s.args.at letter l.loop-start.invariant.2,
     )
 
-returns-2 : tie.Need-returns-2 invariant-loop decreases-loop
-returns-2 c =
-    let l = c.before.loop in
-    record { after = l.invariant.0; before = l.invariant.1; letters = l.invariant.2; begins = λ h. absurd (omega (arith, c.loop-test.false)) }
+returns : tie.Need-returns invariant-loop-start decreases-loop-start
+returns c =
+    let l = c.loop-start in
+    record { after = l.invariant.0; before = l.invariant.1; letters = l.invariant.2; begins = λ h. absurd (omega (arith, c.loop-start-test.false)) }
 
-pub word-start-spec : {M : Type 1} → statement M
-word-start-spec =
-    tie.close (tie.spec invariant-loop decreases-loop loop-holds (λ c. omega arith) (λ c. omega arith) is-ending-requires returns (λ c. omega arith) (λ c. omega arith)
-    loop-again returns-2)
+pub word_start_spec : {M : Type 1} → statement M
+word_start_spec =
+    tie.close (tie.spec invariant-loop-start decreases-loop-start loop-start-init (λ c. omega arith) (λ c. omega arith) is_ending-requires
+    returns-then-is_ending (λ c. omega arith) (λ c. omega arith)
+    loop-start-preserved returns)

@@ -10,52 +10,53 @@ use Rattle.table_checks.proofs.BothSides.{turned_serves}
 use Rattle.table_checks.proofs.cube.against.Statement.{statement}
 use Rattle.table_checks.proofs.cube.against.Tie as tie
 
-abbrev start : tie.After-slice-known → tie.Start
+abbrev start : tie.After-slice_known-1 → tie.Start
 start c = c.before.before
 
-abbrev after-side : tie.After-slice-known2 → tie.After-side
-after-side c = c.before.before
+abbrev after_side : tie.After-slice_known-in-Missing-1 → tie.After-side-right
+after_side c = c.before.before
 
-abbrev told : tie.After-side → tie.After-enum-told
+abbrev told : tie.After-side-right → tie.In-Missing
 told c = c.before.before
 
 -- L, where it is known
-left_is : (c : tie.After-slice-known) (v : ResidualAnswer) → (start c).args.left ≡ v
-    → SideWorks (start c).args.cells.now (start c).args.a (start c).args.b (start c).args.c (start c).args.budget (start c).args.bytes.now v
+left_is : (c : tie.After-slice_known-1) (v : ResidualAnswer) → c.args.left ≡ v
+    → SideWorks c.args.cells.now c.args.a c.args.b c.args.c c.args.budget c.args.bytes.now v
 left_is c v e =
-    let a = (start c).args in subst (SideWorks a.cells.now a.a a.b a.c a.budget a.bytes.now) e (start c).requires.1
+    let a = c.args in subst (SideWorks a.cells.now a.a a.b a.c a.budget a.bytes.now) e c.requires.1
 
-side-requires : tie.Need-side-requires
-side-requires c κs = let s = start c.before.before.before in (s.pre.0.0, turned_serves s.pre.0.1)
+side-right-requires : tie.Need-side-right-requires
+side-right-requires c κs = let s = start c.before.before in (s.requires.0.0, turned_serves s.requires.0.1)
 
-against-word-requires : tie.Need-against-word-requires
-against-word-requires c κs =
-    let k = c.before.before in
-    ((start k.before.before).requires.0, left_is k.before.before _ k.left2.given.1)
+against_word-requires : tie.Need-against_word-requires
+against_word-requires c κs =
+    let k = c.before in
+    (k.requires.0, left_is k.before _ k.in-Word.is)
 
-returns : tie.Need-returns
-returns c =
-    let k = c.before.before.before in
-    let a = (start k).args in (
+returns-in-Halted : tie.Need-returns-in-Halted
+returns-in-Halted c =
+    let k = c.before in
+    let a = k.args in (
       refl,
-      λ T t. left_halts T a.budget (length a.bytes.now) a.a a.b a.c c.before.left.given.0.0 a.bytes.now
-          (left_is k _ c.before.left.given.1 T t),
+      λ T t. left_halts T a.budget (length a.bytes.now) a.a a.b a.c c.in-Halted.stop a.bytes.now
+          (left_is k _ c.in-Halted.is T t),
     )
 
-returns-2 : tie.Need-returns-2
-returns-2 c =
-    let e = told (after-side c.before) in
-    let k = e.before.before in
-    let a = (start k).args in
-    let v = (after-side c.before).side in (
+returns-in-Missing : tie.Need-returns-in-Missing
+returns-in-Missing c =
+    let e = told (after_side c.before) in
+    let k = e.before in
+    let a = k.args in
+    let v = c.side-right in (
       v.ensures.0,
-      λ T t. c.missing-side.ensures ∙ left_missing T a.budget (length a.bytes.now) a.a a.b a.c a.bytes.now v.last.1.0 v.result
-          (left_is k _ e.enum_told.given.1 T t)
-          (subst (λ i. Works T.size (side T a.budget i a.b a.a a.c) v.last.1.0 v.result) v.ensures.0
+      λ T t. c.missing_side.ensures ∙ left_missing T a.budget (length a.bytes.now) a.a a.b a.c a.bytes.now v.new.bytes v.result
+          (left_is k _ e.in-Missing.is T t)
+          (subst (λ i. Works T.size (side T a.budget i a.b a.a a.c) v.new.bytes v.result) v.ensures.0
           (v.ensures.1 T (turned_serves t))),
     )
 
-pub against-spec : {M : Type 1} → statement M
-against-spec =
-    tie.close (tie.spec (λ c. search rules) (λ c. search rules) side-requires (λ c κs. search rules) (λ c. search rules) against-word-requires returns
-    (λ c. search rules) returns-2 (λ c. search rules) (λ c. search rules))
+pub against_spec : {M : Type 1} → statement M
+against_spec =
+    tie.close (tie.spec (λ c. search rules) (λ c. search rules) side-right-requires (λ c κs. search rules) (λ c. search rules) against_word-requires
+    returns-in-Halted
+    (λ c. search rules) returns-in-Missing (λ c. search rules) (λ c. search rules))

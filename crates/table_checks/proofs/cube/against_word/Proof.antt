@@ -7,17 +7,17 @@ use Rattle.table_checks.proofs.BothSides.{turned_serves, kept_fits, no_right_sid
 use Rattle.table_checks.proofs.cube.against_word.Statement.{statement}
 use Rattle.table_checks.proofs.cube.against_word.Tie as tie
 
-abbrev start : tie.After-right-side → tie.Start
+abbrev start : tie.After-right_side-right → tie.Start
 start c = c.before.before.before.before
 
-abbrev made : tie.After-slice-known2 → tie.After-right-side
+abbrev made : tie.After-slice_known-2-1 → tie.After-right_side-right
 made c = c.before.before
 
-abbrev known : tie.After-agree-arg → tie.After-right
-known c = c.before.before
+abbrev known : tie.After-agree-arg-1 → tie.In-Word
+known c = c.before
 
-right-side-requires : tie.Need-right-side-requires
-right-side-requires c κs =
+right_side-right-requires : tie.Need-right_side-right-requires
+right_side-right-requires c κs =
     let s = c.before.before.before in
     let a = s.args in (
       (s.requires.0.0, turned_serves s.requires.0.1),
@@ -25,56 +25,56 @@ right-side-requires c κs =
     )
 
 -- R, where the answer is known
-right_is : (c : tie.After-right-side) (v : ResidualAnswer) → c.right_side.result ≡ v
-    → RightSide (start c).args.cells.now (start c).args.bytes.now (start c).args.kept (start c).args.b (start c).args.a (start c).args.c
-    (start c).args.budget c.right_side.new.1.0 v
+right_is : (c : tie.After-right_side-right) (v : ResidualAnswer) → c.right_side-right.result ≡ v
+    → RightSide c.args.cells.now c.args.bytes.now c.args.kept c.args.b c.args.a c.args.c
+    c.args.budget c.right_side-right.new.bytes v
 right_is c v e =
-    let a = (start c).args in
-    subst (RightSide a.cells.now a.bytes.now a.kept a.b a.a a.c a.budget c.right_side.new.1.0) e c.right_side.ensures
+    let a = c.args in
+    subst (RightSide a.cells.now a.bytes.now a.kept a.b a.a a.c a.budget c.right_side-right.new.bytes) e c.right_side-right.ensures
 
 agree-requires : tie.Need-agree-requires
 agree-requires c κs =
-    let k = made (known c).before.before in
+    let k = made (known c).before in
     let s = start k in
     let a = s.args in
-    let T = s.pre.0.0 in
-    let both = both_found a.cells.now a.bytes.now a.kept a.a a.b a.c a.budget s.pre.1 T s.pre.0.1 k.right_side.last.1.0
-    (known c).right.given.0.0 (right_is k _ (known c).right.given.1) in
+    let T = s.requires.0.0 in
+    let both = both_found a.cells.now a.bytes.now a.kept a.a a.b a.c a.budget s.requires.1 T s.requires.0.1 k.right_side-right.new.bytes
+    c.in-Word.count (right_is k _ c.in-Word.is) in
     (T, both.0, both.1, both.2)
 
-returns : tie.Need-returns
-returns c =
+returns-in-Word : tie.Need-returns-in-Word
+returns-in-Word c =
     let e = known c.before.before.before in
-    let k = made e.before.before in
+    let k = made e.before in
     let s = start k in
     let a = s.args in
-    let v = c.before.before.agree in (
-      v.ensures.0 ∙ k.right_side.ensures.same_length,
+    let v = c.agree in (
+      v.ensures.0 ∙ k.right_side-right.ensures.same_length,
       λ T t.
-          let both = both_found a.cells.now a.bytes.now a.kept a.a a.b a.c a.budget s.pre.1 T t k.right_side.last.1.0
-          e.right.given.0.0 (right_is k _ e.right.given.1) in
+          let both = both_found a.cells.now a.bytes.now a.kept a.a a.b a.c a.budget s.requires.1 T t k.right_side-right.new.bytes
+          e.in-Word.count (right_is k _ e.in-Word.is) in
           v.ensures.1 T both.0 both.1 both.2 ∙ both.3,
     )
 
-returns-2 : tie.Need-returns-2
-returns-2 c =
-    let k = made c.before.before in
-    let a = (start k).args in (
-      k.right_side.ensures.same_length,
-      λ T t. no_right_side a.cells.now a.bytes.now a.kept a.a a.b a.c a.budget (start k).pre.1 T t k.right_side.last.1.0
-          (right_is k _ c.enum_told.given.1),
+returns-in-Missing : tie.Need-returns-in-Missing
+returns-in-Missing c =
+    let k = made c.before in
+    let a = k.args in (
+      k.right_side-right.ensures.same_length,
+      λ T t. no_right_side a.cells.now a.bytes.now a.kept a.a a.b a.c a.budget k.requires.1 T t k.right_side-right.new.bytes
+          (right_is k _ c.in-Missing.is),
     )
 
-returns-3 : tie.Need-returns-3
-returns-3 c =
-    let k = made c.before.before.before in
-    let a = (start k).args in (
-      k.right_side.ensures.same_length,
-      λ T t. right_side_halts a.cells.now a.bytes.now a.kept a.a a.b a.c a.budget (start k).pre.1 T t k.right_side.last.1.0
-          c.before.right2.given.0.0 (right_is k _ c.before.right2.given.1),
+returns-in-Halted : tie.Need-returns-in-Halted
+returns-in-Halted c =
+    let k = made c.before in
+    let a = k.args in (
+      k.right_side-right.ensures.same_length,
+      λ T t. right_side_halts a.cells.now a.bytes.now a.kept a.a a.b a.c a.budget k.requires.1 T t k.right_side-right.new.bytes
+          c.in-Halted.stop (right_is k _ c.in-Halted.is),
     )
 
-pub against-word-spec : {M : Type 1} → statement M
-against-word-spec =
-    tie.close (tie.spec right-side-requires (λ c. search rules) agree-requires (λ c. search rules) (λ c. search rules) (λ c. search rules) returns
-    (λ c. search rules) returns-2 (λ c. search rules) returns-3)
+pub against_word_spec : {M : Type 1} → statement M
+against_word_spec =
+    tie.close (tie.spec right_side-right-requires (λ c. search rules) agree-requires (λ c. search rules) (λ c. search rules) (λ c. search rules) returns-in-Word
+    (λ c. search rules) returns-in-Missing (λ c. search rules) returns-in-Halted)

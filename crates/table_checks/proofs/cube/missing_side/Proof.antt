@@ -5,8 +5,8 @@ use borrow.Author.Rules.{rules}
 use Rattle.table_checks.proofs.cube.missing_side.Statement.{statement}
 use Rattle.table_checks.proofs.cube.missing_side.Tie as tie
 
-returns-3 : tie.Need-returns-3
-returns-3 c = sym (ap missing_side c.before.right.given.1)
+returns-in-Halted : tie.Need-returns-in-Halted
+returns-in-Halted c = sym (ap missing_side c.in-Halted.is)
 
-pub missing-side-spec : {M : Type 1} → statement M
-missing-side-spec = tie.close (tie.spec (λ c. search rules) (λ c. search rules) (λ c. search rules) (λ c. search rules) (λ c. search rules) returns-3)
+pub missing_side_spec : {M : Type 1} → statement M
+missing_side_spec = tie.close (tie.spec (λ c. search rules) (λ c. search rules) (λ c. search rules) (λ c. search rules) (λ c. search rules) returns-in-Halted)

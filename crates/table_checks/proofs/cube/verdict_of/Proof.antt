@@ -6,20 +6,21 @@ use borrow.Author.Rules.{rules}
 use Rattle.table_checks.proofs.cube.verdict_of.Statement.{statement}
 use Rattle.table_checks.proofs.cube.verdict_of.Tie as tie
 
-returns-2 : tie.Need-returns-2
-returns-2 c =
-    let e = c.before.before.before.ending in
-    sym (ap verdict_of e.given.1 ∙ fails_by_denominator e.given.0.0 e.given.0.1.0 e.given.0.1.1.0 e.given.0.1.1.1.0
-    c.before.if1.true c.if2.false)
+returns-else-denominator-eq0 : tie.Need-returns-else-denominator-eq0
+returns-else-denominator-eq0 c =
+    let e = c.in-Finished in
+    sym (ap verdict_of e.is ∙ fails_by_denominator e.numerator e.denominator e.steps e.relations
+    c.if-numerator-eq0.true c.if-denominator-eq0.false)
 
-returns-3 : tie.Need-returns-3
-returns-3 c =
-    let e = c.before.before.ending in
-    sym (ap verdict_of e.given.1 ∙ fails_by_numerator e.given.0.0 e.given.0.1.0 e.given.0.1.1.0 e.given.0.1.1.1.0 c.if1.false)
+returns-else-numerator-eq0 : tie.Need-returns-else-numerator-eq0
+returns-else-numerator-eq0 c =
+    let e = c.in-Finished in
+    sym (ap verdict_of e.is ∙ fails_by_numerator e.numerator e.denominator e.steps e.relations c.if-numerator-eq0.false)
 
-returns-5 : tie.Need-returns-5
-returns-5 c = sym (ap verdict_of c.before.ending2.given.1)
+returns-in-Stopped : tie.Need-returns-in-Stopped
+returns-in-Stopped c = sym (ap verdict_of c.in-Stopped.is)
 
-pub verdict-of-spec : {M : Type 1} → statement M
-verdict-of-spec =
-    tie.close (tie.spec (λ c. search rules) (λ c. search rules) (λ c. search rules) (λ c. search rules) returns-2 returns-3 (λ c. search rules) returns-5)
+pub verdict_of_spec : {M : Type 1} → statement M
+verdict_of_spec =
+    tie.close (tie.spec (λ c. search rules) (λ c. search rules) (λ c. search rules) (λ c. search rules) returns-else-denominator-eq0 returns-else-numerator-eq0
+    (λ c. search rules) returns-in-Stopped)

@@ -15,92 +15,93 @@ use borrow.Author.Rules.{rules}
 use Rattle.table_checks.proofs.residuals.letter_residual.Statement.{statement}
 use Rattle.table_checks.proofs.residuals.letter_residual.Tie as tie
 
-abbrev after-cell-at2 : tie.After-shared-slice-known2 → tie.After-cell-at2
-after-cell-at2 c = c.before
+abbrev after_cell_at2 : tie.After-shared_slice_known-2-1 → tie.After-cell_at-from
+after_cell_at2 c = c.before
 
-abbrev start : tie.Else1 → tie.Start
+abbrev start : tie.Else-room-lt2 → tie.Start
 start c = c.before.before
 
-abbrev roomy : tie.Else2 → tie.Else1
+abbrev roomy : tie.Else-x-eq-UNDEFINED_LENGTH → tie.Else-room-lt2
 roomy c = c.before.before.before.before.before
 
-abbrev begun : tie.Else2 → tie.Start
+abbrev begun : tie.Else-x-eq-UNDEFINED_LENGTH → tie.Start
 begun c = start (roomy c)
 
-abbrev Pair : tie.Else2 → Presentation → Type 0
-Pair c T = Serves (begun c).args.cells.now (positive ((begun c).args.a ∷ (begun c).args.b ∷ [])) T
+abbrev Pair : tie.Else-x-eq-UNDEFINED_LENGTH → Presentation → Type 0
+Pair c T = Serves c.args.cells.now (positive (c.args.a ∷ c.args.b ∷ [])) T
 
 -- the two words of a pair that is not open
-words : (c : tie.Else2) (T : Presentation) → Pair c T → Rule (begun c).args.cells.now T (begun c).args.a (begun c).args.b
+words : (c : tie.Else-x-eq-UNDEFINED_LENGTH) (T : Presentation) → Pair c T → Rule c.args.cells.now T c.args.a c.args.b
 words c T t =
     let s = begun c in
-    let to = (after-cell-at2 c.before.before).before.Cell-at in
-    rule_of t s.args.a s.args.b t.lettered.0 t.lettered.1.0 (λ e. c.if2.false (ap (λ i. get_or s.args.cells.now i 0) to.ensures ∙ e))
+    let to = c.cell_at-to in
+    rule_of t s.args.a s.args.b t.lettered.0 t.lettered.1.0 (λ e. c.if-x-eq-UNDEFINED_LENGTH.false (ap (λ i. get_or s.args.cells.now i 0) to.ensures ∙ e))
 
 -- their lengths, where the code reads them
-to_count : (c : tie.Else2) (T : Presentation) (t : Pair c T)
-    → get_or (begun c).args.cells.now (after-cell-at2 c.before.before).before.Cell-at.result 0 ≡ length (words c T t).x
-to_count c T t = ap (λ i. get_or (begun c).args.cells.now i 0) (after-cell-at2 c.before.before).before.Cell-at.ensures ∙ (words c T t).to.count
+to_count : (c : tie.Else-x-eq-UNDEFINED_LENGTH) (T : Presentation) (t : Pair c T)
+    → get_or c.args.cells.now c.cell_at-to.result 0 ≡ length (words c T t).x
+to_count c T t = ap (λ i. get_or c.args.cells.now i 0) c.cell_at-to.ensures ∙ (words c T t).to.count
 
-from_count : (c : tie.Else2) (T : Presentation) (t : Pair c T)
-    → get_or (begun c).args.cells.now c.before.before.before.cell-at2.result 0 ≡ length (words c T t).y
-from_count c T t = ap (λ i. get_or (begun c).args.cells.now i 0) c.before.before.before.cell-at2.ensures ∙ (words c T t).from.count
+from_count : (c : tie.Else-x-eq-UNDEFINED_LENGTH) (T : Presentation) (t : Pair c T)
+    → get_or c.args.cells.now c.cell_at-from.result 0 ≡ length (words c T t).y
+from_count c T t = ap (λ i. get_or c.args.cells.now i 0) c.cell_at-from.ensures ∙ (words c T t).from.count
 
-some-room : (c : tie.Else2) → 2 ≤ (begun c).args.room
-some-room c = omega (arith, (roomy c).if1.false)
+some_room : (c : tie.Else-x-eq-UNDEFINED_LENGTH) → 2 ≤ c.args.room
+some_room c = omega (arith, c.if-room-lt2.false)
 
-returns : tie.Need-returns
-returns c T t =
+returns-then-room-lt2 : tie.Need-returns-then-room-lt2
+returns-then-room-lt2 c T t =
     let s = c.before.before in
-    letters_long T s.args.room s.args.a s.args.b s.args.budget c.if1.true
+    letters_long T s.args.room s.args.a s.args.b s.args.budget c.if-room-lt2.true
 
-cast-x : tie.Need-overflow-cast-x
-cast-x c = omega (arith, c.shared-slice-known2.given c.before.before.Cell-at.result)
+overflow_cast-x : tie.Need-overflow_cast-x
+overflow_cast-x c = omega (arith, c.shared_slice_known-2-1.given c.cell_at-to.result)
 
-cast-y : tie.Need-overflow-cast-y
-cast-y c = omega (arith, c.shared-slice-known3.given c.before.before.cell-at2.result)
+overflow_cast-y : tie.Need-overflow_cast-y
+overflow_cast-y c = omega (arith, c.shared_slice_known-3-1.given c.cell_at-from.result)
 
-returns-2 : tie.Need-returns-2
-returns-2 c T t =
-    let j = after-cell-at2 c.before.before in
+returns-then-x-eq-UNDEFINED_LENGTH : tie.Need-returns-then-x-eq-UNDEFINED_LENGTH
+returns-then-x-eq-UNDEFINED_LENGTH c T t =
+    let j = after_cell_at2 c.before.before in
     let k = j.before.before in
     let s = start k in
-    let first_byte = ap (λ i. get_or s.args.cells.now i 0) (sym j.before.Cell-at.ensures) ∙ c.if2.true in
-    letters_open T s.args.room s.args.a s.args.b (omega (arith, k.if1.left)) s.args.budget
+    let first_byte = ap (λ i. get_or s.args.cells.now i 0) (sym j.cell_at-to.ensures) ∙ c.if-x-eq-UNDEFINED_LENGTH.true in
+    letters_open T s.args.room s.args.a s.args.b (omega (arith, k.if-room-lt2.false)) s.args.budget
     (open_cell s.args.cells.now T t.stands s.args.a s.args.b t.lettered.0 t.lettered.1.0 first_byte)
 
-returns-3 : tie.Need-returns-3
-returns-3 c T t =
+returns-then-budget-eq0 : tie.Need-returns-then-budget-eq0
+returns-then-budget-eq0 c T t =
     let k = c.before in
     let s = begun k in
     let w = words k T t in
-    letters_spent T s.args.room s.args.a s.args.b (some-room k) w.x w.y w.rule s.args.budget c.if3.true
+    letters_spent T s.args.room s.args.a s.args.b (some_room k) w.x w.y w.rule s.args.budget c.if-budget-eq0.true
 
-add-if4 : tie.Need-overflow-add-if4
-add-if4 c =
+overflow_add-x : tie.Need-overflow_add-x
+overflow_add-x c =
     let k = c.before in
-    let T = (begun k).requires.0 in
-    let t = (begun k).requires.1 in
+    let T = k.requires.0 in
+    let t = k.requires.1 in
     omega (arith, to_count k T t, (words k T t).to.short, from_count k T t, (words k T t).from.short)
 
-returns-4 : tie.Need-returns-4
-returns-4 c T t =
+returns-then-room-x : tie.Need-returns-then-room-x
+returns-then-room-x c T t =
     let k = c.before.before in
     let s = begun k in
     let w = words k T t in
-    letters_wide T s.args.room s.args.a s.args.b (some-room k) w.x w.y w.rule s.args.budget c.before.if3.false
-    (omega (arith, to_count k T t, from_count k T t, c.if4.true))
+    letters_wide T s.args.room s.args.a s.args.b (some_room k) w.x w.y w.rule s.args.budget c.if-budget-eq0.false
+    (omega (arith, to_count k T t, from_count k T t, c.if-room-x.true))
 
-returns-5 : tie.Need-returns-5
-returns-5 c T t =
+returns : tie.Need-returns
+returns c T t =
     let k = c.before.before in
     let s = begun k in
     let w = words k T t in
     ap Found (to_count k T t)
-    ∙ letters_found T s.args.room s.args.a s.args.b (some-room k) w.x w.y w.rule s.args.budget c.before.if3.false
-    (omega (arith, to_count k T t, from_count k T t, c.if4.false))
+    ∙ letters_found T s.args.room s.args.a s.args.b (some_room k) w.x w.y w.rule s.args.budget c.if-budget-eq0.false
+    (omega (arith, to_count k T t, from_count k T t, c.if-room-x.false))
 
-pub letter-residual-spec : {M : Type 1} → statement M
-letter-residual-spec =
-    tie.close (tie.spec returns (λ c κs. search rules) (λ c κs. search rules) (λ c. search rules) cast-x (λ c. search rules) cast-y returns-2 returns-3
-    add-if4 returns-4 returns-5)
+pub letter_residual_spec : {M : Type 1} → statement M
+letter_residual_spec =
+    tie.close (tie.spec returns-then-room-lt2 (λ c κs. search rules) (λ c κs. search rules) (λ c. search rules) overflow_cast-x (λ c. search rules)
+    overflow_cast-y returns-then-x-eq-UNDEFINED_LENGTH returns-then-budget-eq0
+    overflow_add-x returns-then-room-x returns)

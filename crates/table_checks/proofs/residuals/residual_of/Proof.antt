@@ -5,11 +5,11 @@ use borrow.Author.Rules.{rules}
 use Rattle.table_checks.proofs.residuals.residual_of.Statement.{statement}
 use Rattle.table_checks.proofs.residuals.residual_of.Tie as tie
 
-returns : tie.Need-returns
-returns c = ap from_ending (sym c.before.ending.given.1)
+returns-in-Finished : tie.Need-returns-in-Finished
+returns-in-Finished c = ap from_ending (sym c.in-Finished.is)
 
-returns-3 : tie.Need-returns-3
-returns-3 c = ap from_ending (sym c.before.ending2.given.1)
+returns-in-Stopped : tie.Need-returns-in-Stopped
+returns-in-Stopped c = ap from_ending (sym c.in-Stopped.is)
 
-pub residual-of-spec : {M : Type 1} → statement M
-residual-of-spec = tie.close (tie.spec (λ c. search rules) (λ c. search rules) (λ c. search rules) returns (λ c. search rules) returns-3)
+pub residual_of_spec : {M : Type 1} → statement M
+residual_of_spec = tie.close (tie.spec (λ c. search rules) (λ c. search rules) (λ c. search rules) returns-in-Finished (λ c. search rules) returns-in-Stopped)

@@ -10,58 +10,53 @@ use Rattle.table_checks.proofs.Passing.{told, no_triple, one_triple}
 use Rattle.table_checks.proofs.table.check_triple.Statement.{statement}
 use Rattle.table_checks.proofs.table.check_triple.Tie as tie
 
-abbrev start : tie.Else1 → tie.Start
-start c = c.before.before.before
-
-abbrev compared : tie.After-cube-at → tie.Else2
+abbrev compared : tie.After-cube_at-verdict → tie.Else-c-b
 compared c = c.before.before
 
-abbrev made : tie.After-slice-known2 → tie.After-cube-at
+abbrev made : tie.After-slice_known-2-1 → tie.After-cube_at-verdict
 made c = c.before.before
 
-abbrev began : tie.After-slice-known2 → tie.Start
-began c = start (compared (made c)).before
+returns-then-c-a : tie.Need-returns-then-c-a
+returns-then-c-a c =
+    let a = c.args in
+    (refl, no_triple a.cells.now (length a.bytes.now) a.a a.b a.c a.budget (third_is_first a.a a.b a.c c.if-c-a.true))
 
-returns : tie.Need-returns
-returns c =
-    let a = c.before.before.before.args in
-    (refl, no_triple a.cells.now (length a.bytes.now) a.a a.b a.c a.budget (third_is_first a.a a.b a.c c.if1.true))
-
-returns-2 : tie.Need-returns-2
-returns-2 c =
-    let a = (start c.before).args in (
+returns-then-c-b : tie.Need-returns-then-c-b
+returns-then-c-b c =
+    let a = c.args in (
       refl,
       no_triple a.cells.now (length a.bytes.now) a.a a.b a.c a.budget
-          (third_is_second a.a a.b a.c c.before.if1.false c.if2.true),
+          (third_is_second a.a a.b a.c c.if-c-a.false c.if-c-b.true),
     )
 
-cube-at-requires : tie.Need-cube-at-requires
-cube-at-requires c κs =
-    let t = (start c.before.before).requires.0 in
+cube_at-verdict-requires : tie.Need-cube_at-verdict-requires
+cube_at-verdict-requires c κs =
+    let t = c.requires.0 in
     (t.0, t.1)
 
 -- what the verdict becomes, where it is known
-told_of : (c : tie.After-slice-known2) (v : CubeAnswer) → (made c).cube-at.result ≡ v
-    → TripleMeans (began c).args.cells.now (length (began c).args.bytes.now) (began c).args.a (began c).args.b (began c).args.c
-    (began c).args.budget (told (record { a = (began c).args.a; b = (began c).args.b; c = (began c).args.c }) v)
+told_of : (c : tie.After-slice_known-2-1) (v : CubeAnswer) → c.cube_at-verdict.result ≡ v
+    → TripleMeans c.args.cells.now (length c.args.bytes.now) c.args.a c.args.b c.args.c
+    c.args.budget (told (record { a = c.args.a; b = c.args.b; c = c.args.c }) v)
 told_of c v e =
     let k = compared (made c) in
-    let a = (began c).args in
-    one_triple a.cells.now (length a.bytes.now) a.a a.b a.c a.budget k.before.if1.left k.if2.left v
-    (subst (CubeMeans a.cells.now (length a.bytes.now) a.a a.b a.c a.budget) e (made c).cube-at.ensures.1)
+    let a = c.args in
+    one_triple a.cells.now (length a.bytes.now) a.a a.b a.c a.budget k.if-c-a.false k.if-c-b.false v
+    (subst (CubeMeans a.cells.now (length a.bytes.now) a.a a.b a.c a.budget) e c.cube_at-verdict.ensures.1)
 
-returns-3 : tie.Need-returns-3
-returns-3 c = ((made c.before.before).cube-at.ensures.0, told_of c.before.before _ c.enum_told.given.1)
+returns-in-Holds : tie.Need-returns-in-Holds
+returns-in-Holds c = (c.cube_at-verdict.ensures.0, told_of c.before _ c.in-Holds.is)
 
-returns-4 : tie.Need-returns-4
-returns-4 c = ((made c.before.before).cube-at.ensures.0, told_of c.before.before _ c.enum-told2.given.1)
+returns-in-Fails : tie.Need-returns-in-Fails
+returns-in-Fails c = (c.cube_at-verdict.ensures.0, told_of c.before _ c.in-Fails.is)
 
-returns-5 : tie.Need-returns-5
-returns-5 c =
-    let k = c.before.before.before in
-    ((made k).cube-at.ensures.0, told_of k _ c.before.verdict.given.1)
+returns-in-Halts : tie.Need-returns-in-Halts
+returns-in-Halts c =
+    let k = c.before in
+    (k.cube_at-verdict.ensures.0, told_of k _ c.in-Halts.is)
 
-pub check-triple-spec : {M : Type 1} → statement M
-check-triple-spec =
-    tie.close (tie.spec returns returns-2 cube-at-requires (λ c. search rules) (λ c. search rules) (λ c. search rules) (λ c. search rules) returns-3
-    (λ c. search rules) returns-4 (λ c. search rules) returns-5)
+pub check_triple_spec : {M : Type 1} → statement M
+check_triple_spec =
+    tie.close (tie.spec returns-then-c-a returns-then-c-b cube_at-verdict-requires (λ c. search rules) (λ c. search rules) (λ c. search rules)
+    (λ c. search rules) returns-in-Holds
+    (λ c. search rules) returns-in-Fails (λ c. search rules) returns-in-Halts)

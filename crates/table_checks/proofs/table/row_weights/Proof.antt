@@ -14,67 +14,68 @@ use Rattle.table_checks.proofs.Passing.{pair_passes, pair_fails}
 use Rattle.table_checks.proofs.table.row_weights.Statement.{statement}
 use Rattle.table_checks.proofs.table.row_weights.Tie as tie
 
-abbrev invariant-loop : tie.invariant-loop
-invariant-loop cells size a b₀ b =
+abbrev invariant-loop-b : tie.invariant-loop-b
+invariant-loop-b cells size a b₀ b =
     (a < b) × (b ≤ size + 1) × (size ≤ most_size) × ((T : Presentation) → Of cells size T → weight_check T (row size a) ≡ weight_check T (row_from size a b))
 
-abbrev decreases-loop : tie.decreases-loop
-decreases-loop cells size a b₀ b =
+abbrev decreases-loop-b : tie.decreases-loop-b
+decreases-loop-b cells size a b₀ b =
     size + 1 - b
 
-abbrev start : tie.At-loop invariant-loop decreases-loop → tie.Start invariant-loop decreases-loop
+abbrev start : tie.At-loop-b invariant-loop-b decreases-loop-b → tie.Start invariant-loop-b decreases-loop-b
 start c = c.before.before
 
-add-b : tie.Need-overflow-add-b invariant-loop decreases-loop
-add-b c = let s = c.before in omega (arith, s.requires.2, of_few s.requires.0.1)
+overflow_add-b : tie.Need-overflow_add-b invariant-loop-b decreases-loop-b
+overflow_add-b c = let s = c.before in omega (arith, s.requires.2, of_few s.requires.0.1)
 
-loop-holds : tie.Need-loop-init invariant-loop decreases-loop
-loop-holds c =
+loop-b-init : tie.Need-loop-b-init invariant-loop-b decreases-loop-b
+loop-b-init c =
     let s = c.before in (omega arith, omega (arith, s.requires.2), of_few s.requires.0.1, λ T o. ap (weight_check T) (row_begins s.args.size s.args.a))
 
-sides-balanced-requires : tie.Need-sides-balanced-requires invariant-loop decreases-loop
-sides-balanced-requires c κs =
+sides_balanced-requires : tie.Need-sides_balanced-requires invariant-loop-b decreases-loop-b
+sides_balanced-requires c κs =
     let s = c.before.before.before in
-    let l = c.before.loop in
-    (s.requires.0, record { low = s.requires.1; high = s.requires.2 }, record { low = omega (arith, l.invariant.0); high = c.loop-test.true })
+    let l = c.loop-b in
+    (s.requires.0, record { low = s.requires.1; high = s.requires.2 }, record { low = omega (arith, l.invariant.0); high = c.loop-b-test.true })
 
-returns : tie.Need-returns invariant-loop decreases-loop
-returns c =
+returns-then-not-sides_balanced : tie.Need-returns-then-not-sides_balanced invariant-loop-b decreases-loop-b
+returns-then-not-sides_balanced c =
     let s = (start c.before.before.before) in
-    let l = c.before.before.before.loop in
+    let l = c.loop-b in
     λ T o. sym
     (l.invariant.3 T o
-    ∙ (ap (weight_check T) (row_some s.args.size s.args.a l.b (omega (arith, c.before.before.loop-test.true)))
+    ∙ (ap (weight_check T) (row_some s.args.size s.args.a l.b (omega (arith, c.loop-b-test.true)))
     ∙ pair_fails T (pair s.args.a l.b) (row_from s.args.size s.args.a (l.b + 1))
-    (sym (c.before.sides-balanced.ensures T o) ∙ not-true c.before.sides-balanced.result c.if1.true)))
+    (sym (c.sides_balanced.ensures T o) ∙ not-true c.sides_balanced.result c.if-not-sides_balanced.true-raw)))
 
-add-b-2 : tie.Need-overflow-add-b-2 invariant-loop decreases-loop
-add-b-2 c =
+overflow_add-b-in-loop-b : tie.Need-overflow_add-b-in-loop-b invariant-loop-b decreases-loop-b
+overflow_add-b-in-loop-b c =
     let s = (start c.before.before.before) in
-    let l = c.before.before.before.loop in
-    omega (arith, l.invariant.2, c.before.before.loop-test.true)
+    let l = c.loop-b in
+    omega (arith, l.invariant.2, c.loop-b-test.true)
 
-loop-less : tie.Need-loop-smaller invariant-loop decreases-loop
-loop-less c = omega (arith, c.before.before.loop-test.true)
+loop-b-smaller : tie.Need-loop-b-smaller invariant-loop-b decreases-loop-b
+loop-b-smaller c = omega (arith, c.loop-b-test.true)
 
-loop-again : tie.Need-loop-preserved invariant-loop decreases-loop
-loop-again c =
+loop-b-preserved : tie.Need-loop-b-preserved invariant-loop-b decreases-loop-b
+loop-b-preserved c =
     let s = (start c.before.before.before) in
-    let l = c.before.before.before.loop in (
+    let l = c.loop-b in (
       omega (arith, l.invariant.0),
-      omega (arith, c.before.before.loop-test.true),
+      omega (arith, c.loop-b-test.true),
       l.invariant.2,
       λ T o. l.invariant.3 T o
-          ∙ (ap (weight_check T) (row_some s.args.size s.args.a l.b (omega (arith, c.before.before.loop-test.true)))
+          ∙ (ap (weight_check T) (row_some s.args.size s.args.a l.b (omega (arith, c.loop-b-test.true)))
           ∙ pair_passes T (pair s.args.a l.b) (row_from s.args.size s.args.a (l.b + 1))
-          (sym (c.before.sides-balanced.ensures T o) ∙ not-false c.before.sides-balanced.result c.if1.false)),
+          (sym (c.sides_balanced.ensures T o) ∙ not-false c.sides_balanced.result c.if-not-sides_balanced.false-raw)),
     )
 
-returns-2 : tie.Need-returns-2 invariant-loop decreases-loop
-returns-2 c =
+returns : tie.Need-returns invariant-loop-b decreases-loop-b
+returns c =
     let s = c.before.before.before in
-    let l = c.before.loop in
-    λ T o. sym (l.invariant.3 T o ∙ ap (weight_check T) (row_none s.args.size s.args.a l.b (omega (arith, c.loop-test.false))))
+    let l = c.loop-b in
+    λ T o. sym (l.invariant.3 T o ∙ ap (weight_check T) (row_none s.args.size s.args.a l.b (omega (arith, c.loop-b-test.false))))
 
-pub row-weights-spec : {M : Type 1} → statement M
-row-weights-spec = tie.close (tie.spec invariant-loop decreases-loop add-b loop-holds sides-balanced-requires returns add-b-2 loop-less loop-again returns-2)
+pub row_weights_spec : {M : Type 1} → statement M
+row_weights_spec = tie.close (tie.spec invariant-loop-b decreases-loop-b overflow_add-b loop-b-init sides_balanced-requires returns-then-not-sides_balanced
+    overflow_add-b-in-loop-b loop-b-smaller loop-b-preserved returns)

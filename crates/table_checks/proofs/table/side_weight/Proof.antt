@@ -11,117 +11,119 @@ use Rattle.table_checks.proofs.Weighing.{Next, letters, letter_light, cell_insid
 use Rattle.table_checks.proofs.table.side_weight.Statement.{statement}
 use Rattle.table_checks.proofs.table.side_weight.Tie as tie
 
-abbrev invariant-loop : tie.invariant-loop
-invariant-loop cells size a b cell count weight₀ k₀ weight k =
+abbrev invariant-loop-k : tie.invariant-loop-k
+invariant-loop-k cells size a b cell count weight₀ k₀ weight k =
     (k ≤ count)
     × (weight ≤ 8 + 8 * k)
     × ((T : Presentation) → Of cells size T → (x y : Positive) → complete T a b ≡ complement x y → weight ≡ weigh T (a ∷ take k x))
 
-abbrev decreases-loop : tie.decreases-loop
-decreases-loop cells size a b cell count weight₀ k₀ weight k = count - k
+abbrev decreases-loop-k : tie.decreases-loop-k
+decreases-loop-k cells size a b cell count weight₀ k₀ weight k = count - k
 
-abbrev cell : tie.At-loop invariant-loop decreases-loop → tie.After-cell-at invariant-loop decreases-loop
+abbrev cell : tie.At-loop-k invariant-loop-k decreases-loop-k → tie.After-cell_at-cell invariant-loop-k decreases-loop-k
 cell c = c.before.before.before
 
-abbrev start : tie.At-loop invariant-loop decreases-loop → tie.Start invariant-loop decreases-loop
+abbrev start : tie.At-loop-k invariant-loop-k decreases-loop-k → tie.Start invariant-loop-k decreases-loop-k
 start c = (cell c).before.before
 
 -- the next letter of the completion
-next : (c : tie.In-loop invariant-loop decreases-loop) → Next (start c.before).args.cells.now (cell c.before).Cell-at.result c.before.loop.k
+next : (c : tie.In-loop-k invariant-loop-k decreases-loop-k) → Next c.args.cells.now c.cell_at-cell.result c.loop-k.k
 next c =
     let s = start c.before in
-    let v = (cell c.before).Cell-at in
-    side_next s.args.cells.now s.args.size s.pre.0.0 s.pre.0.1 s.args.a s.args.b s.pre.1 v.result v.ensures
-    c.before.loop.k c.loop-test.true
+    let v = c.cell_at-cell in
+    side_next s.args.cells.now s.args.size s.requires.0.0 s.requires.0.1 s.args.a s.args.b s.requires.1 v.result v.ensures
+    c.loop-k.k c.loop-k-test.true
 
-cell-at-requires : tie.Need-cell-at-requires invariant-loop decreases-loop
-cell-at-requires c κs =
+cell_at-cell-requires : tie.Need-cell_at-cell-requires invariant-loop-k decreases-loop-k
+cell_at-cell-requires c κs =
     let s = c.before in letters s.args.cells.now s.args.size s.requires.0.0 s.requires.0.1 s.args.a s.args.b s.requires.1
 
-shared-slice-read-count : tie.Need-shared-slice-read-count invariant-loop decreases-loop
-shared-slice-read-count c =
+bounds-cells-cell : tie.Need-bounds-cells-cell invariant-loop-k decreases-loop-k
+bounds-cells-cell c =
     let s = c.before.before.before in
-    let v = c.before.Cell-at in
+    let v = c.cell_at-cell in
     omega (
       arith,
       cell_inside s.args.cells.now s.args.size s.requires.0.0 s.requires.0.1 s.args.a s.args.b s.requires.1 v.result v.ensures,
     )
 
-cast-count : tie.Need-overflow-cast-count invariant-loop decreases-loop
-cast-count c = omega (arith, c.shared-slice-known2.given c.before.Cell-at.result)
+overflow_cast-count : tie.Need-overflow_cast-count invariant-loop-k decreases-loop-k
+overflow_cast-count c = omega (arith, c.shared_slice_known-2-1.given c.cell_at-cell.result)
 
-letter-weight-requires : tie.Need-letter-weight-requires invariant-loop decreases-loop
-letter-weight-requires c κs =
+letter_weight-weight-requires : tie.Need-letter_weight-weight-requires invariant-loop-k decreases-loop-k
+letter_weight-weight-requires c κs =
     let s = c.before.before.before in
     let o = s.requires.0.1 in
     (o.stands.full, (letters s.args.cells.now s.args.size s.requires.0.0 o s.args.a s.args.b s.requires.1).0)
 
-loop-holds : tie.Need-loop-init invariant-loop decreases-loop
-loop-holds c =
+loop-k-init : tie.Need-loop-k-init invariant-loop-k decreases-loop-k
+loop-k-init c =
     let k = c.before.before in
-    let v = k.Cell-at in
+    let v = k.cell_at-cell in
     let s = k.before.before in
     let q = s.requires.1 in (
       omega arith,
       omega (
         arith,
-        c.letter-weight.ensures,
+        c.letter_weight-weight.ensures,
         letter_light s.args.cells.now s.args.size s.requires.0.0 s.requires.0.1 s.args.a s.args.b q q.first,
       ),
-      λ T o x y e. c.letter-weight.ensures
+      λ T o x y e. c.letter_weight-weight.ensures
           ∙ side_begun s.args.cells.now s.args.size T o s.args.a s.args.b q v.result v.ensures x y e,
     )
 
-add-letter-weight : tie.Need-overflow-add-letter-weight invariant-loop decreases-loop
-add-letter-weight c = omega (arith, (next c).inside, (start c.before).pre.0.1.stands.full)
+overflow_add-cell : tie.Need-overflow_add-cell invariant-loop-k decreases-loop-k
+overflow_add-cell c = omega (arith, (next c).inside, c.requires.0.1.stands.full)
 
-add-letter-weight-2 : tie.Need-overflow-add-letter-weight-2 invariant-loop decreases-loop
-add-letter-weight-2 c = omega (arith, (next c).inside, (start c.before).pre.0.1.stands.full)
+overflow_add-cell-in-loop-k : tie.Need-overflow_add-cell-in-loop-k invariant-loop-k decreases-loop-k
+overflow_add-cell-in-loop-k c = omega (arith, (next c).inside, c.requires.0.1.stands.full)
 
-shared-slice-read-letter-weight : tie.Need-shared-slice-read-letter-weight invariant-loop decreases-loop
-shared-slice-read-letter-weight c = (next c.before).inside
+bounds-cells-cell-in-loop-k : tie.Need-bounds-cells-cell-in-loop-k invariant-loop-k decreases-loop-k
+bounds-cells-cell-in-loop-k c = (next c.before).inside
 
-letter-weight-requires-2 : tie.Need-letter-weight-requires-2 invariant-loop decreases-loop
-letter-weight-requires-2 c κs = ((start c.before.before).pre.0.1.stands.full, (next c.before).letter)
+letter_weight-weight-requires-in-loop-k : tie.Need-letter_weight-weight-requires-in-loop-k invariant-loop-k decreases-loop-k
+letter_weight-weight-requires-in-loop-k c κs = (c.requires.0.1.stands.full, (next c.before).letter)
 
-add-weight : tie.Need-overflow-add-weight invariant-loop decreases-loop
-add-weight c =
+overflow_add-weight : tie.Need-overflow_add-weight invariant-loop-k decreases-loop-k
+overflow_add-weight c =
     let n = next c.before.before in
-    omega (arith, c.before.before.before.loop.invariant.1, n.few, n.light, c.letter-weight2.ensures)
+    omega (arith, c.loop-k.invariant.1, n.few, n.light, c.letter_weight-weight-in-loop-k.ensures)
 
-add-k : tie.Need-overflow-add-k invariant-loop decreases-loop
-add-k c = omega (arith, (next c.before.before).few)
+overflow_add-k : tie.Need-overflow_add-k invariant-loop-k decreases-loop-k
+overflow_add-k c = omega (arith, (next c.before.before).few)
 
-loop-less : tie.Need-loop-smaller invariant-loop decreases-loop
-loop-less c = omega (arith, c.before.before.loop-test.true)
+loop-k-smaller : tie.Need-loop-k-smaller invariant-loop-k decreases-loop-k
+loop-k-smaller c = omega (arith, c.loop-k-test.true)
 
-loop-again : tie.Need-loop-preserved invariant-loop decreases-loop
-loop-again c =
+loop-k-preserved : tie.Need-loop-k-preserved invariant-loop-k decreases-loop-k
+loop-k-preserved c =
     let t = c.before.before in
-    let l = t.before.loop in
-    let v = (cell t.before).Cell-at in
+    let l = t.loop-k in
+    let v = t.cell_at-cell in
     let s = start t.before in
-    let w = c.letter-weight2.ensures in (
-      omega (arith, t.loop-test.true),
+    let w = c.letter_weight-weight-in-loop-k.ensures in (
+      omega (arith, t.loop-k-test.true),
       omega (arith, l.invariant.1, w, (next t).light),
       λ T o x y e. omega (
         arith,
         l.invariant.2 T o x y e,
         w,
-        side_more s.args.cells.now s.args.size T o s.args.a s.args.b s.pre.1 v.result v.ensures x y e l.k t.loop-test.true,
+        side_more s.args.cells.now s.args.size T o s.args.a s.args.b s.requires.1 v.result v.ensures x y e l.k t.loop-k-test.true,
       ),
     )
 
-returns : tie.Need-returns invariant-loop decreases-loop
+returns : tie.Need-returns invariant-loop-k decreases-loop-k
 returns c =
-    let l = c.before.loop in
-    let v = (cell c.before).Cell-at in
+    let l = c.loop-k in
+    let v = c.cell_at-cell in
     let s = start c.before in
     λ T o x y e. l.invariant.2 T o x y e
-    ∙ side_whole s.args.cells.now s.args.size T o s.args.a s.args.b s.pre.1 v.result v.ensures x y e l.k
-    (omega (arith, c.loop-test.false))
+    ∙ side_whole s.args.cells.now s.args.size T o s.args.a s.args.b s.requires.1 v.result v.ensures x y e l.k
+    (omega (arith, c.loop-k-test.false))
 
-pub side-weight-spec : {M : Type 1} → statement M
-side-weight-spec =
-    tie.close (tie.spec invariant-loop decreases-loop cell-at-requires shared-slice-read-count cast-count letter-weight-requires loop-holds add-letter-weight
-    add-letter-weight-2 shared-slice-read-letter-weight letter-weight-requires-2 add-weight add-k loop-less loop-again returns)
+pub side_weight_spec : {M : Type 1} → statement M
+side_weight_spec =
+    tie.close (tie.spec invariant-loop-k decreases-loop-k cell_at-cell-requires bounds-cells-cell overflow_cast-count letter_weight-weight-requires loop-k-init
+    overflow_add-cell
+    overflow_add-cell-in-loop-k bounds-cells-cell-in-loop-k letter_weight-weight-requires-in-loop-k overflow_add-weight overflow_add-k loop-k-smaller
+    loop-k-preserved returns)

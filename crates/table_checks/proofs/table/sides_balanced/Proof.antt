@@ -8,54 +8,55 @@ use borrow.Author.Rules.{rules}
 use Rattle.table_checks.proofs.table.sides_balanced.Statement.{statement}
 use Rattle.table_checks.proofs.table.sides_balanced.Tie as tie
 
-abbrev start : tie.After-shared-slice-known2 → tie.Start
+abbrev start : tie.After-shared_slice_known-2-1 → tie.Start
 start c = c.before.before.before
 
-abbrev after-shared-slice-known2 : tie.Else1 → tie.After-shared-slice-known2
-after-shared-slice-known2 c = c.before
+abbrev after_shared_slice_known2 : tie.Else-cells-cell → tie.After-shared_slice_known-2-1
+after_shared_slice_known2 c = c.before
 
-returns : tie.Need-returns
-returns c =
+returns-then-cells-cell : tie.Need-returns-then-cells-cell
+returns-then-cells-cell c =
     let s = (start c.before) in
-    let o = s.pre.0.1 in
-    λ T o. sym (open_balanced s.args.cells.now s.args.size T o s.args.a s.args.b (of_range o s.args.a s.pre.1.low s.pre.1.high)
-    (of_range o s.args.b s.pre.2.low s.pre.2.high) (sym (ap (λ i. get_or s.args.cells.now i 0) c.before.before.Cell-at.ensures)
-    ∙ c.if1.true))
+    let o = s.requires.0.1 in
+    λ T o. sym (open_balanced s.args.cells.now s.args.size T o s.args.a s.args.b (of_range o s.args.a s.requires.1.low s.requires.1.high)
+    (of_range o s.args.b s.requires.2.low s.requires.2.high) (sym (ap (λ i. get_or s.args.cells.now i 0) c.cell_at-cell.ensures)
+    ∙ c.if-cells-cell.true))
 
-side-weight-requires : tie.Need-side-weight-requires
-side-weight-requires c κs =
-    let s = (start (after-shared-slice-known2 c)) in (
-      s.pre.0,
+side_weight-requires : tie.Need-side_weight-requires
+side_weight-requires c κs =
+    let s = (start (after_shared_slice_known2 c)) in (
+      s.requires.0,
       record {
-        first = s.pre.1;
-        second = s.pre.2;
+        first = s.requires.1;
+        second = s.requires.2;
         defined =
-            λ e. c.if1.false (ap (λ i. get_or s.args.cells.now i 0) c.before.before.Cell-at.ensures ∙ e);
+            λ e. c.if-cells-cell.false (ap (λ i. get_or s.args.cells.now i 0) c.cell_at-cell.ensures ∙ e);
       },
     )
 
-side-weight-requires-2 : tie.Need-side-weight-requires-2
-side-weight-requires-2 c κs =
-    let s = (start (after-shared-slice-known2 c.before)) in (
-      s.pre.0,
-      related_back s.args.cells.now s.args.size s.pre.0.0 s.pre.0.1 s.args.a s.args.b
+side_weight-requires-2 : tie.Need-side_weight-requires-2
+side_weight-requires-2 c κs =
+    let s = (start (after_shared_slice_known2 c.before)) in (
+      s.requires.0,
+      related_back s.args.cells.now s.args.size s.requires.0.0 s.requires.0.1 s.args.a s.args.b
           (record {
-            first = s.pre.1;
-            second = s.pre.2;
+            first = s.requires.1;
+            second = s.requires.2;
             defined =
-                λ e. c.before.if1.false (ap (λ i. get_or s.args.cells.now i 0) c.before.before.before.Cell-at.ensures ∙ e);
+                λ e. c.if-cells-cell.false (ap (λ i. get_or s.args.cells.now i 0) c.cell_at-cell.ensures ∙ e);
           }),
     )
 
-returns-2 : tie.Need-returns-2
-returns-2 c =
-    let k = after-shared-slice-known2 c.before.before in
+returns : tie.Need-returns
+returns c =
+    let k = after_shared_slice_known2 c.before.before in
     let s = (start k) in
-    let o = s.pre.0.1 in
-    λ T o. sides_weighed s.args.cells.now s.args.size T o s.args.a s.args.b (of_range o s.args.a s.pre.1.low s.pre.1.high)
-    (of_range o s.args.b s.pre.2.low s.pre.2.high)
-    (λ e. c.before.before.if1.false (ap (λ i. get_or s.args.cells.now i 0) k.before.Cell-at.ensures ∙ e)) c.before.side-weight.result
-    c.side-weight2.result c.before.side-weight.ensures c.side-weight2.ensures
+    let o = s.requires.0.1 in
+    λ T o. sides_weighed s.args.cells.now s.args.size T o s.args.a s.args.b (of_range o s.args.a s.requires.1.low s.requires.1.high)
+    (of_range o s.args.b s.requires.2.low s.requires.2.high)
+    (λ e. c.if-cells-cell.false (ap (λ i. get_or s.args.cells.now i 0) k.cell_at-cell.ensures ∙ e)) c.side_weight.result
+    c.side_weight-2.result c.side_weight.ensures c.side_weight-2.ensures
 
-pub sides-balanced-spec : {M : Type 1} → statement M
-sides-balanced-spec = tie.close (tie.spec (λ c κs. search rules) (λ c. search rules) returns side-weight-requires side-weight-requires-2 returns-2)
+pub sides_balanced_spec : {M : Type 1} → statement M
+sides_balanced_spec = tie.close (tie.spec (λ c κs. search rules) (λ c. search rules) returns-then-cells-cell side_weight-requires side_weight-requires-2
+    returns)

@@ -4,16 +4,13 @@ use borrow.Author.Rules.{rules}
 use Rattle.text.proofs.lines.put_numbers_line.Statement.{statement}
 use Rattle.text.proofs.lines.put_numbers_line.Tie as tie
 
-abbrev after-put-label : tie.After-put-byte-arg → tie.After-put-label
-after-put-label c = c.before.before.before.before.before.before.before
-
-abbrev after-put-byte-arg : tie.After-put-byte → tie.After-put-byte-arg
-after-put-byte-arg c = c.before
+abbrev after_put_byte_arg : tie.After-put_byte → tie.After-put_byte-arg-1
+after_put_byte_arg c = c.before
 
 returns : tie.Need-returns
 returns c =
-    let k = after-put-byte-arg c.before.before in
-    (after-put-label k).put-label.ensures then (k.before.before.before.put-numbers.ensures then c.before.before.put_byte.ensures)
+    let k = after_put_byte_arg c.before.before in
+    k.put_label-labelled.ensures then (k.put_numbers-listed.ensures then c.put_byte.ensures)
 
-pub put-numbers-line-spec : {M : Type 1} → statement M
-put-numbers-line-spec = tie.close (tie.spec (λ c κs. search rules) (λ c κs. search rules) (λ c κs. search rules) (λ c. search rules) returns)
+pub put_numbers_line_spec : {M : Type 1} → statement M
+put_numbers_line_spec = tie.close (tie.spec (λ c κs. search rules) (λ c κs. search rules) (λ c κs. search rules) (λ c. search rules) returns)

@@ -5,22 +5,23 @@ use borrow.Author.Rules.{rules}
 use Rattle.text.proofs.pieces.put_digit.Statement.{statement}
 use Rattle.text.proofs.pieces.put_digit.Tie as tie
 
-abbrev start : tie.After-put-byte → tie.Start
+abbrev start : tie.After-put_byte → tie.Start
 start c = c.before.before.before.before
 
-abbrev after-put-byte : tie.After-out → tie.After-put-byte
-after-put-byte c = c.before
+abbrev after_put_byte : tie.After-out-1 → tie.After-put_byte
+after_put_byte c = c.before
+
+returns-then-x-power : tie.Need-returns-then-x-power
+returns-then-x-power c =
+    let s = c.before.before in
+    put_as (omega arith) (digit_none s.args.power s.args.x c.if-x-power.true) (put_none s.args.out.now s.args.at)
 
 returns : tie.Need-returns
 returns c =
-    let s = c.before.before in
-    put_as (omega arith) (digit_none s.args.power s.args.x c.if1.true) (put_none s.args.out.now s.args.at)
-
-returns-2 : tie.Need-returns-2
-returns-2 c =
-    let k = after-put-byte c.before in
+    let k = after_put_byte c.before in
     let s = start k in
-    put_as (omega arith) (digit_some s.args.power s.args.x k.before.before.if1.left) c.before.before.put_byte.ensures
+    put_as (omega arith) (digit_some s.args.power s.args.x k.if-x-power.false) c.put_byte.ensures
 
-pub put-digit-spec : {M : Type 1} → statement M
-put-digit-spec = tie.close (tie.spec returns (λ c. search rules) (λ c. search rules) (λ c. search rules) (λ c κs. search rules) (λ c. search rules) returns-2)
+pub put_digit_spec : {M : Type 1} → statement M
+put_digit_spec = tie.close (tie.spec returns-then-x-power (λ c. search rules) (λ c. search rules) (λ c. search rules) (λ c κs. search rules) (λ c. search rules)
+    returns)

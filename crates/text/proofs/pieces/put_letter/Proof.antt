@@ -8,35 +8,35 @@ use borrow.Author.Rules.{rules}
 use Rattle.text.proofs.pieces.put_letter.Statement.{statement}
 use Rattle.text.proofs.pieces.put_letter.Tie as tie
 
-abbrev start-from-after-put-spaced : tie.After-put-spaced → tie.Start
-start-from-after-put-spaced c = c.before.before.before.before
+abbrev start_from_after_put_spaced : tie.After-put_spaced → tie.Start
+start_from_after_put_spaced c = c.before.before.before.before
 
-abbrev start : tie.After-put-byte → tie.Start
+abbrev start : tie.After-put_byte-sign → tie.Start
 start c = c.before.before.before.before
 
-abbrev after-put-spaced : tie.After-out → tie.After-put-spaced
-after-put-spaced c = c.before
+abbrev after_put_spaced : tie.After-out-1 → tie.After-put_spaced
+after_put_spaced c = c.before
 
-abbrev after-put-byte : tie.After-put-number-arg → tie.After-put-byte
-after-put-byte c = c.before.before.before.before.before.before.before
+abbrev after_put_byte : tie.After-put_number-arg-1 → tie.After-put_byte-sign
+after_put_byte c = c.before.before.before.before.before.before.before
 
-abbrev after-put-number-arg : tie.After-put-number → tie.After-put-number-arg
-after-put-number-arg c = c.before
+abbrev after_put_number_arg : tie.After-put_number → tie.After-put_number-arg-1
+after_put_number_arg c = c.before
+
+returns-then-byte-lt128 : tie.Need-returns-then-byte-lt128
+returns-then-byte-lt128 c =
+    let k = after_put_spaced c.before in
+    let s = start_from_after_put_spaced k in
+    put_as (omega arith) (sym (ap letter_text (letter_forward s.args.byte k.if-byte-lt128.true))) c.put_spaced.ensures
 
 returns : tie.Need-returns
 returns c =
-    let k = after-put-spaced c.before in
-    let s = start-from-after-put-spaced k in
-    put_as (omega arith) (sym (ap letter_text (letter_forward s.args.byte k.before.before.if1.taken))) c.before.before.put-spaced.ensures
+    let k = after_put_number_arg c.before.before in
+    let s = start (after_put_byte k) in
+    put_as (omega arith) (sym (ap letter_text (letter_back s.args.byte k.if-byte-lt128.false)))
+    (k.put_byte-sign.ensures then (k.put_byte-digits.ensures then c.put_number.ensures))
 
-returns-2 : tie.Need-returns-2
-returns-2 c =
-    let k = after-put-number-arg c.before.before in
-    let s = start (after-put-byte k) in
-    put_as (omega arith) (sym (ap letter_text (letter_back s.args.byte (after-put-byte k).before.before.if1.left)))
-    ((after-put-byte k).put_byte.ensures then (k.before.before.before.put-byte2.ensures then c.before.before.put-number.ensures))
-
-pub put-letter-spec : {M : Type 1} → statement M
-put-letter-spec =
-    tie.close (tie.spec (λ c κs. search rules) (λ c. search rules) returns (λ c κs. search rules) (λ c κs. search rules) (λ c. search rules)
-    (λ c κs. search rules) (λ c. search rules) returns-2)
+pub put_letter_spec : {M : Type 1} → statement M
+put_letter_spec =
+    tie.close (tie.spec (λ c κs. search rules) (λ c. search rules) returns-then-byte-lt128 (λ c κs. search rules) (λ c κs. search rules) (λ c. search rules)
+    (λ c κs. search rules) (λ c. search rules) returns)

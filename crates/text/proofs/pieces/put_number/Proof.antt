@@ -5,29 +5,29 @@ use borrow.Author.Rules.{rules}
 use Rattle.text.proofs.pieces.put_number.Statement.{statement}
 use Rattle.text.proofs.pieces.put_number.Tie as tie
 
-abbrev after-put-digit : tie.After-put-digit2 → tie.After-put-digit
-after-put-digit c = c.before.before.before.before
+abbrev after_put_digit : tie.After-put_digit-hundreds → tie.After-put_digit-thousands
+after_put_digit c = c.before.before.before.before
 
-abbrev after-put-digit2 : tie.After-put-digit3 → tie.After-put-digit2
-after-put-digit2 c = c.before.before.before.before
+abbrev after_put_digit2 : tie.After-put_digit-tens → tie.After-put_digit-hundreds
+after_put_digit2 c = c.before.before.before.before
 
-abbrev after-put-digit3 : tie.After-put-byte-arg → tie.After-put-digit3
-after-put-digit3 c = c.before.before.before.before.before.before.before
+abbrev after_put_digit3 : tie.After-put_byte-arg-1 → tie.After-put_digit-tens
+after_put_digit3 c = c.before.before.before.before.before.before.before
 
-abbrev after-put-byte-arg : tie.After-put-byte → tie.After-put-byte-arg
-after-put-byte-arg c = c.before
+abbrev after_put_byte_arg : tie.After-put_byte → tie.After-put_byte-arg-1
+after_put_byte_arg c = c.before
 
 returns : tie.Need-returns
 unfolding number
 returns c =
-    let k = after-put-byte-arg c.before.before in
-    (after-put-digit (after-put-digit2 (after-put-digit3 k))).put-digit.ensures
-    then ((after-put-digit2 (after-put-digit3 k)).put-digit2.ensures
-    then ((after-put-digit3 k).put-digit3.ensures
-    then (k.before.before.before.put-digit4.ensures
-    then c.before.before.put_byte.ensures)))
+    let k = after_put_byte_arg c.before.before in
+    (after_put_digit (after_put_digit2 (after_put_digit3 k))).put_digit-thousands.ensures
+    then ((after_put_digit2 (after_put_digit3 k)).put_digit-hundreds.ensures
+    then (k.put_digit-tens.ensures
+    then (k.put_digit-ones.ensures
+    then c.put_byte.ensures)))
 
-pub put-number-spec : {M : Type 1} → statement M
-put-number-spec =
+pub put_number_spec : {M : Type 1} → statement M
+put_number_spec =
     tie.close (tie.spec (λ c κs. search rules) (λ c κs. search rules) (λ c κs. search rules) (λ c κs. search rules) (λ c. search rules) (λ c. search rules)
     (λ c κs. search rules) (λ c. search rules) returns)

@@ -9,54 +9,55 @@ use borrow.Author.Rules.{rules}
 use Rattle.trays.proofs.answers.write_answer.Statement.{statement}
 use Rattle.trays.proofs.answers.write_answer.Tie as tie
 
-abbrev start : tie.After-write-three-arg → tie.Start
-start c = c.before.before.before.before.before
+abbrev start : tie.After-write_three-arg-1 → tie.Start
+start c = c.before.before.before
 
-abbrev start-from-after-write-three-arg2 : tie.After-write-three-arg2 → tie.Start
-start-from-after-write-three-arg2 c = c.before.before.before.before.before
+abbrev start_from_after_write_three_arg2 : tie.After-write_three-arg-in-Different-1 → tie.Start
+start_from_after_write_three_arg2 c = c.before.before.before
 
-abbrev start-from-after-write-three-arg3 : tie.After-write-three-arg3 → tie.Start
-start-from-after-write-three-arg3 c = c.before.before.before.before.before.before
+abbrev start_from_after_write_three_arg3 : tie.After-write_three-arg-in-Refused-1 → tie.Start
+start_from_after_write_three_arg3 c = c.before.before.before.before
 
-abbrev after-write-three-arg : tie.After-write-three → tie.After-write-three-arg
-after-write-three-arg c = c.before
+abbrev after_write_three_arg : tie.After-write_three → tie.After-write_three-arg-1
+after_write_three_arg c = c.before
 
-abbrev after-write-three-arg2 : tie.After-write-three2 → tie.After-write-three-arg2
-after-write-three-arg2 c = c.before
+abbrev after_write_three_arg2 : tie.After-write_three-in-Different → tie.After-write_three-arg-in-Different-1
+after_write_three_arg2 c = c.before
 
-abbrev after-write-three-arg3 : tie.After-write-three3 → tie.After-write-three-arg3
-after-write-three-arg3 c = c.before
+abbrev after_write_three_arg3 : tie.After-write_three-in-Refused → tie.After-write_three-arg-in-Refused-1
+after_write_three_arg3 c = c.before
 
-same_length : tie.Need-same-length
-same_length c = c.before.before.write-three.auto.0
+shape_of-answer-in-Same : tie.Need-shape_of-answer-in-Same
+shape_of-answer-in-Same c = c.write_three.auto.answer
 
-returns : tie.Need-returns
-returns c =
-    let k = after-write-three-arg c.before.before in
-    let s = start k in c.before.before.write-three.ensures ∙ ap (λ o. written s.args.answer.now s.args.at (log_bytes (compared o)))
-    (sym k.before.before.outcome.given.1)
+returns-in-Same : tie.Need-returns-in-Same
+returns-in-Same c =
+    let k = after_write_three_arg c.before.before in
+    let s = start k in c.write_three.ensures ∙ ap (λ o. written s.args.answer.now s.args.at (log_bytes (compared o)))
+    (sym k.in-Same.is)
 
-same-length-2 : tie.Need-same-length-2
-same-length-2 c = c.before.before.write-three2.auto.0
+shape_of-answer-in-Different : tie.Need-shape_of-answer-in-Different
+shape_of-answer-in-Different c = c.write_three-in-Different.auto.answer
 
-returns-2 : tie.Need-returns-2
-returns-2 c =
-    let k = after-write-three-arg2 c.before.before in
-    let s = start-from-after-write-three-arg2 k in c.before.before.write-three2.ensures
-    ∙ ap (λ o. written s.args.answer.now s.args.at (log_bytes (compared o))) (sym k.before.before.outcome2.given.1)
+returns-in-Different : tie.Need-returns-in-Different
+returns-in-Different c =
+    let k = after_write_three_arg2 c.before.before in
+    let s = start_from_after_write_three_arg2 k in c.write_three-in-Different.ensures
+    ∙ ap (λ o. written s.args.answer.now s.args.at (log_bytes (compared o))) (sym k.in-Different.is)
 
-same-length-3 : tie.Need-same-length-3
-same-length-3 c = c.before.before.write-three3.auto.0
+shape_of-answer-in-Refused : tie.Need-shape_of-answer-in-Refused
+shape_of-answer-in-Refused c = c.write_three-in-Refused.auto.answer
 
-returns-3 : tie.Need-returns-3
-returns-3 c =
-    let j = after-write-three-arg3 c.before.before in
-    let s = start-from-after-write-three-arg3 j in
-    c.before.before.write-three3.ensures
-    ∙ ap (λ k. written s.args.answer.now s.args.at (k ∷ 0 ∷ 0 ∷ [])) (own_number j.before.refusal-numbers.ensures)
-    ∙ ap (λ o. written s.args.answer.now s.args.at (log_bytes (compared o))) (sym j.before.before.before.outcome3.given.1)
+returns-in-Refused : tie.Need-returns-in-Refused
+returns-in-Refused c =
+    let j = after_write_three_arg3 c.before.before in
+    let s = start_from_after_write_three_arg3 j in
+    c.write_three-in-Refused.ensures
+    ∙ ap (λ k. written s.args.answer.now s.args.at (k ∷ 0 ∷ 0 ∷ [])) (own_number j.refusal_numbers-numbers.ensures)
+    ∙ ap (λ o. written s.args.answer.now s.args.at (log_bytes (compared o))) (sym j.in-Refused.is)
 
-pub write-answer-spec : {M : Type 1} → statement M
-write-answer-spec =
+pub write_answer_spec : {M : Type 1} → statement M
+write_answer_spec =
     tie.close (tie.spec (λ c. search rules) (λ c κs. search rules) (λ c. search rules) (λ c κs. search rules) (λ c. search rules) (λ c κs. search rules)
-    (λ c κs. search rules) same_length returns same-length-2 returns-2 same-length-3 returns-3)
+    (λ c κs. search rules) shape_of-answer-in-Same returns-in-Same shape_of-answer-in-Different returns-in-Different shape_of-answer-in-Refused
+    returns-in-Refused)

@@ -6,77 +6,78 @@ use Rattle.trays.proofs.Reading.{Passed, log_short, log_cut, none_passed, one_pa
 use Rattle.trays.proofs.logs.holds_logs.Statement.{statement}
 use Rattle.trays.proofs.logs.holds_logs.Tie as tie
 
-abbrev invariant-loop : tie.invariant-loop
-invariant-loop tray logs at₀ left₀ at left = Passed tray logs at left
+abbrev invariant-loop-left : tie.invariant-loop-left
+invariant-loop-left tray logs at₀ left₀ at left = Passed tray logs at left
 
-abbrev decreases-loop : tie.decreases-loop
-decreases-loop tray logs at₀ left₀ at left = left
+abbrev decreases-loop-left : tie.decreases-loop-left
+decreases-loop-left tray logs at₀ left₀ at left = left
 
-abbrev start : tie.In-loop invariant-loop decreases-loop → tie.Start invariant-loop decreases-loop
+abbrev start : tie.In-loop-left invariant-loop-left decreases-loop-left → tie.Start invariant-loop-left decreases-loop-left
 start c = c.before.before.before
 
-abbrev in-loop : tie.Else1 invariant-loop decreases-loop → tie.In-loop invariant-loop decreases-loop
-in-loop c = c.before
+abbrev in_loop : tie.Else-tray-at-lt2 invariant-loop-left decreases-loop-left → tie.In-loop-left invariant-loop-left decreases-loop-left
+in_loop c = c.before
 
-loop-holds : tie.Need-loop-init invariant-loop decreases-loop
-loop-holds c = none_passed c.before.args.tray.now c.before.args.logs c.before.requires
+loop-left-init : tie.Need-loop-left-init invariant-loop-left decreases-loop-left
+loop-left-init c = none_passed c.args.tray.now c.args.logs c.requires
 
-sub-if1 : tie.Need-overflow-sub-if1 invariant-loop decreases-loop
-sub-if1 c = c.before.loop.invariant.inside
+overflow_sub-tray : tie.Need-overflow_sub-tray invariant-loop-left decreases-loop-left
+overflow_sub-tray c = c.loop-left.invariant.inside
 
-returns : tie.Need-returns invariant-loop decreases-loop
-returns c =
+returns-then-tray-at-lt2 : tie.Need-returns-then-tray-at-lt2 invariant-loop-left decreases-loop-left
+returns-then-tray-at-lt2 c =
     let s = start c.before in
-    let l = c.before.before.loop in
-    ends_early s.args.tray.now s.args.logs l.at l.left l.invariant c.before.loop-test.true
-    (log_short s.args.tray.now l.at l.invariant.inside c.if1.true)
+    let l = c.loop-left in
+    ends_early s.args.tray.now s.args.logs l.at l.left l.invariant c.loop-left-test.true
+    (log_short s.args.tray.now l.at l.invariant.inside c.if-tray-at-lt2.true)
 
-add_start : tie.Need-overflow-add-start invariant-loop decreases-loop
-add_start c = omega (arith, c.if1.false, c.before.before.loop.invariant.inside, (start (in-loop c)).good)
+overflow_add-start : tie.Need-overflow_add-start invariant-loop-left decreases-loop-left
+overflow_add-start c = omega (arith, c.if-tray-at-lt2.false, c.loop-left.invariant.inside, (start (in_loop c)).well_formed)
 
-log-length-requires : tie.Need-log-length-requires invariant-loop decreases-loop
-log-length-requires c κs = omega (arith, c.if1.false, c.before.before.loop.invariant.inside)
+log_length-bytes-requires : tie.Need-log_length-bytes-requires invariant-loop-left decreases-loop-left
+log_length-bytes-requires c κs = omega (arith, c.if-tray-at-lt2.false, c.loop-left.invariant.inside)
 
-sub-if2 : tie.Need-overflow-sub-if2 invariant-loop decreases-loop
-sub-if2 c = omega (arith, c.before.if1.false, c.before.before.before.loop.invariant.inside)
+overflow_sub-tray-in-loop-left : tie.Need-overflow_sub-tray-in-loop-left invariant-loop-left decreases-loop-left
+overflow_sub-tray-in-loop-left c = omega (arith, c.if-tray-at-lt2.false, c.loop-left.invariant.inside)
 
-returns-2 : tie.Need-returns-2 invariant-loop decreases-loop
-returns-2 c =
-    let k = in-loop c.before.before in
+returns-then-tray-start : tie.Need-returns-then-tray-start invariant-loop-left decreases-loop-left
+returns-then-tray-start c =
+    let k = in_loop c.before.before in
     let s = start k in
-    let l = k.before.loop in
-    ends_early s.args.tray.now s.args.logs l.at l.left l.inv c.before.before.before.loop-test.true
-    (log_cut s.args.tray.now l.at (omega (arith, c.before.before.if1.false, l.inv.inside))
-    (omega (arith, c.if2.true, c.before.log-length.ensures)))
+    let l = k.loop-left in
+    ends_early s.args.tray.now s.args.logs l.at l.left l.invariant c.loop-left-test.true
+    (log_cut s.args.tray.now l.at (omega (arith, c.if-tray-at-lt2.false, l.invariant.inside))
+    (omega (arith, c.if-tray-start.true, c.log_length-bytes.ensures)))
 
-add_at : tie.Need-overflow-add-at invariant-loop decreases-loop
-add_at c =
-    let k = in-loop c.before.before in
-    omega (arith, c.if2.false, c.before.before.if1.false, k.before.loop.inv.inside, (start k).good)
+overflow_add-at : tie.Need-overflow_add-at invariant-loop-left decreases-loop-left
+overflow_add-at c =
+    let k = in_loop c.before.before in
+    omega (arith, c.if-tray-start.false, c.if-tray-at-lt2.false, k.loop-left.invariant.inside, k.well_formed)
 
-sub-left : tie.Need-overflow-sub-left invariant-loop decreases-loop
-sub-left c = omega (arith, c.before.before.before.loop-test.true)
+overflow_sub-left : tie.Need-overflow_sub-left invariant-loop-left decreases-loop-left
+overflow_sub-left c = omega (arith, c.loop-left-test.true)
 
-loop-less : tie.Need-loop-smaller invariant-loop decreases-loop
-loop-less c = omega (arith, c.before.before.before.loop-test.true)
+loop-left-smaller : tie.Need-loop-left-smaller invariant-loop-left decreases-loop-left
+loop-left-smaller c = omega (arith, c.loop-left-test.true)
 
-loop-again : tie.Need-loop-preserved invariant-loop decreases-loop
-loop-again c =
-    let j = in-loop c.before.before in
+loop-left-preserved : tie.Need-loop-left-preserved invariant-loop-left decreases-loop-left
+loop-left-preserved c =
+    let j = in_loop c.before.before in
     let s = start j in
-    let l = j.before.loop in
-    let e = c.before.log-length.ensures in
+    let l = j.loop-left in
+    let e = c.log_length-bytes.ensures in
     subst (λ k. Passed s.args.tray.now s.args.logs (l.at + 2 + k) (l.left - 1)) (sym e)
-    (one_passed s.args.tray.now s.args.logs l.at l.left l.inv c.before.before.before.loop-test.true
-    (omega (arith, c.if2.false, e, c.before.before.if1.false, l.inv.inside)))
+    (one_passed s.args.tray.now s.args.logs l.at l.left l.invariant c.loop-left-test.true
+    (omega (arith, c.if-tray-start.false, e, c.if-tray-at-lt2.false, l.invariant.inside)))
 
-returns-3 : tie.Need-returns-3 invariant-loop decreases-loop
-returns-3 c =
+returns : tie.Need-returns invariant-loop-left decreases-loop-left
+returns c =
     let s = c.before.before.before in
-    let l = c.before.loop in
-    decided s.args.tray.now s.args.logs l.at l.left l.invariant (omega (arith, c.loop-test.false))
+    let l = c.loop-left in
+    decided s.args.tray.now s.args.logs l.at l.left l.invariant (omega (arith, c.loop-left-test.false))
 
-pub holds-logs-spec : {M : Type 1} → statement M
-holds-logs-spec =
-    tie.close (tie.spec invariant-loop decreases-loop loop-holds sub-if1 returns add_start log-length-requires sub-if2 returns-2 add_at sub-left loop-less loop-again
-    returns-3)
+pub holds_logs_spec : {M : Type 1} → statement M
+holds_logs_spec =
+    tie.close (tie.spec invariant-loop-left decreases-loop-left loop-left-init overflow_sub-tray returns-then-tray-at-lt2 overflow_add-start
+    log_length-bytes-requires overflow_sub-tray-in-loop-left returns-then-tray-start overflow_add-at overflow_sub-left loop-left-smaller loop-left-preserved
+    returns)

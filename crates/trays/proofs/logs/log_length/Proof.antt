@@ -6,24 +6,25 @@ use borrow.Author.Rules.{rules}
 use Rattle.trays.proofs.logs.log_length.Statement.{statement}
 use Rattle.trays.proofs.logs.log_length.Tie as tie
 
-cast-result : tie.Need-overflow-cast-result
-cast-result c = omega (arith, (c.shared-slice-known.given c.before.args.at).fits)
+overflow_cast-result : tie.Need-overflow_cast-result
+overflow_cast-result c = omega (arith, (c.shared_slice_known-1.given c.args.at).fits)
 
-mul-result : tie.Need-overflow-mul-result
-mul-result c = omega (arith, (c.shared-slice-known.given c.before.args.at).fits)
+overflow_mul-result : tie.Need-overflow_mul-result
+overflow_mul-result c = omega (arith, (c.shared_slice_known-1.given c.args.at).fits)
 
-cast-result-2 : tie.Need-overflow-cast-result-2
-cast-result-2 c = omega (arith, (c.shared-slice-known2.given (c.before.before.args.at + 1)).fits)
+overflow_cast-result-2 : tie.Need-overflow_cast-result-2
+overflow_cast-result-2 c = omega (arith, (c.shared_slice_known-2-1.given (c.args.at + 1)).fits)
 
-add-result-2 : tie.Need-overflow-add-result-2
-add-result-2 c = omega (
+overflow_add-result-2 : tie.Need-overflow_add-result-2
+overflow_add-result-2 c = omega (
   arith,
-  (c.shared-slice-known2.given c.before.before.args.at).fits,
-  (c.shared-slice-known2.given (c.before.before.args.at + 1)).fits,
+  (c.shared_slice_known-2-1.given c.args.at).fits,
+  (c.shared_slice_known-2-1.given (c.args.at + 1)).fits,
 )
 
 returns : tie.Need-returns
 returns c = refl
 
-pub log-length-spec : {M : Type 1} → statement M
-log-length-spec = tie.close (tie.spec (λ c. search rules) cast-result mul-result (λ c. search rules) (λ c. search rules) cast-result-2 add-result-2 returns)
+pub log_length_spec : {M : Type 1} → statement M
+log_length_spec = tie.close (tie.spec (λ c. search rules) overflow_cast-result overflow_mul-result (λ c. search rules) (λ c. search rules)
+    overflow_cast-result-2 overflow_add-result-2 returns)

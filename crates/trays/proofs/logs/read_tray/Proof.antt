@@ -7,31 +7,32 @@ use borrow.Author.Rules.{rules}
 use Rattle.trays.proofs.logs.read_tray.Statement.{statement}
 use Rattle.trays.proofs.logs.read_tray.Tie as tie
 
-abbrev start : tie.After-shared-slice-known2 → tie.Start
+abbrev start : tie.After-shared_slice_known-2-1 → tie.Start
 start c = c.before.before.before
 
-abbrev after-shared-slice-known2 : tie.Else2 → tie.After-shared-slice-known2
-after-shared-slice-known2 c = c.before
+abbrev after_shared_slice_known2 : tie.Else-logs-gt-MOST_LOGS → tie.After-shared_slice_known-2-1
+after_shared_slice_known2 c = c.before
+
+returns-then-tray-eq0 : tie.Need-returns-then-tray-eq0
+returns-then-tray-eq0 c = no_bytes c.args.tray.now c.if-tray-eq0.true
+
+returns-then-logs-gt-MOST_LOGS : tie.Need-returns-then-logs-gt-MOST_LOGS
+returns-then-logs-gt-MOST_LOGS c = many_logs c.args.tray.now (omega (arith, c.if-tray-eq0.false)) c.if-logs-gt-MOST_LOGS.true
+
+returns-then-holds_logs : tie.Need-returns-then-holds_logs
+returns-then-holds_logs c =
+    let k = after_shared_slice_known2 c.before.before in
+    let s = start k in
+    whole_tray s.args.tray.now (omega (arith, k.if-tray-eq0.false)) (omega (arith, c.if-logs-gt-MOST_LOGS.false))
+    (subst (LogsDecided s.args.tray.now _) c.if-holds_logs.true c.holds_logs.ensures)
 
 returns : tie.Need-returns
-returns c = no_bytes c.before.before.args.tray.now c.if1.true
-
-returns-2 : tie.Need-returns-2
-returns-2 c = many_logs (start c.before).args.tray.now (omega (arith, c.before.before.if1.false)) c.if2.true
-
-returns-3 : tie.Need-returns-3
-returns-3 c =
-    let k = after-shared-slice-known2 c.before.before in
+returns c =
+    let k = after_shared_slice_known2 c.before.before in
     let s = start k in
-    whole_tray s.args.tray.now (omega (arith, k.before.if1.left)) (omega (arith, c.before.before.if2.false))
-    (subst (LogsDecided s.args.tray.now _) c.if3.true c.before.holds-logs.ensures)
+    broken_tray s.args.tray.now (omega (arith, k.if-tray-eq0.false)) (omega (arith, c.if-logs-gt-MOST_LOGS.false))
+    (subst (LogsDecided s.args.tray.now _) c.if-holds_logs.false c.holds_logs.ensures)
 
-returns-4 : tie.Need-returns-4
-returns-4 c =
-    let k = after-shared-slice-known2 c.before.before in
-    let s = start k in
-    broken_tray s.args.tray.now (omega (arith, k.before.if1.left)) (omega (arith, c.before.before.if2.false))
-    (subst (LogsDecided s.args.tray.now _) c.if3.false c.before.holds-logs.ensures)
-
-pub read-tray-spec : {M : Type 1} → statement M
-read-tray-spec = tie.close (tie.spec returns (λ c. search rules) returns-2 (λ c κs. search rules) returns-3 returns-4)
+pub read_tray_spec : {M : Type 1} → statement M
+read_tray_spec = tie.close (tie.spec returns-then-tray-eq0 (λ c. search rules) returns-then-logs-gt-MOST_LOGS (λ c κs. search rules) returns-then-holds_logs
+    returns)

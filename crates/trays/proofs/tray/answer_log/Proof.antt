@@ -13,31 +13,31 @@ use borrow.Author.Rules.{rules}
 use Rattle.trays.proofs.tray.answer_log.Statement.{statement}
 use Rattle.trays.proofs.tray.answer_log.Tie as tie
 
-abbrev start-from-after-compare-log : tie.After-compare-log → tie.Start
-start-from-after-compare-log c = c.before.before.before.before.before.before.before.before.before
+abbrev start_from_after_compare_log : tie.After-compare_log-outcome → tie.Start
+start_from_after_compare_log c = c.before.before.before.before.before.before.before.before.before
 
-abbrev after-compare-log : tie.After-write-answer → tie.After-compare-log
-after-compare-log c = c.before.before.before.before
+abbrev after_compare_log : tie.After-write_answer → tie.After-compare_log-outcome
+after_compare_log c = c.before.before.before.before
 
-same_length : tie.Need-same-length
-same_length c = (after-compare-log c.before.before).compare-log.auto.1.1.1.1.1.1.1.0
+shape_of-workspace : tie.Need-shape_of-workspace
+shape_of-workspace c = c.compare_log-outcome.auto.workspace
 
-same-length-2 : tie.Need-same-length-2
-same-length-2 c = c.before.before.write-answer.auto.0
+shape_of-answer : tie.Need-shape_of-answer
+shape_of-answer c = c.write_answer.auto.answer
 
 returns : tie.Need-returns
 returns c =
-    let j = after-compare-log c.before.before in
-    let s = start-from-after-compare-log j in
-    let l = j.before.before.before.log-length in
-    let x = j.compare-log in
-    let w = c.before.before.write-answer in
+    let j = after_compare_log c.before.before in
+    let s = start_from_after_compare_log j in
+    let l = j.log_length in
+    let x = j.compare_log-outcome in
+    let w = c.write_answer in
     let start = s.args.at + 2 in
     let bytes : start + l.result - start ≡ length_at s.args.tray.now s.args.at = omega (arith, l.ensures) in
     record {
       workspace = x.ensures.workspace;
       ends = ap (λ k. start + k) l.ensures;
-      same_length = ap length w.ensures ∙ written_long s.args.answer.now s.args.place (compared x.result) s.pre.1.1.1;
+      same_length = ap length w.ensures ∙ written_long s.args.answer.now s.args.place (compared x.result) s.requires.1.1.1;
       answer = λ T o v e.
           w.ensures
           ∙ ap (λ q. written s.args.answer.now s.args.place (log_bytes q))
@@ -45,7 +45,7 @@ returns c =
           ∙ ap (λ k. log_verdict s.args.size T v s.args.budget (length s.args.workspace.now) (take k (drop start s.args.tray.now))) bytes);
     }
 
-pub answer-log-spec : {M : Type 1} → statement M
-answer-log-spec =
+pub answer_log_spec : {M : Type 1} → statement M
+answer_log_spec =
     tie.close (tie.spec (λ c. search rules) (λ c κs. search rules) (λ c. search rules) (λ c. search rules) (λ c. search rules) (λ c. search rules)
-    (λ c κs. search rules) (λ c κs. search rules) same_length same-length-2 returns)
+    (λ c κs. search rules) (λ c κs. search rules) shape_of-workspace shape_of-answer returns)

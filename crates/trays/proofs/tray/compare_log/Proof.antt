@@ -11,58 +11,58 @@ use borrow.Author.Rules.{rules}
 use Rattle.trays.proofs.tray.compare_log.Statement.{statement}
 use Rattle.trays.proofs.tray.compare_log.Tie as tie
 
-abbrev start : tie.After-shared-slice-known → tie.Start
+abbrev start : tie.After-shared_slice_known-1 → tie.Start
 start c = c.before
 
-abbrev after-shared-slice-known : tie.After-read-as → tie.After-shared-slice-known
-after-shared-slice-known c = c.before.before.before.before
+abbrev after_shared_slice_known : tie.After-read_as-read → tie.After-shared_slice_known-1
+after_shared_slice_known c = c.before.before.before.before
 
-abbrev after-read-as : tie.After-compare-cleared-arg → tie.After-read-as
-after-read-as c = c.before.before.before.before
+abbrev after_read_as : tie.After-compare_cleared-arg-1 → tie.After-read_as-read
+after_read_as c = c.before.before
 
-abbrev after-compare-cleared-arg : tie.After-compare-cleared → tie.After-compare-cleared-arg
-after-compare-cleared-arg c = c.before
+abbrev after_compare_cleared_arg : tie.After-compare_cleared → tie.After-compare_cleared-arg-1
+after_compare_cleared_arg c = c.before
 
-read-as-requires : tie.Need-read-as-requires
-read-as-requires c κs =
-    let p = (start c.before.before.before).requires.0 in
+read_as-read-requires : tie.Need-read_as-read-requires
+read_as-read-requires c κs =
+    let p = c.requires.0 in
     (p.table, p.of)
 
-compare-cleared-requires : tie.Need-compare-cleared-requires
-compare-cleared-requires c κs =
-    let k = after-read-as c in
-    let s = start (after-shared-slice-known k) in
-    let p = s.pre.0 in
-    let f = subst (ReadDone s.args.log.now s.args.cells.now s.args.size ForwardAlone) c.before.before.read2.given.1
-    k.read_as.ensures in (
+compare_cleared-requires : tie.Need-compare_cleared-requires
+compare_cleared-requires c κs =
+    let k = after_read_as c in
+    let s = start (after_shared_slice_known k) in
+    let p = s.requires.0 in
+    let f = subst (ReadDone s.args.log.now s.args.cells.now s.args.size ForwardAlone) c.in-Program.is
+    k.read_as-read.ensures in (
       record {
         table = p.table;
         of = p.of;
         pair = record { some = of_some p.of; few = of_few p.of; one = f.forward; two = p.forward };
       },
-      (s.pre.1, record { one = measured_weighs s.args.cells.now s.args.size s.args.log.now _ _ f; two = p.weighs }),
+      (s.requires.1, record { one = measured_weighs s.args.cells.now s.args.size s.args.log.now _ _ f; two = p.weighs }),
     )
 
-returns : tie.Need-returns
-returns c =
-    let s = start (after-shared-slice-known c.before.before.before) in
-    let e = subst (ReadDone s.args.log.now s.args.cells.now s.args.size ForwardAlone) c.before.read.given.1
-    c.before.before.before.read_as.ensures in
+returns-in-Refused : tie.Need-returns-in-Refused
+returns-in-Refused c =
+    let s = start (after_shared_slice_known c.before) in
+    let e = subst (ReadDone s.args.log.now s.args.cells.now s.args.size ForwardAlone) c.in-Refused.is
+    c.read_as-read.ensures in
     record {
       workspace = refl;
-      verdict = λ T o v ev. sym (still_refused (read_forward s.args.size s.args.log.now) c.before.read.given.0.0 e _);
+      verdict = λ T o v ev. sym (still_refused (read_forward s.args.size s.args.log.now) c.in-Refused.refusal e _);
     }
 
-same_length : tie.Need-same-length
-same_length c = c.before.before.compare-cleared.auto.1.1.1.1.1.1.1.1.1.0
+shape_of-workspace : tie.Need-shape_of-workspace
+shape_of-workspace c = c.compare_cleared.auto.workspace
 
-returns-2 : tie.Need-returns-2
-returns-2 c =
-    let k = after-compare-cleared-arg c.before.before in
-    let s = start (after-shared-slice-known (after-read-as k)) in
-    let f = subst (ReadDone s.args.log.now s.args.cells.now s.args.size ForwardAlone) k.before.before.read2.given.1
-    (after-read-as k).read_as.ensures in
-    let x = c.before.before.compare-cleared in
+returns-in-Program : tie.Need-returns-in-Program
+returns-in-Program c =
+    let k = after_compare_cleared_arg c.before.before in
+    let s = start (after_shared_slice_known (after_read_as k)) in
+    let f = subst (ReadDone s.args.log.now s.args.cells.now s.args.size ForwardAlone) k.in-Program.is
+    k.read_as-read.ensures in
+    let x = c.compare_cleared in
     record {
       workspace = x.ensures.workspace;
       verdict = λ T o v ev.
@@ -71,5 +71,6 @@ returns-2 c =
           (λ u. forward_verdict T u v s.args.budget (length s.args.workspace.now)));
     }
 
-pub compare-log-spec : {M : Type 1} → statement M
-compare-log-spec = tie.close (tie.spec read-as-requires (λ c. search rules) (λ c. search rules) compare-cleared-requires returns same_length returns-2)
+pub compare_log_spec : {M : Type 1} → statement M
+compare_log_spec = tie.close (tie.spec read_as-read-requires (λ c. search rules) (λ c. search rules) compare_cleared-requires returns-in-Refused
+    shape_of-workspace returns-in-Program)

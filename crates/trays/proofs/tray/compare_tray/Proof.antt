@@ -16,98 +16,99 @@ use borrow.Author.Rules.{rules}
 use Rattle.trays.proofs.tray.compare_tray.Statement.{statement}
 use Rattle.trays.proofs.tray.compare_tray.Tie as tie
 
-abbrev start : tie.After-slice-known3 → tie.Start
+abbrev start : tie.After-slice_known-3-1 → tie.Start
 start c = c.before.before.before.before.before.before.before.before.before
 
-abbrev after-slice-known3 : tie.At-match-keys1 → tie.After-slice-known3
-after-slice-known3 c = c.before
+abbrev after_slice_known3 : tie.In-Refused → tie.After-slice_known-3-1
+after_slice_known3 c = c.before
 
-abbrev after-slice-known3-from-after-enum-told : tie.After-enum-told → tie.After-slice-known3
-after-slice-known3-from-after-enum-told c = c.before.before
+abbrev after_slice_known3_from_after_enum_told : tie.In-Passed → tie.After-slice_known-3-1
+after_slice_known3_from_after_enum_told c = c.before
 
-abbrev after-enum-told : tie.After-answer-logs → tie.After-enum-told
-after-enum-told c = c.before.before.before.before
+abbrev after_enum_told : tie.After-answer_logs → tie.In-Passed
+after_enum_told c = c.before.before.before.before
 
-abbrev after-answer-logs : tie.After-workspace2 → tie.After-answer-logs
-after-answer-logs c = c.before
+abbrev after_answer_logs : tie.After-workspace-in-Passed-1 → tie.After-answer_logs
+after_answer_logs c = c.before
 
 -- as many images as logs
 many : (tray : List ℕ) (logs : ℕ) (l : LogsOf tray logs) → length l.images ≡ logs
 many tray logs l = several_length read_log logs (drop 1 tray) (record { value = l.images; rest = [] }) l.filled
 
-same_length : tie.Need-same-length
-same_length c = (after-slice-known3-from-after-enum-told c.before).before.before.clear-cells.auto.1.1.1.0
+shape_of-workspace-then-answer-logs : tie.Need-shape_of-workspace-then-answer-logs
+shape_of-workspace-then-answer-logs c = c.clear_cells-clear.auto.workspace
 
-returns : tie.Need-returns
-returns c =
-    let k = after-slice-known3-from-after-enum-told c.before in
+returns-then-answer-logs : tie.Need-returns-then-answer-logs
+returns-then-answer-logs c =
+    let k = after_slice_known3_from_after_enum_told c.before in
     let s = start k in
-    let z = k.before.before.clear-cells in
-    let told = c.before.enum_told.given.1 in
+    let z = k.clear_cells-clear in
+    let told = c.in-Passed.is in
     λ l T o v e.
     area_short s.args.size T v l.images s.args.budget s.args.workspace.now s.args.answer.now
     (subst (λ r. cleared_as r ≡ cleared T s.args.budget (length s.args.workspace.now)) told (z.ensures.0 T o))
     _ (z.ensures.1 ∙ ap (λ r. workspace_after (cleared_as r) s.args.workspace.now) told)
-    (omega (arith, c.if1.true, many s.args.tray.now s.args.logs l))
+    (omega (arith, c.if-answer-logs.true, many s.args.tray.now s.args.logs l))
 
-answer-logs-requires : tie.Need-answer-logs-requires
-answer-logs-requires c κs =
-    let j = after-slice-known3-from-after-enum-told c.before.before.before in
+answer_logs-requires : tie.Need-answer_logs-requires
+answer_logs-requires c κs =
+    let j = after_slice_known3_from_after_enum_told c.before.before.before in
     let s = start j in
-    let wiped = j.before.before.clear-cells.ensures.1 ∙ ap (λ r. workspace_after (cleared_as r) s.args.workspace.now)
-    c.before.before.before.enum_told.given.1 in (
-      s.pre.0,
+    let wiped = j.clear_cells-clear.ensures.1 ∙ ap (λ r. workspace_after (cleared_as r) s.args.workspace.now)
+    c.in-Passed.is in (
+      s.requires.0,
       (
         wiped ∙ ap (λ k. replicate k 0) (sym (ap length wiped ∙ length-replicate (length s.args.workspace.now) 0)),
         (
-          s.pre.1,
-          omega (arith, c.before.before.if1.false),
+          s.requires.1,
+          omega (arith, c.if-answer-logs.false),
         ),
       ),
     )
 
-same-length-2 : tie.Need-same-length-2
-same-length-2 c = (after-slice-known3 c.before.before).before.before.clear-cells.auto.1.1.1.0
+shape_of-workspace-in-Refused : tie.Need-shape_of-workspace-in-Refused
+shape_of-workspace-in-Refused c = c.clear_cells-clear.auto.workspace
 
-returns-2 : tie.Need-returns-2
-returns-2 c =
-    let k = after-slice-known3 c.before.before in
+returns-in-Refused : tie.Need-returns-in-Refused
+returns-in-Refused c =
+    let k = after_slice_known3 c in
     let s = start k in
-    let z = k.before.before.clear-cells in
-    let told = c.before.clear.given.1 in
+    let z = k.clear_cells-clear in
+    let told = c.in-Refused.is in
     λ l T o v e.
-    no_clear s.args.size T v l.images s.args.budget s.args.workspace.now s.args.answer.now c.before.clear.given.0.0
+    no_clear s.args.size T v l.images s.args.budget s.args.workspace.now s.args.answer.now c.in-Refused.refusal
     (subst (λ r. cleared_as r ≡ cleared T s.args.budget (length s.args.workspace.now)) told (z.ensures.0 T o))
     _ (z.ensures.1 ∙ ap (λ r. workspace_after (cleared_as r) s.args.workspace.now) told)
 
-same-length-3 : tie.Need-same-length-3
-same-length-3 c =
-    let k = after-answer-logs c.before.before.before in
-    k.answer-logs.kept.1.1.1.1.1.1.1.1.0 ∙
-    (after-slice-known3-from-after-enum-told (after-enum-told k)).before.before.clear-cells.auto.1.1.1.0
+shape_of-workspace-else-answer-logs : tie.Need-shape_of-workspace-else-answer-logs
+shape_of-workspace-else-answer-logs c =
+    let k = after_answer_logs c.before.before.before in
+    k.answer_logs.auto.workspace ∙
+    (after_slice_known3_from_after_enum_told (after_enum_told k)).clear_cells-clear.auto.workspace
 
-same-length-4 : tie.Need-same-length-4
-same-length-4 c = (after-answer-logs c.before.before.before).answer-logs.auto.1.1.1.1.1.1.1.1.1.0
+shape_of-answer : tie.Need-shape_of-answer
+shape_of-answer c = c.answer_logs.auto.answer
 
-returns-3 : tie.Need-returns-3
-returns-3 c =
-    let j = after-answer-logs c.before.before.before in
-    let s = start (after-slice-known3-from-after-enum-told (after-enum-told j)) in
-    let z = (after-slice-known3-from-after-enum-told (after-enum-told j)).before.before.clear-cells in
-    let x = j.answer-logs in
-    let told = (after-enum-told j).enum_told.given.1 in
+returns-else-answer-logs : tie.Need-returns-else-answer-logs
+returns-else-answer-logs c =
+    let j = after_answer_logs c.before.before.before in
+    let s = start (after_slice_known3_from_after_enum_told (after_enum_told j)) in
+    let z = (after_slice_known3_from_after_enum_told (after_enum_told j)).clear_cells-clear in
+    let x = j.answer_logs in
+    let told = j.in-Passed.is in
     let wiped = z.ensures.1 ∙ ap (λ r. workspace_after (cleared_as r) s.args.workspace.now) told in
     let long = ap length wiped ∙ length-replicate (length s.args.workspace.now) 0 in
     λ l T o v e.
     logs_answered s.args.size T v l.images s.args.budget s.args.workspace.now s.args.answer.now
     (subst (λ r. cleared_as r ≡ cleared T s.args.budget (length s.args.workspace.now)) told (z.ensures.0 T o))
     _ (x.ensures.workspace ∙ wiped)
-    (omega (arith, j.before.before.before.if1.left, many s.args.tray.now s.args.logs l)) s.args.logs
+    (omega (arith, j.if-answer-logs.false, many s.args.tray.now s.args.logs l)) s.args.logs
     (many s.args.tray.now s.args.logs l)
     _ (x.ensures.answer l T o v e
     ∙ ap (λ k. written s.args.answer.now 0 (tray_bytes (map (log_verdict s.args.size T v s.args.budget k) l.images))) long)
 
-pub compare-tray-spec : {M : Type 1} → statement M
-compare-tray-spec =
-    tie.close (tie.spec (λ c κs. search rules) (λ c. search rules) (λ c. search rules) (λ c. search rules) same_length returns answer-logs-requires
-    same-length-2 returns-2 same-length-3 same-length-4 returns-3)
+pub compare_tray_spec : {M : Type 1} → statement M
+compare_tray_spec =
+    tie.close (tie.spec (λ c κs. search rules) (λ c. search rules) (λ c. search rules) (λ c. search rules) shape_of-workspace-then-answer-logs
+    returns-then-answer-logs answer_logs-requires
+    shape_of-workspace-in-Refused returns-in-Refused shape_of-workspace-else-answer-logs shape_of-answer returns-else-answer-logs)

@@ -9,55 +9,56 @@ use borrow.Author.Rules.{rules}
 use Rattle.trays.proofs.tray.tray.Statement.{statement}
 use Rattle.trays.proofs.tray.tray.Tie as tie
 
-abbrev start : tie.After-read-tray → tie.Start
+abbrev start : tie.After-read_tray-read → tie.Start
 start c = c.before.before.before.before.before.before
 
-abbrev after-read-tray : tie.After-read → tie.After-read-tray
-after-read-tray c = c.before.before
+abbrev after_read_tray : tie.In-Logs → tie.After-read_tray-read
+after_read_tray c = c.before
 
-abbrev after_read : tie.After-workspace → tie.After-read
-after_read c = c.before.before.before.before.before
+abbrev after_read : tie.After-workspace-1 → tie.In-Logs
+after_read c = c.before.before.before.before
 
-abbrev after-workspace : tie.After-answer → tie.After-workspace
-after-workspace c = c.before.before
+abbrev after_workspace : tie.After-answer-1 → tie.After-workspace-1
+after_workspace c = c.before.before
 
-tray-under-requires : tie.Need-tray-under-requires
-tray-under-requires c κs =
-    let k = after-read-tray c.before.before.before in
-    subst (TrayDone (start k).args.tray.now) c.before.before.before.read.given.1 k.read-tray.ensures
+tray_under-requires : tie.Need-tray_under-requires
+tray_under-requires c κs =
+    let k = after_read_tray c.before.before in
+    subst (TrayDone k.args.tray.now) c.in-Logs.is k.read_tray-read.ensures
 
-returns : tie.Need-returns
-returns c =
-    let s = start c.before.before in
+returns-in-TooMany : tie.Need-returns-in-TooMany
+returns-in-TooMany c =
+    let s = start c.before in
     promised s.args.table.now s.args.tray.now s.args.pattern.now s.args.allowance s.args.workspace.now _ s.args.answer.now _
     (Refused TooManyLogs)
     (logs_too_many s.args.table.now s.args.tray.now s.args.pattern.now s.args.allowance s.args.workspace.now s.args.answer.now
     (no_tray s.args.table.now s.args.tray.now s.args.pattern.now s.args.allowance (length s.args.workspace.now)
-    (length s.args.answer.now) TooManyLogs (subst (TrayDone s.args.tray.now) c.enum_told.given.1 c.before.before.read-tray.ensures)))
+    (length s.args.answer.now) TooManyLogs (subst (TrayDone s.args.tray.now) c.in-TooMany.is c.read_tray-read.ensures)))
 
-returns-2 : tie.Need-returns-2
-returns-2 c =
-    let s = start c.before.before in
+returns-in-Broken : tie.Need-returns-in-Broken
+returns-in-Broken c =
+    let s = start c.before in
     promised s.args.table.now s.args.tray.now s.args.pattern.now s.args.allowance s.args.workspace.now _ s.args.answer.now _
     (Refused NotTray)
     (tray_broken s.args.table.now s.args.tray.now s.args.pattern.now s.args.allowance s.args.workspace.now s.args.answer.now
     (no_tray s.args.table.now s.args.tray.now s.args.pattern.now s.args.allowance (length s.args.workspace.now)
-    (length s.args.answer.now) NotTray (subst (TrayDone s.args.tray.now) c.enum-told2.given.1 c.before.before.read-tray.ensures)))
+    (length s.args.answer.now) NotTray (subst (TrayDone s.args.tray.now) c.in-Broken.is c.read_tray-read.ensures)))
 
-same_length : tie.Need-same-length
-same_length c = (after-workspace c.before).before.tray-under.auto.1.1.1.1.1.0
+shape_of-workspace : tie.Need-shape_of-workspace
+shape_of-workspace c = c.tray_under.auto.workspace
 
-same-length-2 : tie.Need-same-length-2
-same-length-2 c = (after-workspace c.before).before.tray-under.auto.1.1.1.1.1.1.0
+shape_of-answer : tie.Need-shape_of-answer
+shape_of-answer c = c.tray_under.auto.answer
 
-returns-3 : tie.Need-returns-3
-returns-3 c =
-    let k = after-workspace c.before in
-    let s = start (after-read-tray (after_read k)) in
+returns-in-Logs : tie.Need-returns-in-Logs
+returns-in-Logs c =
+    let k = after_workspace c.before in
+    let s = start (after_read_tray (after_read k)) in
     promised s.args.table.now s.args.tray.now s.args.pattern.now s.args.allowance s.args.workspace.now _ s.args.answer.now _
-    k.before.tray-under.result k.before.tray-under.ensures
+    k.tray_under.result k.tray_under.ensures
 
-pub tray-spec : {M : Type 1} → statement M
-tray-spec =
-    tie.close (tie.spec (λ c κs. search rules) (λ c. search rules) (λ c. search rules) (λ c. search rules) tray-under-requires returns returns-2 same_length
-    same-length-2 returns-3)
+pub tray_spec : {M : Type 1} → statement M
+tray_spec =
+    tie.close (tie.spec (λ c κs. search rules) (λ c. search rules) (λ c. search rules) (λ c. search rules) tray_under-requires returns-in-TooMany
+    returns-in-Broken shape_of-workspace
+    shape_of-answer returns-in-Logs)

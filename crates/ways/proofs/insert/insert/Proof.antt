@@ -10,42 +10,42 @@ use Rattle.ways.proofs.Inserting.{at_word, insert_readable, insert_apart, insert
 use Rattle.ways.proofs.insert.insert.Statement.{statement}
 use Rattle.ways.proofs.insert.insert.Tie as tie
 
-abbrev start : tie.After-moved-on → tie.Start
+abbrev start : tie.After-moved_on → tie.Start
 start c = c.before.before.before.before.before.before.before.before.before
 
-abbrev after-moved-on : tie.After-write-word-arg → tie.After-moved-on
-after-moved-on c = c.before
+abbrev after_moved_on : tie.After-write_word-arg-1 → tie.After-moved_on
+after_moved_on c = c.before
 
-write-word-requires : tie.Need-write-word-requires
-write-word-requires c κs =
-    let k = after-moved-on c in
+write_word-requires : tie.Need-write_word-requires
+write_word-requires c κs =
+    let k = after_moved_on c in
     let s = start k in
-    let area = k.before.before.before.shift.last.0 in
-    let sh = k.before.before.before.shift.ensures in
-    let e = sym c.before.moved_on.ensures in (
+    let area = k.shift.new.area in
+    let sh = k.shift.ensures in
+    let e = sym c.moved_on.ensures in (
       subst (λ w. Readable area s.args.cells.now (at_word s.args.swap w)) e
-          (insert_readable s.args.area.now s.args.cells.now s.args.swap s.args.at s.args.used s.pre.0 s.pre.1
-          s.pre.2 area sh),
+          (insert_readable s.args.area.now s.args.cells.now s.args.swap s.args.at s.args.used s.requires.0 s.requires.1
+          s.requires.2 area sh),
       subst (λ w. Apart (at_word s.args.swap w) s.args.at) e
-          (insert_apart s.args.area.now s.args.cells.now s.args.swap s.args.at s.args.used s.pre.0 s.pre.1 s.pre.2 area sh),
-      omega (arith, s.pre.2, s.pre.1.place, sh.same_length),
+          (insert_apart s.args.area.now s.args.cells.now s.args.swap s.args.at s.args.used s.requires.0 s.requires.1 s.requires.2 area sh),
+      omega (arith, s.requires.2, s.requires.1.place, sh.same_length),
     )
 
-same_length : tie.Need-same-length
-same_length c = c.before.before.write_word.auto.0 ∙ (after-moved-on c.before.before.before).before.before.before.shift.auto.0
+shape_of-area : tie.Need-shape_of-area
+shape_of-area c = c.write_word.auto.area ∙ c.shift.auto.area
 
 returns : tie.Need-returns
 returns c =
-    let k = after-moved-on c.before.before.before in
+    let k = after_moved_on c.before.before.before in
     let s = start k in
-    let area = k.before.before.before.shift.last.0 in
-    let sh = k.before.before.before.shift.ensures in
-    insert_opened s.args.area.now s.args.cells.now s.args.swap s.args.at s.args.used s.pre.0 s.pre.1 s.pre.2 area sh
-    c.before.before.write_word.new.0
+    let area = k.shift.new.area in
+    let sh = k.shift.ensures in
+    insert_opened s.args.area.now s.args.cells.now s.args.swap s.args.at s.args.used s.requires.0 s.requires.1 s.requires.2 area sh
+    c.write_word.new.area
     (subst (λ w. Put area s.args.at (new_word area s.args.cells.now (at_word s.args.swap w) ++ (untried ∷ []))
-    c.before.before.write_word.new.0) k.moved_on.ensures c.before.before.write_word.ensures)
+    c.write_word.new.area) k.moved_on.ensures c.write_word.ensures)
 
-pub insert-spec : {M : Type 1} → statement M
-insert-spec =
-    tie.close (tie.spec (λ c. search rules) (λ c. search rules) (λ c. search rules) (λ c κs. search rules) (λ c κs. search rules) write-word-requires
-    same_length returns)
+pub insert_spec : {M : Type 1} → statement M
+insert_spec =
+    tie.close (tie.spec (λ c. search rules) (λ c. search rules) (λ c. search rules) (λ c κs. search rules) (λ c κs. search rules) write_word-requires
+    shape_of-area returns)

@@ -5,15 +5,15 @@ use Rattle.ways.proofs.Inserting.{moved_before, moved_after}
 use Rattle.ways.proofs.insert.moved_on.Statement.{statement}
 use Rattle.ways.proofs.insert.moved_on.Tie as tie
 
+returns-then-byte-at : tie.Need-returns-then-byte-at
+returns-then-byte-at c =
+    let s = c.before in
+    sym (moved_before s.args.byte s.args.at s.args.by c.if-byte-at.true)
+
 returns : tie.Need-returns
 returns c =
     let s = c.before in
-    sym (moved_before s.args.byte s.args.at s.args.by c.if1.true)
+    sym (moved_after s.args.byte s.args.at s.args.by c.if-byte-at.false)
 
-returns-2 : tie.Need-returns-2
-returns-2 c =
-    let s = c.before in
-    sym (moved_after s.args.byte s.args.at s.args.by c.if1.false)
-
-pub moved-on-spec : {M : Type 1} → statement M
-moved-on-spec = tie.close (tie.spec returns (λ c. search rules) returns-2)
+pub moved_on_spec : {M : Type 1} → statement M
+moved_on_spec = tie.close (tie.spec returns-then-byte-at (λ c. search rules) returns)

@@ -10,113 +10,115 @@ use Rattle.ways.proofs.Tasks.{next_count, all_listed}
 use Rattle.ways.proofs.listing.list_words.Statement.{statement}
 use Rattle.ways.proofs.listing.list_words.Tie as tie
 
-abbrev invariant-loop : tie.invariant-loop
-invariant-loop area₀ cells size first used₀ words₀ end₀ area used words end =
+abbrev invariant-loop-end : tie.invariant-loop-end
+invariant-loop-end area₀ cells size first used₀ words₀ end₀ area used words end =
     (used ≤ length area) × (length area ≡ length area₀) × UntriedFound area used end × ((k : Task cells size) → State k area₀ first 0 → State k area used words)
 
-abbrev decreases-loop : tie.decreases-loop
-decreases-loop area₀ cells size first used₀ words₀ end₀ area used words end = length area - words
+abbrev decreases-loop-end : tie.decreases-loop-end
+decreases-loop-end area₀ cells size first used₀ words₀ end₀ area used words end = length area - words
 
-abbrev start : tie.After-first-untried invariant-loop decreases-loop → tie.Start invariant-loop decreases-loop
-start c = c.before.before.before.before
+abbrev start : tie.After-first_untried-end invariant-loop-end decreases-loop-end → tie.Start invariant-loop-end decreases-loop-end
+start c = c.before.before.before
 
-abbrev start_of : tie.In-loop invariant-loop decreases-loop → tie.Start invariant-loop decreases-loop
+abbrev start_of : tie.In-loop-end invariant-loop-end decreases-loop-end → tie.Start invariant-loop-end decreases-loop-end
 start_of c = start c.before.before
 
-abbrev after-try-next : tie.After-slice-known2 invariant-loop decreases-loop → tie.After-try-next invariant-loop decreases-loop
-after-try-next c = c.before.before
+abbrev after_try_next : tie.After-slice_known-in-loop-end-1 invariant-loop-end decreases-loop-end
+    → tie.After-try_next-tried invariant-loop-end decreases-loop-end
+after_try_next c = c.before.before
 
-abbrev in-loop : tie.After-try-next invariant-loop decreases-loop → tie.In-loop invariant-loop decreases-loop
-in-loop c = c.before.before
+abbrev in_loop : tie.After-try_next-tried invariant-loop-end decreases-loop-end → tie.In-loop-end invariant-loop-end decreases-loop-end
+in_loop c = c.before.before
 
-abbrev grew : tie.After-known-told invariant-loop decreases-loop → tie.After-try-next invariant-loop decreases-loop
-grew c = after-try-next c.before.before.before
+abbrev grew : tie.In-Used invariant-loop-end decreases-loop-end → tie.After-try_next-tried invariant-loop-end decreases-loop-end
+grew c = after_try_next c.before
 
-first-untried-requires : tie.Need-first-untried-requires invariant-loop decreases-loop
-first-untried-requires c κs =
-    let s = c.before.before.before in
+first_untried-end-requires : tie.Need-first_untried-end-requires invariant-loop-end decreases-loop-end
+first_untried-end-requires c κs =
+    let s = c.before.before in
     s.requires.1.1.spells.fits
 
-loop-holds : tie.Need-loop-init invariant-loop decreases-loop
-loop-holds c =
+loop-end-init : tie.Need-loop-end-init invariant-loop-end decreases-loop-end
+loop-end-init c =
     let s = start c in
-    (s.pre.1.1.spells.fits, refl, c.first-untried.ensures, λ k t. t)
+    (s.requires.1.1.spells.fits, refl, c.first_untried-end.ensures, λ k t. t)
 
-try-next-requires : tie.Need-try-next-requires invariant-loop decreases-loop
-try-next-requires c κs =
+try_next-tried-requires : tie.Need-try_next-tried-requires invariant-loop-end decreases-loop-end
+try_next-tried-requires c κs =
     let j = c.before in
     let s = start_of j in
-    let l = j.before.loop in
-    record { task = s.pre.0; count = l.words; state = l.invariant.3 s.pre.0 s.pre.1; found = l.invariant.2; inside = j.loop-test.true }
+    let l = j.loop-end in
+    record { task = s.requires.0; count = l.words; state = l.invariant.3 s.requires.0 s.requires.1; found = l.invariant.2; inside = j.loop-end-test.true }
 
-same_length : tie.Need-same-length invariant-loop decreases-loop
-same_length c =
-    let d = after-try-next c.before.before in
-    d.try-next.ensures.0 ∙ (in-loop d).before.loop.inv.1
+shape_of-area-in-Full : tie.Need-shape_of-area-in-Full invariant-loop-end decreases-loop-end
+shape_of-area-in-Full c =
+    let d = after_try_next c.before in
+    d.try_next-tried.ensures.0 ∙ d.loop-end.invariant.1
 
-returns : tie.Need-returns invariant-loop decreases-loop
-returns c =
-    let d = after-try-next c.before.before in
-    let l = (in-loop d).before.loop in (
-      d.try-next.ensures.0 ∙ l.inv.1,
+returns-in-Full : tie.Need-returns-in-Full invariant-loop-end decreases-loop-end
+returns-in-Full c =
+    let d = after_try_next c.before in
+    let l = d.loop-end in (
+      d.try_next-tried.ensures.0 ∙ l.invariant.1,
       λ k t.
-          subst (NextTriedMeans k l.words d.try-next.last.0) c.enum_told.given.1 (d.try-next.ensures.1 k l.words (l.inv.3 k t)),
+          subst (NextTriedMeans k l.words d.try_next-tried.new.area) c.in-Full.is (d.try_next-tried.ensures.1 k l.words (l.invariant.3 k t)),
     )
 
 -- one word more is tried
-further : (c : tie.After-known-told invariant-loop decreases-loop)
-    (k : Task (start_of (in-loop (grew c))).args.cells.now (start_of (in-loop (grew c))).args.size)
-    → State k (start_of (in-loop (grew c))).args.area.now (start_of (in-loop (grew c))).args.first 0
-    → State k (grew c).try-next.new.0 c.before.tried.given.0.0 ((in-loop (grew c)).before.loop.words + 1)
+further : (c : tie.In-Used invariant-loop-end decreases-loop-end)
+    (k : Task (start_of (in_loop (grew c))).args.cells.now (start_of (in_loop (grew c))).args.size)
+    → State k (start_of (in_loop (grew c))).args.area.now (start_of (in_loop (grew c))).args.first 0
+    → State k c.try_next-tried.new.area c.in-Used.bytes ((in_loop (grew c)).loop-end.words + 1)
 further c k t =
     let d = grew c in
-    let l = (in-loop d).before.loop in
-    subst (NextTriedMeans k l.words d.try-next.last.0) c.before.tried.given.1 (d.try-next.ensures.1 k l.words (l.inv.3 k t))
+    let l = d.loop-end in
+    subst (NextTriedMeans k l.words d.try_next-tried.new.area) c.in-Used.is (d.try_next-tried.ensures.1 k l.words (l.invariant.3 k t))
 
-add_words : tie.Need-overflow-add-words invariant-loop decreases-loop
-add_words c =
-    let j = in-loop (grew c) in
+overflow_add-words : tie.Need-overflow_add-words invariant-loop-end decreases-loop-end
+overflow_add-words c =
+    let j = in_loop (grew c) in
     let s = start_of j in
-    let l = j.before.loop in
-    omega (arith, next_count s.pre.0 _ _ _ (l.inv.3 s.pre.0 s.pre.1) _ j.loop-test.taken l.inv.2)
+    let l = j.loop-end in
+    omega (arith, next_count s.requires.0 _ _ _ (l.invariant.3 s.requires.0 s.requires.1) _ j.loop-end-test.true l.invariant.2)
 
-first-untried-requires-2 : tie.Need-first-untried-requires-2 invariant-loop decreases-loop
-first-untried-requires-2 c κs =
-    let s = start_of (in-loop (grew c.before)) in
-    (further c.before s.pre.0 s.pre.1).1.spells.fits
+first_untried-end-requires-in-Used : tie.Need-first_untried-end-requires-in-Used invariant-loop-end decreases-loop-end
+first_untried-end-requires-in-Used c κs =
+    let s = start_of (in_loop (grew c)) in
+    (further c s.requires.0 s.requires.1).1.spells.fits
 
-loop-less : tie.Need-loop-smaller invariant-loop decreases-loop
-loop-less c =
-    let d = grew c.before.before in
-    let j = in-loop d in
+loop-end-smaller : tie.Need-loop-end-smaller invariant-loop-end decreases-loop-end
+loop-end-smaller c =
+    let d = grew c.before in
+    let j = in_loop d in
     let s = start_of j in
-    let l = j.before.loop in
-    omega (arith, next_count s.pre.0 _ _ _ (l.inv.3 s.pre.0 s.pre.1) _ j.loop-test.taken l.inv.2, d.try-next.ensures.0)
+    let l = j.loop-end in
+    omega (arith, next_count s.requires.0 _ _ _ (l.invariant.3 s.requires.0 s.requires.1) _ j.loop-end-test.true l.invariant.2, d.try_next-tried.ensures.0)
 
-loop-again : tie.Need-loop-preserved invariant-loop decreases-loop
-loop-again c =
-    let w = c.before.before in
+loop-end-preserved : tie.Need-loop-end-preserved invariant-loop-end decreases-loop-end
+loop-end-preserved c =
+    let w = c.before in
     let d = grew w in
-    let s = start_of (in-loop d) in (
-      (further w s.pre.0 s.pre.1).1.spells.fits,
-      d.try-next.ensures.0 ∙ (in-loop d).before.loop.inv.1,
-      c.first-untried2.ensures,
+    let s = start_of (in_loop d) in (
+      (further w s.requires.0 s.requires.1).1.spells.fits,
+      d.try_next-tried.ensures.0 ∙ d.loop-end.invariant.1,
+      c.first_untried-end-in-Used.ensures,
       further w,
     )
 
-same-length-2 : tie.Need-same-length-2 invariant-loop decreases-loop
-same-length-2 c = c.before.loop.invariant.1
+shape_of-area : tie.Need-shape_of-area invariant-loop-end decreases-loop-end
+shape_of-area c = c.loop-end.invariant.1
 
-returns-2 : tie.Need-returns-2 invariant-loop decreases-loop
-returns-2 c =
-    let l = c.before.loop in (
+returns : tie.Need-returns invariant-loop-end decreases-loop-end
+returns c =
+    let l = c.loop-end in (
       l.invariant.1,
       λ k t₀.
           let t = l.invariant.3 k t₀ in
-          all_listed k l.area l.used l.words t.0 t.1 l.end l.invariant.2 c.loop-test.false,
+          all_listed k l.area l.used l.words t.0 t.1 l.end l.invariant.2 c.loop-end-test.false,
     )
 
-pub list-words-spec : {M : Type 1} → statement M
-list-words-spec =
-    tie.close (tie.spec invariant-loop decreases-loop first-untried-requires loop-holds try-next-requires (λ c. search rules) same_length returns (λ c. search rules)
-    add_words first-untried-requires-2 loop-less loop-again same-length-2 returns-2)
+pub list_words_spec : {M : Type 1} → statement M
+list_words_spec =
+    tie.close (tie.spec invariant-loop-end decreases-loop-end first_untried-end-requires loop-end-init try_next-tried-requires (λ c. search rules)
+    shape_of-area-in-Full returns-in-Full (λ c. search rules)
+    overflow_add-words first_untried-end-requires-in-Used loop-end-smaller loop-end-preserved shape_of-area returns)

@@ -10,41 +10,42 @@ use Rattle.ways.proofs.marks.first_untried.Statement.{statement}
 use Rattle.ways.proofs.marks.first_untried.Tie as tie
 
 -- one byte more that marks no word as untried
-tried-more : (area : List ℕ) (at : ℕ) → (get_or area at 0 ≡ untried → ⊥) → ((i : ℕ) → i < at → get_or area i 0 ≡ untried → ⊥)
+tried_more : (area : List ℕ) (at : ℕ) → (get_or area at 0 ≡ untried → ⊥) → ((i : ℕ) → i < at → get_or area i 0 ≡ untried → ⊥)
     → (i : ℕ) → i < at + 1 → get_or area i 0 ≡ untried → ⊥
-tried-more area at e h i k m = go (ℕ_discrete i at)
+tried_more area at e h i k m = go (ℕ_discrete i at)
   where
     go : Dec (i ≡ at) → ⊥
     go (yes p) = e (ap (λ j. get_or area j 0) (sym p) ∙ m)
     go (no p) = h i (omega arith) m
 
-abbrev invariant-loop : tie.invariant-loop
-invariant-loop area used at₀ at = (at ≤ used) × ((i : ℕ) → i < at → get_or area i 0 ≡ untried → ⊥)
+abbrev invariant-loop-at : tie.invariant-loop-at
+invariant-loop-at area used at₀ at = (at ≤ used) × ((i : ℕ) → i < at → get_or area i 0 ≡ untried → ⊥)
 
-abbrev decreases-loop : tie.decreases-loop
-decreases-loop area used at₀ at = used - at
+abbrev decreases-loop-at : tie.decreases-loop-at
+decreases-loop-at area used at₀ at = used - at
 
-abbrev start : tie.At-loop invariant-loop decreases-loop → tie.Start invariant-loop decreases-loop
+abbrev start : tie.At-loop-at invariant-loop-at decreases-loop-at → tie.Start invariant-loop-at decreases-loop-at
 start c = c.before
 
-loop-holds : tie.Need-loop-init invariant-loop decreases-loop
-loop-holds c = (omega arith, λ i h e. omega arith)
+loop-at-init : tie.Need-loop-at-init invariant-loop-at decreases-loop-at
+loop-at-init c = (omega arith, λ i h e. omega arith)
 
-returns : tie.Need-returns invariant-loop decreases-loop
-returns c =
-    let l = c.before.before.before.loop in
-    record { within = omega (arith, l.invariant.0); tried = l.invariant.1; marked = λ h. c.if1.true }
+returns-then-area-at : tie.Need-returns-then-area-at invariant-loop-at decreases-loop-at
+returns-then-area-at c =
+    let l = c.loop-at in
+    record { within = omega (arith, l.invariant.0); tried = l.invariant.1; marked = λ h. c.if-area-at.true }
 
-loop-again : tie.Need-loop-preserved invariant-loop decreases-loop
-loop-again c =
+loop-at-preserved : tie.Need-loop-at-preserved invariant-loop-at decreases-loop-at
+loop-at-preserved c =
     let s = start c.before.before.before in
-    let l = c.before.before.before.loop in
-    (omega (arith, c.before.before.loop-test.true), tried-more s.args.area.now l.at c.if1.false l.invariant.1)
+    let l = c.loop-at in
+    (omega (arith, c.loop-at-test.true), tried_more s.args.area.now l.at c.if-area-at.false l.invariant.1)
 
-returns-2 : tie.Need-returns-2 invariant-loop decreases-loop
-returns-2 c =
-    let l = c.before.loop in
-    record { within = l.invariant.0; tried = l.invariant.1; marked = λ h. absurd (omega (arith, c.loop-test.false)) }
+returns : tie.Need-returns invariant-loop-at decreases-loop-at
+returns c =
+    let l = c.loop-at in
+    record { within = l.invariant.0; tried = l.invariant.1; marked = λ h. absurd (omega (arith, c.loop-at-test.false)) }
 
-pub first-untried-spec : {M : Type 1} → statement M
-first-untried-spec = tie.close (tie.spec invariant-loop decreases-loop loop-holds (λ c. omega arith) returns (λ c. omega arith) (λ c. omega arith) loop-again returns-2)
+pub first_untried_spec : {M : Type 1} → statement M
+first_untried_spec = tie.close (tie.spec invariant-loop-at decreases-loop-at loop-at-init (λ c. omega arith) returns-then-area-at (λ c. omega arith)
+    (λ c. omega arith) loop-at-preserved returns)

@@ -11,24 +11,24 @@ use Rattle.ways.proofs.Spelling.{Between, between_all, between_none, step_ends, 
 use Rattle.ways.proofs.search.find_place.Statement.{statement}
 use Rattle.ways.proofs.search.find_place.Tie as tie
 
-abbrev invariant-loop : tie.invariant-loop
-invariant-loop area cells swap used low₀ high₀ low high =
+abbrev invariant-loop-low : tie.invariant-loop-low
+invariant-loop-low area cells swap used low₀ high₀ low high =
     (low ≤ high) × (high ≤ length area) × ((ms : List Marked) → Spells area used ms → Between ms (new_word area cells swap) low high)
 
-abbrev decreases-loop : tie.decreases-loop
-decreases-loop area cells swap used low₀ high₀ low high = high - low
+abbrev decreases-loop-low : tie.decreases-loop-low
+decreases-loop-low area cells swap used low₀ high₀ low high = high - low
 
-abbrev start : tie.At-loop invariant-loop decreases-loop → tie.Start invariant-loop decreases-loop
+abbrev start : tie.At-loop-low invariant-loop-low decreases-loop-low → tie.Start invariant-loop-low decreases-loop-low
 start c = c.before.before.before
 
-abbrev at-loop : tie.After-word-end invariant-loop decreases-loop → tie.At-loop invariant-loop decreases-loop
-at-loop c = c.before.before.before
+abbrev at_loop : tie.After-word_end-end invariant-loop-low decreases-loop-low → tie.At-loop-low invariant-loop-low decreases-loop-low
+at_loop c = c.before.before.before
 
-abbrev after-word-end : tie.After-compare invariant-loop decreases-loop → tie.After-word-end invariant-loop decreases-loop
-after-word-end c = c.before
+abbrev after_word_end : tie.After-compare-order invariant-loop-low decreases-loop-low → tie.After-word_end-end invariant-loop-low decreases-loop-low
+after_word_end c = c.before
 
-loop-holds : tie.Need-loop-init invariant-loop decreases-loop
-loop-holds c =
+loop-low-init : tie.Need-loop-low-init invariant-loop-low decreases-loop-low
+loop-low-init c =
     let s = c.before.before in (
       omega arith,
       s.requires.1.1.fits,
@@ -36,99 +36,101 @@ loop-holds c =
           (new_word s.args.area.now s.args.cells.now s.args.swap),
     )
 
-word-start-requires : tie.Need-word-start-requires invariant-loop decreases-loop
-word-start-requires c κs =
-    let l = c.before.loop in
-    (omega arith, omega (arith, l.invariant.1, c.loop-test.true))
+word_start-start-requires : tie.Need-word_start-start-requires invariant-loop-low decreases-loop-low
+word_start-start-requires c κs =
+    let l = c.loop-low in
+    (omega arith, omega (arith, l.invariant.1, c.loop-low-test.true))
 
-word-end-requires : tie.Need-word-end-requires invariant-loop decreases-loop
-word-end-requires c κs =
+word_end-end-requires : tie.Need-word_end-end-requires invariant-loop-low decreases-loop-low
+word_end-end-requires c κs =
     let s = start c.before.before in
-    let l = c.before.before.loop in
-    let g = s.pre.1 in
+    let l = c.loop-low in
+    let g = s.requires.1 in
     step_ends s.args.area.now s.args.used g.0 g.1 (new_word s.args.area.now s.args.cells.now s.args.swap) l.low l.high
     (l.low + (l.high - l.low) / 2)
-    (l.invariant.2 g.0 g.1) (omega arith) (omega (arith, c.before.loop-test.true))
+    (l.invariant.2 g.0 g.1) (omega arith) (omega (arith, c.loop-low-test.true))
 
-sub-compare : tie.Need-overflow-sub-compare invariant-loop decreases-loop
-sub-compare c = omega (arith, c.before.word-start.ensures.before, c.word-end.ensures.after)
+overflow_sub-end : tie.Need-overflow_sub-end invariant-loop-low decreases-loop-low
+overflow_sub-end c = omega (arith, c.word_start-start.ensures.before, c.word_end-end.ensures.after)
 
-compare-requires : tie.Need-compare-requires invariant-loop decreases-loop
-compare-requires c κs =
-    let s = start (at-loop c) in
-    (s.pre.0, omega (arith, c.before.word-start.ensures.before, c.word-end.ensures.after, c.word-end.ensures.inside))
+compare-order-requires : tie.Need-compare-order-requires invariant-loop-low decreases-loop-low
+compare-order-requires c κs =
+    let s = start (at_loop c) in
+    (s.requires.0, omega (arith, c.word_start-start.ensures.before, c.word_end-end.ensures.after, c.word_end-end.ensures.inside))
 
-enum_told : tie.Need-enum-told invariant-loop decreases-loop
-enum_told c = search rules
+enum_told-1 : tie.Need-enum_told-1 invariant-loop-low decreases-loop-low
+enum_told-1 c = search rules
 
-returns : tie.Need-returns invariant-loop decreases-loop
-returns c =
-    let k = after-word-end c.before.before in
-    let s = start (at-loop k) in
-    let l = (at-loop k).loop in
+returns-in-Same : tie.Need-returns-in-Same invariant-loop-low decreases-loop-low
+returns-in-Same c =
+    let k = after_word_end c.before in
+    let s = start (at_loop k) in
+    let l = k.loop-low in
     let means = subst (OrderMeans (new_word s.args.area.now s.args.cells.now s.args.swap)
-    (take (c.before.before.before.word-end.result - k.before.word-start.result) (drop k.before.word-start.result s.args.area.now)))
-    c.enum_told.given.1 c.before.before.compare.ensures in
+    (take (c.word_end-end.result - k.word_start-start.result) (drop k.word_start-start.result s.args.area.now)))
+    c.in-Same.is c.compare-order.ensures in
     λ ms h. step_same s.args.area.now s.args.used ms h (new_word s.args.area.now s.args.cells.now s.args.swap) l.low l.high
     (l.low + (l.high - l.low) / 2)
-    (l.inv.2 ms h) (omega arith) (omega (arith, k.before.before.loop-test.taken)) k.before.word-start.result
-    c.before.before.before.word-end.result k.before.word-start.ensures c.before.before.before.word-end.ensures means.0 means.1
+    (l.invariant.2 ms h) (omega arith) (omega (arith, k.loop-low-test.true)) k.word_start-start.result
+    c.word_end-end.result k.word_start-start.ensures c.word_end-end.ensures means.0 means.1
 
-loop-less : tie.Need-loop-smaller invariant-loop decreases-loop
-loop-less c =
-    let k = after-word-end c.before.before in
-    omega (arith, k.before.word-start.ensures.before, k.before.word-start.ensures.after, k.before.before.loop-test.taken)
+loop-low-smaller-in-Earlier : tie.Need-loop-low-smaller-in-Earlier invariant-loop-low decreases-loop-low
+loop-low-smaller-in-Earlier c =
+    let k = after_word_end c.before in
+    omega (arith, k.word_start-start.ensures.before, k.word_start-start.ensures.after, k.loop-low-test.true)
 
-loop-again : tie.Need-loop-preserved invariant-loop decreases-loop
-loop-again c =
-    let k = after-word-end c.before.before in
-    let s = start (at-loop k) in
-    let l = (at-loop k).loop in
+loop-low-preserved-in-Earlier : tie.Need-loop-low-preserved-in-Earlier invariant-loop-low decreases-loop-low
+loop-low-preserved-in-Earlier c =
+    let k = after_word_end c.before in
+    let s = start (at_loop k) in
+    let l = k.loop-low in
     let means = subst (OrderMeans (new_word s.args.area.now s.args.cells.now s.args.swap)
-    (take (c.before.before.before.word-end.result - k.before.word-start.result) (drop k.before.word-start.result s.args.area.now)))
-    c.enum-told2.given.1 c.before.before.compare.ensures in (
-      k.before.word-start.ensures.after,
-      omega (arith, k.before.word-start.ensures.before, k.before.before.loop-test.taken, l.inv.1),
+    (take (c.word_end-end.result - k.word_start-start.result) (drop k.word_start-start.result s.args.area.now)))
+    c.in-Earlier.is c.compare-order.ensures in (
+      k.word_start-start.ensures.after,
+      omega (arith, k.word_start-start.ensures.before, k.loop-low-test.true, l.invariant.1),
       λ ms h. step_earlier s.args.area.now s.args.used ms h (new_word s.args.area.now s.args.cells.now s.args.swap) l.low l.high
           (l.low + (l.high - l.low) / 2)
-          (l.inv.2 ms h) (omega arith) (omega (arith, k.before.before.loop-test.taken)) k.before.word-start.result
-          c.before.before.before.word-end.result k.before.word-start.ensures c.before.before.before.word-end.ensures means,
+          (l.invariant.2 ms h) (omega arith) (omega (arith, k.loop-low-test.true)) k.word_start-start.result
+          c.word_end-end.result k.word_start-start.ensures c.word_end-end.ensures means,
     )
 
-add_low : tie.Need-overflow-add-low invariant-loop decreases-loop
-add_low c = omega (arith, c.before.before.before.word-end.ensures.inside)
+overflow_add-low : tie.Need-overflow_add-low invariant-loop-low decreases-loop-low
+overflow_add-low c = omega (arith, c.word_end-end.ensures.inside)
 
-loop-less-2 : tie.Need-loop-smaller-2 invariant-loop decreases-loop
-loop-less-2 c = omega (arith, c.before.before.before.word-end.ensures.after, (after-word-end c.before.before).before.before.loop-test.taken)
+loop-low-smaller : tie.Need-loop-low-smaller invariant-loop-low decreases-loop-low
+loop-low-smaller c = omega (arith, c.word_end-end.ensures.after, c.loop-low-test.true)
 
-loop-again-2 : tie.Need-loop-preserved-2 invariant-loop decreases-loop
-loop-again-2 c =
-    let k = after-word-end c.before.before in
-    let s = start (at-loop k) in
-    let l = (at-loop k).loop in
-    let g = s.pre.1 in
+loop-low-preserved : tie.Need-loop-low-preserved invariant-loop-low decreases-loop-low
+loop-low-preserved c =
+    let k = after_word_end c.before in
+    let s = start (at_loop k) in
+    let l = k.loop-low in
+    let g = s.requires.1 in
     let means = subst (OrderMeans (new_word s.args.area.now s.args.cells.now s.args.swap)
-    (take (c.before.before.before.word-end.result - k.before.word-start.result) (drop k.before.word-start.result s.args.area.now)))
-    c.enum-told3.given.1 c.before.before.compare.ensures in (
+    (take (c.word_end-end.result - k.word_start-start.result) (drop k.word_start-start.result s.args.area.now)))
+    c.in-Later.is c.compare-order.ensures in (
       step_inside s.args.area.now s.args.used g.0 g.1 (new_word s.args.area.now s.args.cells.now s.args.swap) l.low l.high
           (l.low + (l.high - l.low) / 2)
-          (l.inv.2 g.0 g.1) (omega arith) (omega (arith, k.before.before.loop-test.taken)) k.before.word-start.result
-          c.before.before.before.word-end.result k.before.word-start.ensures c.before.before.before.word-end.ensures,
-      l.inv.1,
+          (l.invariant.2 g.0 g.1) (omega arith) (omega (arith, k.loop-low-test.true)) k.word_start-start.result
+          c.word_end-end.result k.word_start-start.ensures c.word_end-end.ensures,
+      l.invariant.1,
       λ ms h. step_later s.args.area.now s.args.used ms h (new_word s.args.area.now s.args.cells.now s.args.swap) l.low l.high
           (l.low + (l.high - l.low) / 2)
-          (l.inv.2 ms h) (omega arith) (omega (arith, k.before.before.loop-test.taken)) k.before.word-start.result
-          c.before.before.before.word-end.result k.before.word-start.ensures c.before.before.before.word-end.ensures means,
+          (l.invariant.2 ms h) (omega arith) (omega (arith, k.loop-low-test.true)) k.word_start-start.result
+          c.word_end-end.result k.word_start-start.ensures c.word_end-end.ensures means,
     )
 
-returns-2 : tie.Need-returns-2 invariant-loop decreases-loop
-returns-2 c =
+returns : tie.Need-returns invariant-loop-low decreases-loop-low
+returns c =
     let s = start c.before in
-    let l = c.before.loop in
+    let l = c.loop-low in
     λ ms h. between_none s.args.area.now s.args.used ms h (new_word s.args.area.now s.args.cells.now s.args.swap) l.low l.high
-    (l.invariant.2 ms h) c.loop-test.false
+    (l.invariant.2 ms h) c.loop-low-test.false
 
-pub find-place-spec : {M : Type 1} → statement M
-find-place-spec =
-    tie.close (tie.spec invariant-loop decreases-loop loop-holds (λ c. omega arith) (λ c. omega arith) word-start-requires word-end-requires sub-compare compare-requires
-    enum_told returns (λ c. search rules) loop-less loop-again (λ c. search rules) add_low loop-less-2 loop-again-2 returns-2)
+pub find_place_spec : {M : Type 1} → statement M
+find_place_spec =
+    tie.close (tie.spec invariant-loop-low decreases-loop-low loop-low-init (λ c. omega arith) (λ c. omega arith) word_start-start-requires
+    word_end-end-requires overflow_sub-end compare-order-requires
+    enum_told-1 returns-in-Same (λ c. search rules) loop-low-smaller-in-Earlier loop-low-preserved-in-Earlier (λ c. search rules) overflow_add-low
+    loop-low-smaller loop-low-preserved returns)

@@ -9,30 +9,31 @@ use Rattle.ways.proofs.swap.compare.Statement.{statement}
 use Rattle.ways.proofs.swap.compare.Tie as tie
 use Rattle.areas.proofs.Parts.{taken_length}
 
-abbrev invariant-loop : tie.invariant-loop
-invariant-loop area cells swap from count letters i₀ i =
+abbrev invariant-loop-i : tie.invariant-loop-i
+invariant-loop-i area cells swap from count letters i₀ i =
     (letters ≡ new_length swap) × (i ≤ letters) × (i ≤ count) × Agree (new_word area cells swap) (take count (drop from area)) i
 
-abbrev decreases-loop : tie.decreases-loop
-decreases-loop area cells swap from count letters i₀ i = letters - i
+abbrev decreases-loop-i : tie.decreases-loop-i
+decreases-loop-i area cells swap from count letters i₀ i = letters - i
 
-abbrev start : tie.After-struct-known2 invariant-loop decreases-loop → tie.Start invariant-loop decreases-loop
+abbrev start : tie.After-struct_known-2-1 invariant-loop-i decreases-loop-i → tie.Start invariant-loop-i decreases-loop-i
 start c = c.before.before.before.before
 
-abbrev after-struct-known2 : tie.After-new-letter invariant-loop decreases-loop → tie.After-struct-known2 invariant-loop decreases-loop
-after-struct-known2 c = c.before.before.before.before
+abbrev after_struct_known2 : tie.After-new_letter-new invariant-loop-i decreases-loop-i → tie.After-struct_known-2-1 invariant-loop-i decreases-loop-i
+after_struct_known2 c = c.before.before.before.before
 
-abbrev after-new-letter : tie.After-shared-slice-known3 invariant-loop decreases-loop → tie.After-new-letter invariant-loop decreases-loop
-after-new-letter c = c.before
+abbrev after_new_letter : tie.After-shared_slice_known-in-loop-i-1 invariant-loop-i decreases-loop-i
+    → tie.After-new_letter-new invariant-loop-i decreases-loop-i
+after_new_letter c = c.before
 
-add-letters : tie.Need-overflow-add-letters invariant-loop decreases-loop
-add-letters c = let s = c.before.before.before in omega (arith, s.requires.0.inside, s.requires.0.few)
+overflow_add-letters : tie.Need-overflow_add-letters invariant-loop-i decreases-loop-i
+overflow_add-letters c = let s = c.before.before.before in omega (arith, s.requires.0.inside, s.requires.0.few)
 
-add-letters-2 : tie.Need-overflow-add-letters-2 invariant-loop decreases-loop
-add-letters-2 c = let s = start c in omega (arith, s.pre.0.inside, s.pre.0.few)
+overflow_add-letters-2 : tie.Need-overflow_add-letters-2 invariant-loop-i decreases-loop-i
+overflow_add-letters-2 c = let s = start c in omega (arith, s.requires.0.inside, s.requires.0.few)
 
-loop-holds : tie.Need-loop-init invariant-loop decreases-loop
-loop-holds c =
+loop-i-init : tie.Need-loop-i-init invariant-loop-i decreases-loop-i
+loop-i-init c =
     let s = start c in (
       refl,
       omega arith,
@@ -41,84 +42,85 @@ loop-holds c =
           (take s.args.count (drop s.args.from s.args.area.now)),
     )
 
-returns : tie.Need-returns invariant-loop decreases-loop
-returns c =
+returns-then-i-count : tie.Need-returns-then-i-count invariant-loop-i decreases-loop-i
+returns-then-i-count c =
     let s = start c.before.before.before in
-    let l = c.before.before.loop in
+    let l = c.loop-i in
     let u = new_word s.args.area.now s.args.cells.now s.args.swap in
     let v = take s.args.count (drop s.args.from s.args.area.now) in
-    let many = taken_length s.args.area.now s.args.from s.args.count s.pre.1 in
-    let long = new_length_lem s.args.area.now s.args.cells.now s.args.swap s.pre.0 in
-    let t = beginning_neither v u (omega (arith, many, long, l.invariant.0, l.invariant.1, c.if1.true))
-    (λ j h. sym (l.invariant.3 j (omega (arith, many, c.if1.true, h)))) in
+    let many = taken_length s.args.area.now s.args.from s.args.count s.requires.1 in
+    let long = new_length_lem s.args.area.now s.args.cells.now s.args.swap s.requires.0 in
+    let t = beginning_neither v u (omega (arith, many, long, l.invariant.0, l.invariant.1, c.if-i-count.true))
+    (λ j h. sym (l.invariant.3 j (omega (arith, many, c.if-i-count.true, h)))) in
     (t.1, t.0)
 
-new-letter-requires : tie.Need-new-letter-requires invariant-loop decreases-loop
-new-letter-requires c κs =
+new_letter-new-requires : tie.Need-new_letter-new-requires invariant-loop-i decreases-loop-i
+new_letter-new-requires c κs =
     let s = start c.before.before.before in
-    let l = c.before.before.loop in
-    (s.pre.0, omega (arith, c.before.loop-test.true, l.invariant.0))
+    let l = c.loop-i in
+    (s.requires.0, omega (arith, c.loop-i-test.true, l.invariant.0))
 
-returns-2 : tie.Need-returns-2 invariant-loop decreases-loop
-returns-2 c =
-    let k = after-new-letter c.before in
-    let s = start (after-struct-known2 k) in
-    let l = k.before.before.before.loop in
+returns-then-new-listed : tie.Need-returns-then-new-listed invariant-loop-i decreases-loop-i
+returns-then-new-listed c =
+    let k = after_new_letter c.before in
+    let s = start (after_struct_known2 k) in
+    let l = k.loop-i in
     let u = new_word s.args.area.now s.args.cells.now s.args.swap in
     let v = take s.args.count (drop s.args.from s.args.area.now) in
-    let near : l.i < s.args.count = omega (arith, l.inv.2, c.before.before.before.if1.false) in
+    let near : l.i < s.args.count = omega (arith, l.invariant.2, c.if-i-count.false) in
     earlier_at u v l.i
-    (omega (arith, new_length_lem s.args.area.now s.args.cells.now s.args.swap s.pre.0, l.inv.0, k.before.before.loop-test.taken))
-    (omega (arith, near, taken_length s.args.area.now s.args.from s.args.count s.pre.1)) l.inv.3
-    (omega (arith, c.before.before.new-letter.ensures, part_at s.args.area.now s.args.from s.args.count l.i near, c.if2.true))
+    (omega (arith, new_length_lem s.args.area.now s.args.cells.now s.args.swap s.requires.0, l.invariant.0, k.loop-i-test.true))
+    (omega (arith, near, taken_length s.args.area.now s.args.from s.args.count s.requires.1)) l.invariant.3
+    (omega (arith, c.new_letter-new.ensures, part_at s.args.area.now s.args.from s.args.count l.i near, c.if-new-listed.true))
 
-returns-3 : tie.Need-returns-3 invariant-loop decreases-loop
-returns-3 c =
-    let k = after-new-letter c.before.before in
-    let s = start (after-struct-known2 k) in
-    let l = k.before.before.before.loop in
+returns-then-listed-new : tie.Need-returns-then-listed-new invariant-loop-i decreases-loop-i
+returns-then-listed-new c =
+    let k = after_new_letter c.before.before in
+    let s = start (after_struct_known2 k) in
+    let l = k.loop-i in
     let u = new_word s.args.area.now s.args.cells.now s.args.swap in
     let v = take s.args.count (drop s.args.from s.args.area.now) in
-    let near : l.i < s.args.count = omega (arith, l.inv.2, k.before.if1.left) in
+    let near : l.i < s.args.count = omega (arith, l.invariant.2, k.if-i-count.false) in
     earlier_at v u l.i
-    (omega (arith, near, taken_length s.args.area.now s.args.from s.args.count s.pre.1))
-    (omega (arith, new_length_lem s.args.area.now s.args.cells.now s.args.swap s.pre.0, l.inv.0, k.before.before.loop-test.taken))
-    (λ j h. sym (l.inv.3 j h))
-    (omega (arith, c.before.before.before.new-letter.ensures, part_at s.args.area.now s.args.from s.args.count l.i near, c.if3.true))
+    (omega (arith, near, taken_length s.args.area.now s.args.from s.args.count s.requires.1))
+    (omega (arith, new_length_lem s.args.area.now s.args.cells.now s.args.swap s.requires.0, l.invariant.0, k.loop-i-test.true))
+    (λ j h. sym (l.invariant.3 j h))
+    (omega (arith, c.new_letter-new.ensures, part_at s.args.area.now s.args.from s.args.count l.i near, c.if-listed-new.true))
 
-loop-again : tie.Need-loop-preserved invariant-loop decreases-loop
-loop-again c =
-    let k = after-new-letter c.before.before in
-    let s = start (after-struct-known2 k) in
-    let l = k.before.before.before.loop in
+loop-i-preserved : tie.Need-loop-i-preserved invariant-loop-i decreases-loop-i
+loop-i-preserved c =
+    let k = after_new_letter c.before.before in
+    let s = start (after_struct_known2 k) in
+    let l = k.loop-i in
     let u = new_word s.args.area.now s.args.cells.now s.args.swap in
     let v = take s.args.count (drop s.args.from s.args.area.now) in
-    let near : l.i < s.args.count = omega (arith, l.inv.2, k.before.if1.left) in (
+    let near : l.i < s.args.count = omega (arith, l.invariant.2, k.if-i-count.false) in (
       refl,
-      omega (arith, k.before.before.loop-test.taken),
+      omega (arith, k.loop-i-test.true),
       omega (arith, near),
-      agree_more u v l.i l.inv.3
+      agree_more u v l.i l.invariant.3
           (omega (
             arith,
-            c.before.before.before.new-letter.ensures,
+            c.new_letter-new.ensures,
             part_at s.args.area.now s.args.from s.args.count l.i near,
-            c.before.if2.false,
-            c.if3.false,
+            c.if-new-listed.false,
+            c.if-listed-new.false,
           )),
     )
 
-returns-4 : tie.Need-returns-4 invariant-loop decreases-loop
-returns-4 c =
+returns : tie.Need-returns invariant-loop-i decreases-loop-i
+returns c =
     let s = start c.before.before in
-    let l = c.before.loop in
+    let l = c.loop-i in
     let u = new_word s.args.area.now s.args.cells.now s.args.swap in
     let v = take s.args.count (drop s.args.from s.args.area.now) in
-    let many = taken_length s.args.area.now s.args.from s.args.count s.pre.1 in
-    let long = new_length_lem s.args.area.now s.args.cells.now s.args.swap s.pre.0 in
-    beginning_neither u v (omega (arith, many, long, l.invariant.0, l.invariant.2, c.loop-test.false))
-    (λ j h. l.invariant.3 j (omega (arith, long, l.invariant.0, c.loop-test.false, h)))
+    let many = taken_length s.args.area.now s.args.from s.args.count s.requires.1 in
+    let long = new_length_lem s.args.area.now s.args.cells.now s.args.swap s.requires.0 in
+    beginning_neither u v (omega (arith, many, long, l.invariant.0, l.invariant.2, c.loop-i-test.false))
+    (λ j h. l.invariant.3 j (omega (arith, long, l.invariant.0, c.loop-i-test.false, h)))
 
-pub compare-spec : {M : Type 1} → statement M
-compare-spec =
-    tie.close (tie.spec invariant-loop decreases-loop add-letters add-letters-2 loop-holds returns new-letter-requires (λ c. omega arith) (λ c. omega arith) returns-2
-    returns-3 (λ c. omega arith) (λ c. omega arith) loop-again returns-4)
+pub compare_spec : {M : Type 1} → statement M
+compare_spec =
+    tie.close (tie.spec invariant-loop-i decreases-loop-i overflow_add-letters overflow_add-letters-2 loop-i-init returns-then-i-count new_letter-new-requires
+    (λ c. omega arith) (λ c. omega arith) returns-then-new-listed
+    returns-then-listed-new (λ c. omega arith) (λ c. omega arith) loop-i-preserved returns)

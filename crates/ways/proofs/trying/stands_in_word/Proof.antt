@@ -11,24 +11,24 @@ use Rattle.ways.proofs.Relations.{word_part, short_stands_not}
 use Rattle.ways.proofs.trying.stands_in_word.Statement.{statement}
 use Rattle.ways.proofs.trying.stands_in_word.Tie as tie
 
-abbrev start : tie.After-struct-known → tie.Start
+abbrev start : tie.After-struct_known-1 → tie.Start
 start c = c.before.before.before
+
+returns-then-held-offset : tie.Need-returns-then-held-offset
+returns-then-held-offset c =
+    let s = start c.before in
+    let side = s.args.a ∷ take s.args.count (drop s.args.from s.args.cells.now) in
+    sym (short_stands_not s.args.area.now s.args.held s.requires.0 s.args.offset (1 + s.args.count) side
+    (omega (arith, taken_length s.args.cells.now s.args.from s.args.count s.requires.2)) s.requires.1 c.if-held-offset.true)
 
 returns : tie.Need-returns
 returns c =
-    let s = start c.before in
-    let side = s.args.a ∷ take s.args.count (drop s.args.from s.args.cells.now) in
-    sym (short_stands_not s.args.area.now s.args.held s.pre.0 s.args.offset (1 + s.args.count) side
-    (omega (arith, taken_length s.args.cells.now s.args.from s.args.count s.pre.2)) s.pre.1 c.if1.true)
-
-returns-2 : tie.Need-returns-2
-returns-2 c =
     let s = start c.before.before.before in
     c.stands_at.ensures
     ∙ ap (λ l. equal l (s.args.a ∷ take s.args.count (drop s.args.from s.args.cells.now)))
-    (word_part s.args.area.now s.args.held s.pre.0 s.args.offset (1 + s.args.count) c.before.before.if1.false)
+    (word_part s.args.area.now s.args.held s.requires.0 s.args.offset (1 + s.args.count) c.if-held-offset.false)
 
-pub stands-in-word-spec : {M : Type 1} → statement M
-stands-in-word-spec =
+pub stands_in_word_spec : {M : Type 1} → statement M
+stands_in_word_spec =
     tie.close
-    (tie.spec (λ c. search rules) (λ c. search rules) returns (λ c. search rules) (λ c κs. search rules) returns-2)
+    (tie.spec (λ c. search rules) (λ c. search rules) returns-then-held-offset (λ c. search rules) (λ c κs. search rules) returns)

@@ -9,100 +9,101 @@ use Rattle.ways.proofs.Trials.{Below, letters_begun, letters_more, letters_whole
 use Rattle.ways.proofs.trying.try_place.Statement.{statement}
 use Rattle.ways.proofs.trying.try_place.Tie as tie
 
-abbrev invariant-loop : tie.invariant-loop
-invariant-loop area₀ cells size offset now₀ b₀ area now b =
+abbrev invariant-loop-b : tie.invariant-loop-b
+invariant-loop-b area₀ cells size offset now₀ b₀ area now b =
     (1 ≤ b) × (b ≤ size + 1) × (length area ≡ length area₀)
     × ((g : Work cells size) (t : Busy g area₀ now₀) → Progress g (list_of t) (Below g offset b) area now)
 
-abbrev decreases-loop : tie.decreases-loop
-decreases-loop area₀ cells size offset now₀ b₀ area now b = size + 1 - b
+abbrev decreases-loop-b : tie.decreases-loop-b
+decreases-loop-b area₀ cells size offset now₀ b₀ area now b = size + 1 - b
 
-abbrev start : tie.At-loop invariant-loop decreases-loop → tie.Start invariant-loop decreases-loop
+abbrev start : tie.At-loop-b invariant-loop-b decreases-loop-b → tie.Start invariant-loop-b decreases-loop-b
 start c = c.before.before.before
 
-abbrev at-loop : tie.After-area invariant-loop decreases-loop → tie.At-loop invariant-loop decreases-loop
-at-loop c = c.before.before.before.before
+abbrev at_loop : tie.After-area-1 invariant-loop-b decreases-loop-b → tie.At-loop-b invariant-loop-b decreases-loop-b
+at_loop c = c.before.before.before.before
 
-abbrev after-area : tie.After-slice-known2 invariant-loop decreases-loop → tie.After-area invariant-loop decreases-loop
-after-area c = c.before
+abbrev after_area : tie.After-slice_known-in-loop-b-1 invariant-loop-b decreases-loop-b → tie.After-area-1 invariant-loop-b decreases-loop-b
+after_area c = c.before
 
-loop-holds : tie.Need-loop-init invariant-loop decreases-loop
-loop-holds c =
+loop-b-init : tie.Need-loop-b-init invariant-loop-b decreases-loop-b
+loop-b-init c =
     let s = c.before.before in
     (omega arith, omega arith, refl, λ g t. letters_begun g s.args.offset s.args.area.now s.args.held t)
 
-try-letter-requires : tie.Need-try-letter-requires invariant-loop decreases-loop
-try-letter-requires c κs =
+try_letter-tried-requires : tie.Need-try_letter-tried-requires invariant-loop-b decreases-loop-b
+try_letter-tried-requires c κs =
     let s = start c.before.before in
-    let l = c.before.before.loop in
-    let g = s.pre.0.0 in
-    let t = s.pre.0.1 in
+    let l = c.loop-b in
+    let g = s.requires.0.0 in
+    let t = s.requires.0.1 in
     let p = l.invariant.3 g t in
     record {
       size = s.args.size;
       work = g;
       busy = p.busy;
-      inside = omega (arith, s.pre.1, t.letters_is, p.busy.letters_is);
-      named = record { low = l.invariant.0; high = omega (arith, c.before.loop-test.true) };
+      inside = omega (arith, s.requires.1, t.letters_is, p.busy.letters_is);
+      named = record { low = l.invariant.0; high = omega (arith, c.loop-b-test.true) };
     }
 
-enum_told : tie.Need-enum-told invariant-loop decreases-loop
-enum_told c = search rules
+enum_told-1 : tie.Need-enum_told-1 invariant-loop-b decreases-loop-b
+enum_told-1 c = search rules
 
-same_length : tie.Need-same-length invariant-loop decreases-loop
-same_length c =
-    let k = after-area c.before.before in
-    let l = (at-loop k).loop in
-    k.before.try-letter.ensures.0 ∙ l.inv.2
+shape_of-area-in-Full : tie.Need-shape_of-area-in-Full invariant-loop-b decreases-loop-b
+shape_of-area-in-Full c =
+    let k = after_area c.before in
+    let l = k.loop-b in
+    k.try_letter-tried.ensures.0 ∙ l.invariant.2
 
-returns : tie.Need-returns invariant-loop decreases-loop
+returns-in-Full : tie.Need-returns-in-Full invariant-loop-b decreases-loop-b
+returns-in-Full c =
+    let k = after_area c.before in
+    let s = start (at_loop k) in
+    let l = k.loop-b in (
+      k.try_letter-tried.ensures.0 ∙ l.invariant.2,
+      λ g t.
+          let p = l.invariant.3 g t in
+          subst (TriedMeans g (list_of p.busy) (Toward s.args.offset l.b) k.try_letter-tried.new.area) c.in-Full.is
+          (k.try_letter-tried.ensures.1 s.args.size g p.busy
+          (record { low = l.invariant.0; high = omega (arith, k.loop-b-test.true) })),
+    )
+
+overflow_add-b : tie.Need-overflow_add-b invariant-loop-b decreases-loop-b
+overflow_add-b c =
+    let k = after_area c.before in
+    let s = start (at_loop k) in
+    omega (arith, k.loop-b-test.true, s.requires.0.0.of.stands.few, s.requires.0.0.of.sized)
+
+loop-b-smaller : tie.Need-loop-b-smaller invariant-loop-b decreases-loop-b
+loop-b-smaller c = omega (arith, c.loop-b-test.true)
+
+loop-b-preserved : tie.Need-loop-b-preserved invariant-loop-b decreases-loop-b
+loop-b-preserved c =
+    let k = after_area c.before in
+    let s = start (at_loop k) in
+    let l = k.loop-b in (
+      omega (arith, l.invariant.0),
+      omega (arith, k.loop-b-test.true),
+      k.try_letter-tried.ensures.0 ∙ l.invariant.2,
+      λ g t.
+          let p = l.invariant.3 g t in
+          letters_more g (list_of t) s.args.offset l.b l.area k.try_letter-tried.new.area l.now c.in-Going.next p
+          (subst (TriedMeans g (list_of p.busy) (Toward s.args.offset l.b) k.try_letter-tried.new.area) c.in-Going.is
+          (k.try_letter-tried.ensures.1 s.args.size g p.busy
+          (record { low = l.invariant.0; high = omega (arith, k.loop-b-test.true) }))),
+    )
+
+shape_of-area : tie.Need-shape_of-area invariant-loop-b decreases-loop-b
+shape_of-area c = c.loop-b.invariant.2
+
+returns : tie.Need-returns invariant-loop-b decreases-loop-b
 returns c =
-    let k = after-area c.before.before in
-    let s = start (at-loop k) in
-    let l = (at-loop k).loop in (
-      k.before.try-letter.ensures.0 ∙ l.inv.2,
-      λ g t.
-          let p = l.inv.3 g t in
-          subst (TriedMeans g (list_of p.busy) (Toward s.args.offset l.b) k.before.try-letter.last.0) c.enum_told.given.1
-          (k.before.try-letter.ensures.1 s.args.size g p.busy
-          (record { low = l.inv.0; high = omega (arith, k.before.before.before.loop-test.taken) })),
-    )
-
-add-b : tie.Need-overflow-add-b invariant-loop decreases-loop
-add-b c =
-    let k = after-area c.before.before.before in
-    let s = start (at-loop k) in
-    omega (arith, k.before.before.before.loop-test.taken, s.pre.0.0.of.stands.few, s.pre.0.0.of.sized)
-
-loop-less : tie.Need-loop-smaller invariant-loop decreases-loop
-loop-less c = omega (arith, (after-area c.before.before.before).before.before.before.loop-test.taken)
-
-loop-again : tie.Need-loop-preserved invariant-loop decreases-loop
-loop-again c =
-    let k = after-area c.before.before.before in
-    let s = start (at-loop k) in
-    let l = (at-loop k).loop in (
-      omega (arith, l.inv.0),
-      omega (arith, k.before.before.before.loop-test.taken),
-      k.before.try-letter.ensures.0 ∙ l.inv.2,
-      λ g t.
-          let p = l.inv.3 g t in
-          letters_more g (list_of t) s.args.offset l.b l.area k.before.try-letter.last.0 l.now c.before.tried.given.0.0 p
-          (subst (TriedMeans g (list_of p.busy) (Toward s.args.offset l.b) k.before.try-letter.last.0) c.before.tried.given.1
-          (k.before.try-letter.ensures.1 s.args.size g p.busy
-          (record { low = l.inv.0; high = omega (arith, k.before.before.before.loop-test.taken) }))),
-    )
-
-same-length-2 : tie.Need-same-length-2 invariant-loop decreases-loop
-same-length-2 c = c.before.loop.invariant.2
-
-returns-2 : tie.Need-returns-2 invariant-loop decreases-loop
-returns-2 c =
     let s = start c.before in
-    let l = c.before.loop in
-    (l.invariant.2, λ g t. letters_whole g (list_of t) s.args.offset l.b l.area l.now (omega (arith, c.loop-test.false)) (l.invariant.3 g t))
+    let l = c.loop-b in
+    (l.invariant.2, λ g t. letters_whole g (list_of t) s.args.offset l.b l.area l.now (omega (arith, c.loop-b-test.false)) (l.invariant.3 g t))
 
-pub try-place-spec : {M : Type 1} → statement M
-try-place-spec =
-    tie.close (tie.spec invariant-loop decreases-loop loop-holds try-letter-requires enum_told same_length returns (λ c. search rules) add-b loop-less loop-again
-    same-length-2 returns-2)
+pub try_place_spec : {M : Type 1} → statement M
+try_place_spec =
+    tie.close (tie.spec invariant-loop-b decreases-loop-b loop-b-init try_letter-tried-requires enum_told-1 shape_of-area-in-Full returns-in-Full
+    (λ c. search rules) overflow_add-b loop-b-smaller loop-b-preserved
+    shape_of-area returns)

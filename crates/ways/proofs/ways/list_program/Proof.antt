@@ -15,67 +15,67 @@ use Rattle.ways.proofs.Service.{task, first_too_long, loaded_length, begun, long
 use Rattle.ways.proofs.ways.list_program.Statement.{statement}
 use Rattle.ways.proofs.ways.list_program.Tie as tie
 
-abbrev start : tie.Else1 → tie.Start
+abbrev start : tie.Else-answer-letters → tie.Start
 start c = c.before.before.before.before
 
-abbrev start-from-after-wipe : tie.After-wipe → tie.Start
-start-from-after-wipe c = c.before.before.before.before.before.before
+abbrev start_from_after_wipe : tie.After-wipe → tie.Start
+start_from_after_wipe c = c.before.before.before.before.before.before
 
-abbrev else1 : tie.After-unpack-letters → tie.Else1
+abbrev else1 : tie.After-unpack_letters → tie.Else-answer-letters
 else1 c = c.before.before
 
-abbrev after-wipe : tie.After-answer → tie.After-wipe
-after-wipe c = c.before
+abbrev after_wipe : tie.After-answer-1 → tie.After-wipe
+after_wipe c = c.before
 
-abbrev after-unpack-letters : tie.After-slice-known4 → tie.After-unpack-letters
-after-unpack-letters c = c.before.before.before.before.before.before
+abbrev after_unpack_letters : tie.After-slice_known-3-1 → tie.After-unpack_letters
+after_unpack_letters c = c.before.before.before.before.before.before
 
-abbrev after-slice-known4 : tie.At-match-keys2 → tie.After-slice-known4
-after-slice-known4 c = c.before
+abbrev after_slice_known4 : tie.In-Whole → tie.After-slice_known-3-1
+after_slice_known4 c = c.before
 
-abbrev listing_of : tie.After-wipe2 → tie.After-slice-known4
-listing_of c = c.before.before.before.before
+abbrev listing_of : tie.After-wipe-in-Long → tie.After-slice_known-3-1
+listing_of c = c.before.before.before
 
-abbrev wiped : tie.After-answer4 → tie.After-wipe2
+abbrev wiped : tie.After-answer-in-Long-1 → tie.After-wipe-in-Long
 wiped c = c.before
 
-same_length : tie.Need-same-length
-same_length c = c.before.before.wipe.auto.0
+shape_of-answer-then-answer-letters : tie.Need-shape_of-answer-then-answer-letters
+shape_of-answer-then-answer-letters c = c.wipe.auto.area
 
-returns : tie.Need-returns
-returns c =
-    let k = after-wipe c.before in
-    let s = start-from-after-wipe k in
+returns-then-answer-letters : tie.Need-returns-then-answer-letters
+returns-then-answer-letters c =
+    let k = after_wipe c.before in
+    let s = start_from_after_wipe k in
     let cells = s.args.cells.now in
     let size = s.args.size in
     let program = s.args.program.now in
     let count = s.args.count in
     let before = s.args.answer.now in
-    let f = s.pre.forward in
-    λ T p u e. subst (λ l. Answers (fitted_listing (length before) (listing T u)) before l (Refused AnswerShort)) (sym c.before.before.wipe.ensures)
+    let f = s.requires.forward in
+    λ T p u e. subst (λ l. Answers (fitted_listing (length before) (listing T u)) before l (Refused AnswerShort)) (sym c.wipe.ensures)
     (long_answers cells size program count f T p u e before before
-    (first_too_long cells size program count f T p u e (length before) k.before.before.if1.taken) refl)
+    (first_too_long cells size program count f T p u e (length before) k.if-answer-letters.true) refl)
 
-unpack-letters-requires : tie.Need-unpack-letters-requires
-unpack-letters-requires c κs =
+unpack_letters-requires : tie.Need-unpack_letters-requires
+unpack_letters-requires c κs =
     let s = start c.before in
     let cells = s.args.cells.now in
     let size = s.args.size in
     let program = s.args.program.now in
     let count = s.args.count in
     let before = s.args.answer.now in
-    let f = s.pre.forward in
-    let o = s.pre.passed.of in (
+    let f = s.requires.forward in
+    let o = s.requires.passed.of in (
       record {
         some = of_some o;
         few = of_few o;
         program = record { word = positive f.word; read = f.read_signed; count_is = length-map f.word forward ∙ f.count_is };
       },
-      omega (arith, c.before.if1.false),
+      omega (arith, c.if-answer-letters.false),
     )
 
-list-words-requires : tie.Need-list-words-requires
-list-words-requires c κs =
+list_words-listing-requires : tie.Need-list_words-listing-requires
+list_words-listing-requires c κs =
     let k = else1 c.before.before.before in
     let s = start k in
     let cells = s.args.cells.now in
@@ -83,81 +83,82 @@ list-words-requires c κs =
     let program = s.args.program.now in
     let count = s.args.count in
     let before = s.args.answer.now in
-    let f = s.pre.forward in
-    let T = s.pre.table in
-    let p = s.pre.passed in (
+    let f = s.requires.forward in
+    let T = s.requires.table in
+    let p = s.requires.passed in (
       task cells size program count f T p f.word f.read before,
-      begun cells size program count f T p f.word f.read before c.before.before.before.unpack-letters.new.1.1.1.0 k.if1.left
-          c.before.before.before.unpack-letters.ensures.1,
+      begun cells size program count f T p f.word f.read before c.unpack_letters.new.area k.if-answer-letters.false
+          c.unpack_letters.ensures.1,
     )
 
-enum_told : tie.Need-enum-told
-enum_told c = search rules
+enum_told-1 : tie.Need-enum_told-1
+enum_told-1 c = search rules
 
-wipe-requires-2 : tie.Need-wipe-requires-2
-wipe-requires-2 c κs = search rules
+wipe-requires-in-Long : tie.Need-wipe-requires-in-Long
+wipe-requires-in-Long c κs = search rules
 
-same-length-2 : tie.Need-same-length-2
-same-length-2 c =
+shape_of-answer-in-Long : tie.Need-shape_of-answer-in-Long
+shape_of-answer-in-Long c =
     let j = listing_of (wiped c.before) in
-    ap length c.before.before.wipe2.ensures
-    ∙ (length-replicate (length j.before.before.list-words.last.0) 0
-    ∙ (j.before.before.list-words.ensures.0
-    ∙ (length-set (after-unpack-letters j).unpack-letters.last.1.1.1.0 (start (else1 (after-unpack-letters j))).args.count untried
-    ∙ (after-unpack-letters j).unpack-letters.ensures.0)))
+    ap length c.wipe-in-Long.ensures
+    ∙ (length-replicate (length j.list_words-listing.new.area) 0
+    ∙ (j.list_words-listing.ensures.0
+    ∙ (length-set j.unpack_letters.new.area (start (else1 (after_unpack_letters j))).args.count untried
+    ∙ j.unpack_letters.ensures.0)))
 
-returns-2 : tie.Need-returns-2
-returns-2 c =
+returns-in-Long : tie.Need-returns-in-Long
+returns-in-Long c =
     let k = listing_of (wiped c.before) in
-    let s = start (else1 (after-unpack-letters k)) in
+    let s = start (else1 (after_unpack_letters k)) in
     let cells = s.args.cells.now in
     let size = s.args.size in
     let program = s.args.program.now in
     let count = s.args.count in
     let before = s.args.answer.now in
-    let f = s.pre.forward in
-    let loaded = (after-unpack-letters k).unpack-letters.last.1.1.1.0 in
-    let listed = k.before.before.list-words.last.0 in
+    let f = s.requires.forward in
+    let loaded = k.unpack_letters.new.area in
+    let listed = k.list_words-listing.new.area in
     λ T p u e.
-    let room = (else1 (after-unpack-letters k)).if1.false in
-    let unpacked = (after-unpack-letters k).unpack-letters.ensures.1 in
-    let means = subst (ListingMeans (task cells size program count f T p u e before) listed) (wiped c.before).before.before.enum_told.given.1
-    (k.before.before.list-words.ensures.1 (task cells size program count f T p u e before)
+    let room = (else1 (after_unpack_letters k)).if-answer-letters.false in
+    let unpacked = k.unpack_letters.ensures.1 in
+    let means = subst (ListingMeans (task cells size program count f T p u e before) listed) c.in-Long.is
+    (k.list_words-listing.ensures.1 (task cells size program count f T p u e before)
     (begun cells size program count f T p u e before loaded room unpacked)) in
-    let same : length listed ≡ length before = k.before.before.list-words.ensures.0
+    let same : length listed ≡ length before = k.list_words-listing.ensures.0
     ∙ (length-set loaded count untried ∙ loaded_length cells size program count f T p u e before loaded room unpacked) in
-    subst (λ l. Answers (fitted_listing (length before) (listing T u)) before l (Refused AnswerShort)) (sym c.before.before.wipe2.ensures)
+    subst (λ l. Answers (fitted_listing (length before) (listing T u)) before l (Refused AnswerShort)) (sym c.wipe-in-Long.ensures)
     (long_answers cells size program count f T p u e before listed means same)
 
-same-length-3 : tie.Need-same-length-3
-same-length-3 c =
-    let k = after-unpack-letters (after-slice-known4 c.before.before) in
-    (after-slice-known4 c.before.before).before.before.list-words.ensures.0
-    ∙ (length-set k.unpack-letters.last.1.1.1.0 (start (else1 k)).args.count untried ∙ k.unpack-letters.ensures.0)
+shape_of-answer-in-Whole : tie.Need-shape_of-answer-in-Whole
+shape_of-answer-in-Whole c =
+    let k = after_unpack_letters (after_slice_known4 c) in
+    c.list_words-listing.ensures.0
+    ∙ (length-set k.unpack_letters.new.area (start (else1 k)).args.count untried ∙ k.unpack_letters.ensures.0)
 
-returns-3 : tie.Need-returns-3
-returns-3 c =
-    let k = after-slice-known4 c.before.before in
-    let s = start (else1 (after-unpack-letters k)) in
+returns-in-Whole : tie.Need-returns-in-Whole
+returns-in-Whole c =
+    let k = after_slice_known4 c in
+    let s = start (else1 (after_unpack_letters k)) in
     let cells = s.args.cells.now in
     let size = s.args.size in
     let program = s.args.program.now in
     let count = s.args.count in
     let before = s.args.answer.now in
-    let f = s.pre.forward in
-    let loaded = (after-unpack-letters k).unpack-letters.last.1.1.1.0 in
-    let listed = k.before.before.list-words.last.0 in
+    let f = s.requires.forward in
+    let loaded = k.unpack_letters.new.area in
+    let listed = k.list_words-listing.new.area in
     λ T p u e.
-    let room = (else1 (after-unpack-letters k)).if1.false in
-    let unpacked = (after-unpack-letters k).unpack-letters.ensures.1 in
-    let means = subst (ListingMeans (task cells size program count f T p u e before) listed) c.before.listing.given.1
-    (k.before.before.list-words.ensures.1 (task cells size program count f T p u e before)
+    let room = (else1 (after_unpack_letters k)).if-answer-letters.false in
+    let unpacked = k.unpack_letters.ensures.1 in
+    let means = subst (ListingMeans (task cells size program count f T p u e before) listed) c.in-Whole.is
+    (k.list_words-listing.ensures.1 (task cells size program count f T p u e before)
     (begun cells size program count f T p u e before loaded room unpacked)) in
-    let same : length listed ≡ length before = k.before.before.list-words.ensures.0
+    let same : length listed ≡ length before = k.list_words-listing.ensures.0
     ∙ (length-set loaded count untried ∙ loaded_length cells size program count f T p u e before loaded room unpacked) in
-    whole_answers cells size program count f T p u e before listed c.before.listing.given.0.0 c.before.listing.given.0.1.0 same means
+    whole_answers cells size program count f T p u e before listed c.in-Whole.words c.in-Whole.bytes same means
 
-pub list-program-spec : {M : Type 1} → statement M
-list-program-spec =
-    tie.close (tie.spec (λ c κs. search rules) same_length returns unpack-letters-requires (λ c. search rules) (λ c. search rules) list-words-requires
-    enum_told wipe-requires-2 (λ c. search rules) same-length-2 returns-2 same-length-3 returns-3)
+pub list_program_spec : {M : Type 1} → statement M
+list_program_spec =
+    tie.close (tie.spec (λ c κs. search rules) shape_of-answer-then-answer-letters returns-then-answer-letters unpack_letters-requires (λ c. search rules)
+    (λ c. search rules) list_words-listing-requires
+    enum_told-1 wipe-requires-in-Long (λ c. search rules) shape_of-answer-in-Long returns-in-Long shape_of-answer-in-Whole returns-in-Whole)

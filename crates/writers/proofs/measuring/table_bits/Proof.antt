@@ -15,90 +15,91 @@ use Rattle.writers.proofs.Parts.{some_row, table_row, table_width, table_more, t
 use Rattle.writers.proofs.measuring.table_bits.Statement.{statement}
 use Rattle.writers.proofs.measuring.table_bits.Tie as tie
 
-abbrev invariant-loop : tie.invariant-loop
-invariant-loop cells size form bits₀ a₀ bits a =
+abbrev invariant-loop-a : tie.invariant-loop-a
+invariant-loop-a cells size form bits₀ a₀ bits a =
     (1 ≤ a)
     × (a ≤ size + 1)
     × (bits + 3960 ≤ 136 + 3960 * a)
     × ((rows : List (List Complement)) → RowsHeld size cells rows → bits ≡ bits₀ + length (concat_map (concat_map (pair_as form)) (take (a - 1) rows)))
 
-abbrev decreases-loop : tie.decreases-loop
-decreases-loop cells size form bits₀ a₀ bits a = size + 1 - a
+abbrev decreases-loop-a : tie.decreases-loop-a
+decreases-loop-a cells size form bits₀ a₀ bits a = size + 1 - a
 
-abbrev begun : tie.After-struct-known2 invariant-loop decreases-loop → tie.Start invariant-loop decreases-loop
+abbrev begun : tie.After-struct_known-2-1 invariant-loop-a decreases-loop-a → tie.Start invariant-loop-a decreases-loop-a
 begun c = c.before.before.before
 
-abbrev start : tie.At-loop invariant-loop decreases-loop → tie.Start invariant-loop decreases-loop
+abbrev start : tie.At-loop-a invariant-loop-a decreases-loop-a → tie.Start invariant-loop-a decreases-loop-a
 start c = begun c.before
 
-weights-near : (c : tie.Start invariant-loop decreases-loop) → c.args.size * c.args.form.weights ≤ 128
-weights-near c = mul-le-mul {n₂ = most_size} {m₂ = 8} c.requires.0.few c.requires.1.weights_narrow
+weights_near : (c : tie.Start invariant-loop-a decreases-loop-a) → c.args.size * c.args.form.weights ≤ 128
+weights_near c = mul-le-mul {n₂ = most_size} {m₂ = 8} c.requires.0.few c.requires.1.weights_narrow
 
-cast-bits : tie.Need-overflow-cast-bits invariant-loop decreases-loop
-cast-bits c = omega (arith, c.before.before.requires.1.sizes_narrow)
+overflow_cast-bits : tie.Need-overflow_cast-bits invariant-loop-a decreases-loop-a
+overflow_cast-bits c = omega (arith, c.requires.1.sizes_narrow)
 
-cast-bits-2 : tie.Need-overflow-cast-bits-2 invariant-loop decreases-loop
-cast-bits-2 c = omega (arith, (begun c).requires.1.weights_narrow)
+overflow_cast-bits-3 : tie.Need-overflow_cast-bits-3 invariant-loop-a decreases-loop-a
+overflow_cast-bits-3 c = omega (arith, c.requires.1.weights_narrow)
 
-mul-bits : tie.Need-overflow-mul-bits invariant-loop decreases-loop
-mul-bits c = omega (arith, weights-near (begun c))
+overflow_mul-bits : tie.Need-overflow_mul-bits invariant-loop-a decreases-loop-a
+overflow_mul-bits c = omega (arith, weights_near (begun c))
 
-add-bits : tie.Need-overflow-add-bits invariant-loop decreases-loop
-add-bits c = omega (arith, weights-near (begun c), (begun c).requires.1.sizes_narrow)
+overflow_add-bits : tie.Need-overflow_add-bits invariant-loop-a decreases-loop-a
+overflow_add-bits c = omega (arith, weights_near (begun c), c.requires.1.sizes_narrow)
 
-loop-holds : tie.Need-loop-init invariant-loop decreases-loop
-loop-holds c = (omega arith, omega arith, omega (arith, weights-near (begun c), (begun c).requires.1.sizes_narrow), λ rows h. omega arith)
+loop-a-init : tie.Need-loop-a-init invariant-loop-a decreases-loop-a
+loop-a-init c = (omega arith, omega arith, omega (arith, weights_near (begun c), c.requires.1.sizes_narrow), λ rows h. omega arith)
 
-row-bits-requires : tie.Need-row-bits-requires invariant-loop decreases-loop
-row-bits-requires c κs =
+row_bits-bits-requires : tie.Need-row_bits-bits-requires invariant-loop-a decreases-loop-a
+row_bits-bits-requires c κs =
     let l = c.before in
     let s = start l in
-    (some_row s.args.size s.args.cells.now s.pre.0 l.loop.a l.loop.invariant.0 c.loop-test.true, s.pre.1, s.pre.2)
+    (some_row s.args.size s.args.cells.now s.requires.0 l.loop-a.a l.loop-a.invariant.0 c.loop-a-test.true, s.requires.1, s.requires.2)
 
-add-bits-2 : tie.Need-overflow-add-bits-2 invariant-loop decreases-loop
-add-bits-2 c = omega (arith, c.before.before.loop.invariant.2, c.before.loop-test.true, (start c.before.before).pre.0.few, c.row-bits.ensures.1)
+overflow_add-bits-in-loop-a : tie.Need-overflow_add-bits-in-loop-a invariant-loop-a decreases-loop-a
+overflow_add-bits-in-loop-a c = omega (arith, c.loop-a.invariant.2, c.loop-a-test.true, c.requires.0.few, c.row_bits-bits.ensures.1)
 
-add_a : tie.Need-overflow-add-a invariant-loop decreases-loop
-add_a c = omega (arith, c.before.loop-test.true, (start c.before.before).pre.0.few)
+overflow_add-a : tie.Need-overflow_add-a invariant-loop-a decreases-loop-a
+overflow_add-a c = omega (arith, c.loop-a-test.true, c.requires.0.few)
 
-loop-less : tie.Need-loop-smaller invariant-loop decreases-loop
-loop-less c = omega (arith, c.before.loop-test.true)
+loop-a-smaller : tie.Need-loop-a-smaller invariant-loop-a decreases-loop-a
+loop-a-smaller c = omega (arith, c.loop-a-test.true)
 
-loop-again : tie.Need-loop-preserved invariant-loop decreases-loop
-loop-again c =
+loop-a-preserved : tie.Need-loop-a-preserved invariant-loop-a decreases-loop-a
+loop-a-preserved c =
     let n = c.before in
     let l = n.before in
     let s = start l in
-    let w = c.row-bits in (
-      omega (arith, l.loop.invariant.0),
-      omega (arith, n.loop-test.true),
-      omega (arith, l.loop.invariant.2, w.ensures.1),
+    let w = c.row_bits-bits in (
+      omega (arith, l.loop-a.invariant.0),
+      omega (arith, n.loop-a-test.true),
+      omega (arith, l.loop-a.invariant.2, w.ensures.1),
       λ rows h.
-          let i = l.loop.a - 1 in
+          let i = l.loop-a.a - 1 in
           omega (
             arith,
-            l.loop.invariant.3 rows h,
-            w.ensures.0 (get_or rows i []) (table_row s.args.size s.args.cells.now rows h l.loop.a l.loop.invariant.0 n.loop-test.true)
-                (table_width s.args.size s.args.cells.now rows h l.loop.a l.loop.invariant.0 n.loop-test.true),
+            l.loop-a.invariant.3 rows h,
+            w.ensures.0 (get_or rows i []) (table_row s.args.size s.args.cells.now rows h l.loop-a.a l.loop-a.invariant.0 n.loop-a-test.true)
+                (table_width s.args.size s.args.cells.now rows h l.loop-a.a l.loop-a.invariant.0 n.loop-a-test.true),
             length-append (concat_map (concat_map (pair_as s.args.form)) (take i rows)) (concat_map (pair_as s.args.form) (get_or rows i [])),
-            ap length (table_more (pair_as s.args.form) s.args.size s.args.cells.now rows h l.loop.a l.loop.invariant.0 n.loop-test.true),
+            ap length (table_more (pair_as s.args.form) s.args.size s.args.cells.now rows h l.loop-a.a l.loop-a.invariant.0 n.loop-a-test.true),
           ),
     )
 
-returns : tie.Need-returns invariant-loop decreases-loop
+returns : tie.Need-returns invariant-loop-a decreases-loop-a
 returns c =
     let l = c.before in
     let s = start l in (
       λ excess rows weights listed.
           omega (
             arith,
-            l.loop.invariant.3 rows listed,
-            ap length (table_all (pair_as s.args.form) s.args.size s.args.cells.now rows listed l.loop.a c.loop-test.false),
+            l.loop-a.invariant.3 rows listed,
+            ap length (table_all (pair_as s.args.form) s.args.size s.args.cells.now rows listed l.loop-a.a c.loop-a-test.false),
             table_length s.args.form s.args.size excess rows weights.many,
           ),
-      omega (arith, l.loop.invariant.2, l.loop.invariant.1, s.pre.0.few),
+      omega (arith, l.loop-a.invariant.2, l.loop-a.invariant.1, s.requires.0.few),
     )
 
-pub table-bits-spec : {M : Type 1} → statement M
-table-bits-spec =
-    tie.close (tie.spec invariant-loop decreases-loop cast-bits cast-bits-2 mul-bits add-bits loop-holds row-bits-requires add-bits-2 add_a loop-less loop-again returns)
+pub table_bits_spec : {M : Type 1} → statement M
+table_bits_spec =
+    tie.close (tie.spec invariant-loop-a decreases-loop-a overflow_cast-bits overflow_cast-bits-3 overflow_mul-bits overflow_add-bits loop-a-init
+    row_bits-bits-requires overflow_add-bits-in-loop-a overflow_add-a loop-a-smaller loop-a-preserved returns)

@@ -1,111 +1,107 @@
 -- `writers::programs::put_program` meets its contract. The loop's invariant: after the count, the letters passed are put.
-use mathlib.Core.Path.{◌≡◌, subst, ◌∙◌}
-use mathlib.Core.List.{◌++◌}
-use Prim.Native.Nat.{◌+◌, ◌-◌, ◌/◌, ◌%◌, ◌≤◌, ◌<◌}
+use mathlib.Core.Path.{subst, ◌∙◌}
+use Prim.Native.Nat.{◌-◌, ◌≤◌}
 use native.Mathlib.Omega.{arith}
-use lib.ListN.{length, get_or}
-use Rattle.model.specs.Bits.{digits}
+use lib.ListN.{length}
 use Rattle.writers.specs.BitWriter.{Puts}
 use Rattle.writers.proofs.BitWriter.{puts_none, puts_more}
 use Rattle.writers.proofs.Letters.{first_bits, first_none, first_more, first_all, count_parts}
 use Rattle.writers.proofs.programs.put_program.Statement.{statement}
 use Rattle.writers.proofs.programs.put_program.Tie as tie
 
-abbrev invariant-loop : tie.invariant-loop
-invariant-loop plain size width area₀ writer₀ i₀ area writer i = (i ≤ length plain) × Puts area₀ writer₀ (first_bits size plain i) area writer
+abbrev invariant-loop-i : tie.invariant-loop-i
+invariant-loop-i plain size width area₀ writer₀ i₀ area writer i = (i ≤ length plain) × Puts area₀ writer₀ (first_bits size plain i) area writer
 
-abbrev decreases-loop : tie.decreases-loop
-decreases-loop plain size width area₀ writer₀ i₀ area writer i = length plain - i
+abbrev decreases-loop-i : tie.decreases-loop-i
+decreases-loop-i plain size width area₀ writer₀ i₀ area writer i = length plain - i
 
-abbrev after-area : tie.After-slice-known2 invariant-loop decreases-loop → tie.After-area invariant-loop decreases-loop
-after-area c = c.before
-
-abbrev counted : tie.At-loop invariant-loop decreases-loop → tie.After-put2 invariant-loop decreases-loop
+abbrev counted : tie.At-loop-i invariant-loop-i decreases-loop-i → tie.After-put-writer invariant-loop-i decreases-loop-i
 counted c = c.before.before.before
 
-abbrev begun : tie.After-put2 invariant-loop decreases-loop → tie.Start invariant-loop decreases-loop
+abbrev begun : tie.After-put-writer invariant-loop-i decreases-loop-i → tie.Start invariant-loop-i decreases-loop-i
 begun c = c.before.before.before.before.before.before.before.before
 
-abbrev turn : tie.After-shared-slice-known2 invariant-loop decreases-loop → tie.In-loop invariant-loop decreases-loop
+abbrev turn : tie.After-shared_slice_known-in-loop-i-1 invariant-loop-i decreases-loop-i → tie.In-loop-i invariant-loop-i decreases-loop-i
 turn c = c.before.before
 
-abbrev turned : tie.After-slice-known4 invariant-loop decreases-loop → tie.After-shared-slice-known2 invariant-loop decreases-loop
+abbrev turned : tie.After-slice_known-in-loop-i-1 invariant-loop-i decreases-loop-i → tie.After-shared_slice_known-in-loop-i-1 invariant-loop-i decreases-loop-i
 turned c = c.before.before.before
 
-cast-put : tie.Need-overflow-cast-put invariant-loop decreases-loop
-cast-put c = omega (arith, c.before.before.before.requires.1.short)
+overflow_cast-plain : tie.Need-overflow_cast-plain invariant-loop-i decreases-loop-i
+overflow_cast-plain c = omega (arith, c.requires.1.short)
 
-put-requires : tie.Need-put-requires invariant-loop decreases-loop
-put-requires c κs = (
+put-high-requires : tie.Need-put-high-requires invariant-loop-i decreases-loop-i
+put-high-requires c κs = (
   record { inside = omega arith; few = omega arith; small = omega arith },
   omega arith,
-  omega (arith, c.before.before.before.requires.1.short),
+  omega (arith, c.requires.1.short),
 )
 
-put-requires-2 : tie.Need-put-requires-2 invariant-loop decreases-loop
-put-requires-2 c κs = (c.before.before.before.put.ensures.writes, omega arith, omega arith)
+put-writer-requires : tie.Need-put-writer-requires invariant-loop-i decreases-loop-i
+put-writer-requires c κs = (c.put-high.ensures.writes, omega arith, omega arith)
 
-loop-holds : tie.Need-loop-init invariant-loop decreases-loop
-loop-holds c =
+loop-i-init : tie.Need-loop-i-init invariant-loop-i decreases-loop-i
+loop-i-init c =
     let p = c.before.before in
     let s = begun p in (
       omega arith,
-      subst (λ bs. Puts p.put2.new.0 p.put2.result bs p.put2.new.0 p.put2.result)
-          (first_none s.args.size s.args.width s.pre.0.width_is s.args.plain.now)
-          (puts_none p.put2.new.0 p.put2.result p.put2.ensures.writes),
+      subst (λ bs. Puts p.put-writer.new.area p.put-writer.result bs p.put-writer.new.area p.put-writer.result)
+          (first_none s.args.size s.args.width s.requires.0.width_is s.args.plain.now)
+          (puts_none p.put-writer.new.area p.put-writer.result p.put-writer.ensures.writes),
     )
 
-shared-slice-read-put-signed : tie.Need-shared-slice-read-put-signed invariant-loop decreases-loop
-shared-slice-read-put-signed c = omega (arith, (turn c).loop-test.true)
+bounds-plain-i : tie.Need-bounds-plain-i invariant-loop-i decreases-loop-i
+bounds-plain-i c = omega (arith, c.loop-i-test.true)
 
-put-signed-requires : tie.Need-put-signed-requires invariant-loop decreases-loop
-put-signed-requires c κs =
+put_signed-writer-requires : tie.Need-put_signed-writer-requires invariant-loop-i decreases-loop-i
+put_signed-writer-requires c κs =
     let l = (turn c).before in
     let s = begun (counted l) in
-    (l.loop.inv.1.writes, s.pre.0, s.pre.1.named l.loop.i (turn c).loop-test.true)
+    (l.loop-i.invariant.1.writes, s.requires.0, s.requires.1.named l.loop-i.i c.loop-i-test.true)
 
-add-i : tie.Need-overflow-add-i invariant-loop decreases-loop
-add-i c =
+overflow_add-i : tie.Need-overflow_add-i invariant-loop-i decreases-loop-i
+overflow_add-i c =
     let n = turn (turned c) in
-    omega (arith, n.loop-test.taken, (begun (counted n.before)).pre.1.short)
+    omega (arith, n.loop-i-test.true, (begun (counted n.before)).requires.1.short)
 
-loop-less : tie.Need-loop-smaller invariant-loop decreases-loop
-loop-less c = omega (arith, (turn (turned c)).loop-test.taken)
+loop-i-smaller : tie.Need-loop-i-smaller invariant-loop-i decreases-loop-i
+loop-i-smaller c = omega (arith, (turn (turned c)).loop-i-test.true)
 
-loop-again : tie.Need-loop-preserved invariant-loop decreases-loop
-loop-again c =
+loop-i-preserved : tie.Need-loop-i-preserved invariant-loop-i decreases-loop-i
+loop-i-preserved c =
     let n = turn (turned c) in
     let l = n.before in
     let p = counted l in
     let s = begun p in
-    let w = c.before.before.put-signed in (
-      omega (arith, n.loop-test.taken),
-      subst (λ bs. Puts p.put2.last.0 p.put2.result bs w.new.0 w.result)
-          (first_more s.args.size s.args.width s.pre.0.width_is s.args.plain.now l.loop.i n.loop-test.taken)
-          (puts_more p.put2.ensures.writes.inside l.loop.inv.1 w.ensures),
+    let w = c.put_signed-writer in (
+      omega (arith, n.loop-i-test.true),
+      subst (λ bs. Puts p.put-writer.new.area p.put-writer.result bs w.new.area w.result)
+          (first_more s.args.size s.args.width s.requires.0.width_is s.args.plain.now l.loop-i.i n.loop-i-test.true)
+          (puts_more p.put-writer.ensures.writes.inside l.loop-i.invariant.1 w.ensures),
     )
 
-same_length : tie.Need-same-length invariant-loop decreases-loop
-same_length c =
+shape_of-area : tie.Need-shape_of-area invariant-loop-i decreases-loop-i
+shape_of-area c =
     let l = c.before in
     let p = counted l in
-    l.loop.invariant.1.same_length ∙ (p.put2.ensures.same_length ∙ (after-area p.before.before).before.put.ensures.same_length)
+    l.loop-i.invariant.1.same_length ∙ (p.put-writer.ensures.same_length ∙ p.put-high.ensures.same_length)
 
-returns : tie.Need-returns invariant-loop decreases-loop
+returns : tie.Need-returns invariant-loop-i decreases-loop-i
 returns c =
     let l = c.before in
     let p = counted l in
     let s = begun p in
-    let first = (after-area p.before.before).before.put in
+    let first = p.put-high in
     let n = length s.args.plain.now in
-    subst (λ bs. Puts s.args.area.now (record { next = 0; held = 0; bits = 0 }) bs l.loop.area l.loop.writer)
-    (first_all s.args.size s.args.width s.pre.0.width_is s.args.plain.now l.loop.i (omega (arith, c.loop-test.false)))
+    subst (λ bs. Puts s.args.area.now (record { next = 0; held = 0; bits = 0 }) bs l.loop-i.area l.loop-i.writer)
+    (first_all s.args.size s.args.width s.requires.0.width_is s.args.plain.now l.loop-i.i (omega (arith, c.loop-i-test.false)))
     (puts_more (omega arith)
-    (subst (λ bs. Puts s.args.area.now (record { next = 0; held = 0; bits = 0 }) bs p.put2.last.0 p.put2.result) (count_parts n)
-    (puts_more (omega arith) first.ensures p.put2.ensures))
-    l.loop.invariant.1)
+    (subst (λ bs. Puts s.args.area.now (record { next = 0; held = 0; bits = 0 }) bs p.put-writer.new.area p.put-writer.result) (count_parts n)
+    (puts_more (omega arith) first.ensures p.put-writer.ensures))
+    l.loop-i.invariant.1)
 
-pub put-program-spec : {M : Type 1} → statement M
-put-program-spec =
-    tie.close (tie.spec invariant-loop decreases-loop cast-put put-requires (λ c. omega arith) put-requires-2 loop-holds shared-slice-read-put-signed put-signed-requires
-    add-i loop-less loop-again same_length returns)
+pub put_program_spec : {M : Type 1} → statement M
+put_program_spec =
+    tie.close (tie.spec invariant-loop-i decreases-loop-i overflow_cast-plain put-high-requires (λ c. omega arith) put-writer-requires loop-i-init
+    bounds-plain-i put_signed-writer-requires
+    overflow_add-i loop-i-smaller loop-i-preserved shape_of-area returns)

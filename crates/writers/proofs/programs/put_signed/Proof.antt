@@ -1,5 +1,5 @@
 -- `writers::programs::put_signed` meets its contract.
-use mathlib.Core.Path.{◌≡◌, subst}
+use mathlib.Core.Path.{subst}
 use Prim.Native.Nat.{◌+◌, ◌≤◌, ◌^◌}
 use native.Mathlib.Omega.{arith}
 use lib.Pow.{pow_mono}
@@ -13,11 +13,11 @@ use Rattle.writers.proofs.programs.put_signed.Tie as tie
 abbrev start : tie.After-put → tie.Start
 start c = c.before.before.before
 
-sub_number : tie.Need-overflow-sub-number
-sub_number c = named_positive c.before.args.size c.before.args.x c.before.requires.2
+overflow_sub-number : tie.Need-overflow_sub-number
+overflow_sub-number c = named_positive c.args.size c.args.x c.requires.2
 
-add-put-2 : tie.Need-overflow-add-put-2
-add-put-2 c =
+overflow_add-sign : tie.Need-overflow_add-sign
+overflow_add-sign c =
     let s = c.before.before in
     let most : 2 ^ (1 + s.args.width) ≤ 2 ^ 5 = pow_mono {j = 5} (omega (arith, s.requires.1.narrow)) in
     omega (arith, signed_fits s.args.size s.args.width s.args.x s.requires.1 (omega (arith, s.ranges.x)) s.requires.2)
@@ -30,11 +30,12 @@ put-requires c κs =
 returns : tie.Need-returns
 returns c =
     let s = start c.before.before in
-    let w = c.before.before.put in
-    subst (λ bs. Puts s.args.area.now s.args.begin bs w.new.0 w.result)
-    (signed_written s.args.size s.args.width s.args.x s.pre.1 (omega (arith, s.fits.x)) s.pre.2) w.ensures
+    let w = c.put in
+    subst (λ bs. Puts s.args.area.now s.args.begin bs w.new.area w.result)
+    (signed_written s.args.size s.args.width s.args.x s.requires.1 (omega (arith, s.ranges.x)) s.requires.2) w.ensures
 
-pub put-signed-spec : {M : Type 1} → statement M
-put-signed-spec =
-    tie.close (tie.spec (λ c. search rules) sub_number (λ c. search rules) (λ c. search rules) (λ c. search rules) add-put-2 put-requires (λ c. search rules)
+pub put_signed_spec : {M : Type 1} → statement M
+put_signed_spec =
+    tie.close (tie.spec (λ c. search rules) overflow_sub-number (λ c. search rules) (λ c. search rules) (λ c. search rules) overflow_add-sign put-requires
+    (λ c. search rules)
     returns)

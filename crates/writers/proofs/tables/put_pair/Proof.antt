@@ -16,91 +16,91 @@ use borrow.Author.Rules.{rules}
 use Rattle.writers.proofs.tables.put_pair.Statement.{statement}
 use Rattle.writers.proofs.tables.put_pair.Tie as tie
 
-abbrev start : tie.After-shared-slice-known2 → tie.Start
+abbrev start : tie.After-shared_slice_known-2-1 → tie.Start
 start c = c.before.before.before.before.before
 
-first_byte : (c : tie.After-shared-slice-known2) → get_or (start c).args.cells.now (cell_at (start c).args.a (start c).args.b) 0 ≡ get_or
-    (start c).args.cells.now c.before.before.Cell-at.result 0
-first_byte c = ap (λ i. get_or (start c).args.cells.now i 0) (sym c.before.before.Cell-at.ensures)
+first_byte : (c : tie.After-shared_slice_known-2-1) → get_or c.args.cells.now (cell_at c.args.a c.args.b) 0 ≡ get_or
+    c.args.cells.now c.cell_at-there.result 0
+first_byte c = ap (λ i. get_or c.args.cells.now i 0) (sym c.cell_at-there.ensures)
 
-abbrev told : tie.Else1 → tie.After-shared-slice-known2
+abbrev told : tie.Else-cells-there → tie.After-shared_slice_known-2-1
 told c = c.before
 
-abbrev first_else : tie.After-put-word-arg → tie.Else1
+abbrev first_else : tie.After-put_word-arg-1 → tie.Else-cells-there
 first_else c = c.before.before.before.before.before.before
 
-abbrev first-arg : tie.After-put-word-arg2 → tie.After-put-word-arg
-first-arg c = c.before.before.before.before
+abbrev first_arg : tie.After-put_word-arg-2-1 → tie.After-put_word-arg-1
+first_arg c = c.before.before.before.before
 
-abbrev opened : tie.After-slice-known2 → tie.Then1
+abbrev opened : tie.After-slice_known-then-cells-there-1 → tie.Then-cells-there
 opened c = c.before.before.before.before.before
 
-abbrev second-arg : tie.After-slice-known5 → tie.After-put-word-arg2
-second-arg c = c.before.before.before
+abbrev second_arg : tie.After-slice_known-4-1 → tie.After-put_word-arg-2-1
+second_arg c = c.before.before.before
 
 -- the two words of a pair that is not open, where the code looks for them
-words : (c : tie.Else1) (pair : Complement) → HoldsPair (start (told c)).args.size (start (told c)).args.cells.now (start (told c)).args.a
+words : (c : tie.Else-cells-there) (pair : Complement) → HoldsPair (start (told c)).args.size (start (told c)).args.cells.now (start (told c)).args.a
     (start (told c)).args.b pair
     → (x : Positive)
     × (y : Positive)
     × (pair ≡ complement x y)
-    × HoldsWord (start (told c)).args.size (start (told c)).args.cells.now (told c).before.before.Cell-at.result x
-    × HoldsWord (start (told c)).args.size (start (told c)).args.cells.now (told c).before.cell-at2.result y
+    × HoldsWord (start (told c)).args.size (start (told c)).args.cells.now c.cell_at-there.result x
+    × HoldsWord (start (told c)).args.size (start (told c)).args.cells.now c.cell_at-back.result y
 words c pair h =
     let k = told c in
     let s = start k in
-    let w = both_words s.args.size s.args.cells.now s.args.a s.args.b pair h (λ e. c.if1.false (sym (first_byte k) ∙ e)) in (
+    let w = both_words s.args.size s.args.cells.now s.args.a s.args.b pair h (λ e. c.if-cells-there.false (sym (first_byte k) ∙ e)) in (
       w.0,
       w.1,
       w.2,
-      subst (λ i. HoldsWord s.args.size s.args.cells.now i w.0) (sym k.before.before.Cell-at.ensures) w.3,
-      subst (λ i. HoldsWord s.args.size s.args.cells.now i w.1) (sym k.before.cell-at2.ensures) w.4,
+      subst (λ i. HoldsWord s.args.size s.args.cells.now i w.0) (sym k.cell_at-there.ensures) w.3,
+      subst (λ i. HoldsWord s.args.size s.args.cells.now i w.1) (sym k.cell_at-back.ensures) w.4,
     )
 
-inside : (c : tie.After-shared-slice-known2) → (c.before.before.Cell-at.result + cell_length ≤ length (start c).args.cells.now)
-    × (c.before.cell-at2.result + cell_length ≤ length (start c).args.cells.now)
+inside : (c : tie.After-shared_slice_known-2-1) → (c.cell_at-there.result + cell_length ≤ length c.args.cells.now)
+    × (c.cell_at-back.result + cell_length ≤ length c.args.cells.now)
 inside c =
     let s = start c in (
-      omega (arith, c.before.before.Cell-at.ensures, s.pre.1.0.high, s.pre.1.1.high, s.pre.3),
-      omega (arith, c.before.cell-at2.ensures, s.pre.1.0.high, s.pre.1.1.high, s.pre.3),
+      omega (arith, c.cell_at-there.ensures, s.requires.1.0.high, s.requires.1.1.high, s.requires.3),
+      omega (arith, c.cell_at-back.ensures, s.requires.1.0.high, s.requires.1.1.high, s.requires.3),
     )
 
-returns : tie.Need-returns
-returns c pair h =
+returns-then-cells-there : tie.Need-returns-then-cells-there
+returns-then-cells-there c pair h =
     let t = opened c in
     let k = t.before in
     let s = start k in
-    let w = c.before.before.put in
-    subst (λ pair. Puts s.args.area.now s.args.begin (pair_as s.args.form pair) w.new.0 w.result)
-    (sym (open_pair s.args.size s.args.cells.now s.args.a s.args.b pair h (first_byte k ∙ t.if1.taken))) w.ensures
+    let w = c.put in
+    subst (λ pair. Puts s.args.area.now s.args.begin (pair_as s.args.form pair) w.new.area w.result)
+    (sym (open_pair s.args.size s.args.cells.now s.args.a s.args.b pair h (first_byte k ∙ t.if-cells-there.true))) w.ensures
 
-put-word-requires : tie.Need-put-word-requires
-put-word-requires c κs =
+put_word-first-requires : tie.Need-put_word-first-requires
+put_word-first-requires c κs =
     let e = first_else c in
     let s = start (told e) in
-    let w = words e s.pre.0.pair s.pre.0.holds in
-    (record { word = w.0; holds = w.3 }, s.pre.2, (inside (told e)).0, c.before.before.before.put2.ensures.writes)
+    let w = words e s.requires.0.pair s.requires.0.holds in
+    (record { word = w.0; holds = w.3 }, s.requires.2, (inside (told e)).0, c.put-head.ensures.writes)
 
-put-word-requires-2 : tie.Need-put-word-requires-2
-put-word-requires-2 c κs =
-    let e = first_else (first-arg c) in
+put_word-requires : tie.Need-put_word-requires
+put_word-requires c κs =
+    let e = first_else (first_arg c) in
     let s = start (told e) in
-    let w = words e s.pre.0.pair s.pre.0.holds in
-    (record { word = w.1; holds = w.4 }, s.pre.2, (inside (told e)).1, (c.before.before.before.put_word.ensures w.0 w.3).writes)
+    let w = words e s.requires.0.pair s.requires.0.holds in
+    (record { word = w.1; holds = w.4 }, s.requires.2, (inside (told e)).1, (c.put_word-first.ensures w.0 w.3).writes)
 
-returns-2 : tie.Need-returns-2
-returns-2 c pair h =
-    let a = second-arg c in
-    let e = first_else (first-arg a) in
+returns : tie.Need-returns
+returns c pair h =
+    let a = second_arg c in
+    let e = first_else (first_arg a) in
     let s = start (told e) in
     let w = words e pair h in
-    let head = (first-arg a).before.before.before.put2 in
-    let first = a.before.before.before.put_word in
-    let second = c.before.before.put-word2 in
-    subst (λ pair. Puts s.args.area.now s.args.begin (pair_as s.args.form pair) second.new.1.1.1.1.0 second.result) (sym w.2)
-    (puts_more s.pre.4.inside head.ensures (puts_more head.ensures.writes.inside (first.ensures w.0 w.3) (second.ensures w.1 w.4)))
+    let head = a.put-head in
+    let first = a.put_word-first in
+    let second = c.put_word in
+    subst (λ pair. Puts s.args.area.now s.args.begin (pair_as s.args.form pair) second.new.area second.result) (sym w.2)
+    (puts_more s.requires.4.inside head.ensures (puts_more head.ensures.writes.inside (first.ensures w.0 w.3) (second.ensures w.1 w.4)))
 
-pub put-pair-spec : {M : Type 1} → statement M
-put-pair-spec =
+pub put_pair_spec : {M : Type 1} → statement M
+put_pair_spec =
     tie.close (tie.spec (λ c κs. search rules) (λ c κs. search rules) (λ c. search rules) (λ c. search rules) (λ c κs. search rules) (λ c. search rules)
-    returns (λ c. search rules) (λ c κs. search rules) put-word-requires put-word-requires-2 (λ c. search rules) returns-2)
+    returns-then-cells-there (λ c. search rules) (λ c κs. search rules) put_word-first-requires put_word-requires (λ c. search rules) returns)

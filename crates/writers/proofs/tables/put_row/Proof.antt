@@ -15,39 +15,39 @@ use Rattle.writers.proofs.Parts.{row_pair, row_more, row_all}
 use Rattle.writers.proofs.tables.put_row.Statement.{statement}
 use Rattle.writers.proofs.tables.put_row.Tie as tie
 
-abbrev invariant-loop : tie.invariant-loop
-invariant-loop cells size a form area₀ writer₀ b₀ area writer b =
+abbrev invariant-loop-b : tie.invariant-loop-b
+invariant-loop-b cells size a form area₀ writer₀ b₀ area writer b =
     (a < b)
     × (b ≤ size + 1)
     × ((row : List Complement) → HoldsRow size cells a row → length row + a ≡ size → Puts area₀ writer₀ (concat_map (pair_as form) (take (b - a - 1) row)) area
     writer)
 
-abbrev decreases-loop : tie.decreases-loop
-decreases-loop cells size a form area₀ writer₀ b₀ area writer b = size + 1 - b
+abbrev decreases-loop-b : tie.decreases-loop-b
+decreases-loop-b cells size a form area₀ writer₀ b₀ area writer b = size + 1 - b
 
-abbrev start : tie.At-loop invariant-loop decreases-loop → tie.Start invariant-loop decreases-loop
+abbrev start : tie.At-loop-b invariant-loop-b decreases-loop-b → tie.Start invariant-loop-b decreases-loop-b
 start c = c.before.before.before
 
-abbrev turn : tie.After-slice-known2 invariant-loop decreases-loop → tie.In-loop invariant-loop decreases-loop
+abbrev turn : tie.After-slice_known-in-loop-b-1 invariant-loop-b decreases-loop-b → tie.In-loop-b invariant-loop-b decreases-loop-b
 turn c = c.before.before.before.before
 
-passed : (c : tie.At-loop invariant-loop decreases-loop) → Writes c.loop.area c.loop.writer
-passed c = (c.loop.invariant.2 (start c).requires.0.row (start c).requires.0.holds (start c).requires.0.row_length).writes
+passed : (c : tie.At-loop-b invariant-loop-b decreases-loop-b) → Writes c.loop-b.area c.loop-b.writer
+passed c = (c.loop-b.invariant.2 c.requires.0.row c.requires.0.holds c.requires.0.row_length).writes
 
-pair : (c : tie.In-loop invariant-loop decreases-loop) (row : List Complement) → HoldsRow (start c.before).args.size (start c.before).args.cells.now
-    (start c.before).args.a row
-    → length row + (start c.before).args.a ≡ (start c.before).args.size
-    → HoldsPair (start c.before).args.size (start c.before).args.cells.now (start c.before).args.a c.before.loop.b
-    (get_or row (c.before.loop.b - (start c.before).args.a - 1) undefined)
+pair : (c : tie.In-loop-b invariant-loop-b decreases-loop-b) (row : List Complement) → HoldsRow c.args.size c.args.cells.now
+    c.args.a row
+    → length row + c.args.a ≡ c.args.size
+    → HoldsPair c.args.size c.args.cells.now c.args.a c.loop-b.b
+    (get_or row (c.loop-b.b - c.args.a - 1) undefined)
 pair c row h v =
     let s = start c.before in
-    row_pair s.args.size s.args.cells.now s.args.a row h v c.before.loop.b c.before.loop.invariant.0 c.loop-test.true
+    row_pair s.args.size s.args.cells.now s.args.a row h v c.loop-b.b c.loop-b.invariant.0 c.loop-b-test.true
 
-add-b : tie.Need-overflow-add-b invariant-loop decreases-loop
-add-b c = omega (arith, c.before.before.requires.0.below, c.before.before.requires.0.few)
+overflow_add-b : tie.Need-overflow_add-b invariant-loop-b decreases-loop-b
+overflow_add-b c = omega (arith, c.requires.0.below, c.requires.0.few)
 
-loop-holds : tie.Need-loop-init invariant-loop decreases-loop
-loop-holds c =
+loop-b-init : tie.Need-loop-b-init invariant-loop-b decreases-loop-b
+loop-b-init c =
     let s = c.before.before in (
       omega arith,
       omega (arith, s.requires.0.below),
@@ -58,56 +58,57 @@ loop-holds c =
           (puts_none s.args.area.now s.args.begin s.requires.3),
     )
 
-put-pair-requires : tie.Need-put-pair-requires invariant-loop decreases-loop
-put-pair-requires c κs =
+put_pair-writer-requires : tie.Need-put_pair-writer-requires invariant-loop-b decreases-loop-b
+put_pair-writer-requires c κs =
     let n = c.before in
     let l = n.before in
     let s = start l in (
       record {
-        pair = get_or s.pre.0.row (l.loop.b - s.args.a - 1) undefined;
+        pair = get_or s.requires.0.row (l.loop-b.b - s.args.a - 1) undefined;
         holds =
-            pair n s.pre.0.row s.pre.0.holds s.pre.0.row_length;
+            pair n s.requires.0.row s.requires.0.holds s.requires.0.row_length;
       },
       (
-        record { low = s.pre.0.positive; high = omega (arith, s.pre.0.below, s.pre.0.few) },
-        record { low = omega (arith, l.loop.invariant.0); high = omega (arith, n.loop-test.true, s.pre.0.few) },
+        record { low = s.requires.0.positive; high = omega (arith, s.requires.0.below, s.requires.0.few) },
+        record { low = omega (arith, l.loop-b.invariant.0); high = omega (arith, n.loop-b-test.true, s.requires.0.few) },
       ),
-      s.pre.1,
-      s.pre.2,
+      s.requires.1,
+      s.requires.2,
       passed l,
     )
 
-add-b-2 : tie.Need-overflow-add-b-2 invariant-loop decreases-loop
-add-b-2 c = omega (arith, (turn c).loop-test.true, (start (turn c).before).pre.0.few)
+overflow_add-b-in-loop-b : tie.Need-overflow_add-b-in-loop-b invariant-loop-b decreases-loop-b
+overflow_add-b-in-loop-b c = omega (arith, c.loop-b-test.true, (start (turn c).before).requires.0.few)
 
-loop-less : tie.Need-loop-smaller invariant-loop decreases-loop
-loop-less c = omega (arith, (turn c).loop-test.true)
+loop-b-smaller : tie.Need-loop-b-smaller invariant-loop-b decreases-loop-b
+loop-b-smaller c = omega (arith, c.loop-b-test.true)
 
-loop-again : tie.Need-loop-preserved invariant-loop decreases-loop
-loop-again c =
+loop-b-preserved : tie.Need-loop-b-preserved invariant-loop-b decreases-loop-b
+loop-b-preserved c =
     let n = turn c in
     let l = n.before in
     let s = start l in
-    let w = c.before.before.put-pair in (
-      omega (arith, l.loop.inv.0),
-      omega (arith, n.loop-test.taken),
+    let w = c.put_pair-writer in (
+      omega (arith, l.loop-b.invariant.0),
+      omega (arith, n.loop-b-test.true),
       λ row h v.
-          subst (λ bs. Puts s.args.area.now s.args.begin bs w.new.1.1.1.1.1.0 w.result)
-          (row_more (pair_as s.args.form) s.args.size s.args.cells.now s.args.a row h v l.loop.b l.loop.inv.0 n.loop-test.taken)
-          (puts_more s.pre.3.inside (l.loop.inv.2 row h v) (w.ensures (get_or row (l.loop.b - s.args.a - 1) undefined) (pair n row h v))),
+          subst (λ bs. Puts s.args.area.now s.args.begin bs w.new.area w.result)
+          (row_more (pair_as s.args.form) s.args.size s.args.cells.now s.args.a row h v l.loop-b.b l.loop-b.invariant.0 n.loop-b-test.true)
+          (puts_more s.requires.3.inside (l.loop-b.invariant.2 row h v) (w.ensures (get_or row (l.loop-b.b - s.args.a - 1) undefined) (pair n row h v))),
     )
 
-same_length : tie.Need-same-length invariant-loop decreases-loop
-same_length c =
+shape_of-area : tie.Need-shape_of-area invariant-loop-b decreases-loop-b
+shape_of-area c =
     let s = start c.before in
-    (c.before.loop.invariant.2 s.pre.0.row s.pre.0.holds s.pre.0.row_length).same_length
+    (c.loop-b.invariant.2 s.requires.0.row s.requires.0.holds s.requires.0.row_length).same_length
 
-returns : tie.Need-returns invariant-loop decreases-loop
+returns : tie.Need-returns invariant-loop-b decreases-loop-b
 returns c row h v =
     let l = c.before in
     let s = start l in
-    subst (λ bs. Puts s.args.area.now s.args.begin bs l.loop.area l.loop.writer)
-    (row_all (pair_as s.args.form) s.args.size s.args.cells.now s.args.a row h v l.loop.b c.loop-test.false) (l.loop.invariant.2 row h v)
+    subst (λ bs. Puts s.args.area.now s.args.begin bs l.loop-b.area l.loop-b.writer)
+    (row_all (pair_as s.args.form) s.args.size s.args.cells.now s.args.a row h v l.loop-b.b c.loop-b-test.false) (l.loop-b.invariant.2 row h v)
 
-pub put-row-spec : {M : Type 1} → statement M
-put-row-spec = tie.close (tie.spec invariant-loop decreases-loop add-b loop-holds put-pair-requires add-b-2 loop-less loop-again same_length returns)
+pub put_row_spec : {M : Type 1} → statement M
+put_row_spec = tie.close (tie.spec invariant-loop-b decreases-loop-b overflow_add-b loop-b-init put_pair-writer-requires overflow_add-b-in-loop-b loop-b-smaller
+    loop-b-preserved shape_of-area returns)

@@ -1,7 +1,7 @@
 -- `writers::tables::put_rows` meets its contract. The loop's invariant: the rows passed are put.
-use mathlib.Core.Path.{◌≡◌, subst}
+use mathlib.Core.Path.{subst}
 use mathlib.Core.List.{List, []}
-use Prim.Native.Nat.{◌+◌, ◌-◌, ◌≤◌, ◌<◌}
+use Prim.Native.Nat.{◌+◌, ◌-◌, ◌≤◌}
 use native.Mathlib.Omega.{arith}
 use lib.ListN.{take, get_or}
 use Rattle.model.specs.Presentation.{Complement}
@@ -14,68 +14,69 @@ use Rattle.writers.proofs.Parts.{some_row, table_row, table_width, table_more, t
 use Rattle.writers.proofs.tables.put_rows.Statement.{statement}
 use Rattle.writers.proofs.tables.put_rows.Tie as tie
 
-abbrev invariant-loop : tie.invariant-loop
-invariant-loop cells size form area₀ writer₀ a₀ area writer a =
+abbrev invariant-loop-a : tie.invariant-loop-a
+invariant-loop-a cells size form area₀ writer₀ a₀ area writer a =
     (1 ≤ a)
     × (a ≤ size + 1)
     × ((rows : List (List Complement)) → RowsHeld size cells rows → Puts area₀ writer₀ (concat_map (concat_map (pair_as form)) (take (a - 1) rows)) area writer)
 
-abbrev decreases-loop : tie.decreases-loop
-decreases-loop cells size form area₀ writer₀ a₀ area writer a = size + 1 - a
+abbrev decreases-loop-a : tie.decreases-loop-a
+decreases-loop-a cells size form area₀ writer₀ a₀ area writer a = size + 1 - a
 
-abbrev start : tie.At-loop invariant-loop decreases-loop → tie.Start invariant-loop decreases-loop
+abbrev start : tie.At-loop-a invariant-loop-a decreases-loop-a → tie.Start invariant-loop-a decreases-loop-a
 start c = c.before.before.before
 
-abbrev turn : tie.After-slice-known2 invariant-loop decreases-loop → tie.In-loop invariant-loop decreases-loop
+abbrev turn : tie.After-slice_known-in-loop-a-1 invariant-loop-a decreases-loop-a → tie.In-loop-a invariant-loop-a decreases-loop-a
 turn c = c.before.before.before.before
 
-passed : (c : tie.At-loop invariant-loop decreases-loop) → Writes c.loop.area c.loop.writer
-passed c = (c.loop.invariant.2 (start c).requires.0.rows (start c).requires.0.listed).writes
+passed : (c : tie.At-loop-a invariant-loop-a decreases-loop-a) → Writes c.loop-a.area c.loop-a.writer
+passed c = (c.loop-a.invariant.2 c.requires.0.rows c.requires.0.listed).writes
 
-loop-holds : tie.Need-loop-init invariant-loop decreases-loop
-loop-holds c =
+loop-a-init : tie.Need-loop-a-init invariant-loop-a decreases-loop-a
+loop-a-init c =
     let s = c.before.before in
     (omega arith, omega arith, λ rows h. puts_none s.args.area.now s.args.begin s.requires.3)
 
-put-row-requires : tie.Need-put-row-requires invariant-loop decreases-loop
-put-row-requires c κs =
+put_row-writer-requires : tie.Need-put_row-writer-requires invariant-loop-a decreases-loop-a
+put_row-writer-requires c κs =
     let n = c.before in
     let l = n.before in
     let s = start l in
-    (some_row s.args.size s.args.cells.now s.pre.0 l.loop.a l.loop.invariant.0 n.loop-test.true, s.pre.1, s.pre.2, passed l)
+    (some_row s.args.size s.args.cells.now s.requires.0 l.loop-a.a l.loop-a.invariant.0 n.loop-a-test.true, s.requires.1, s.requires.2, passed l)
 
-add_a : tie.Need-overflow-add-a invariant-loop decreases-loop
-add_a c = omega (arith, (turn c).loop-test.true, (start (turn c).before).pre.0.few)
+overflow_add-a : tie.Need-overflow_add-a invariant-loop-a decreases-loop-a
+overflow_add-a c = omega (arith, c.loop-a-test.true, (start (turn c).before).requires.0.few)
 
-loop-less : tie.Need-loop-smaller invariant-loop decreases-loop
-loop-less c = omega (arith, (turn c).loop-test.true)
+loop-a-smaller : tie.Need-loop-a-smaller invariant-loop-a decreases-loop-a
+loop-a-smaller c = omega (arith, c.loop-a-test.true)
 
-loop-again : tie.Need-loop-preserved invariant-loop decreases-loop
-loop-again c =
+loop-a-preserved : tie.Need-loop-a-preserved invariant-loop-a decreases-loop-a
+loop-a-preserved c =
     let n = turn c in
     let l = n.before in
     let s = start l in
-    let w = c.before.before.put-row in (
-      omega (arith, l.loop.inv.0),
-      omega (arith, n.loop-test.taken),
+    let w = c.put_row-writer in (
+      omega (arith, l.loop-a.invariant.0),
+      omega (arith, n.loop-a-test.true),
       λ rows h.
-          subst (λ bs. Puts s.args.area.now s.args.begin bs w.new.1.1.1.1.0 w.result)
-          (table_more (pair_as s.args.form) s.args.size s.args.cells.now rows h l.loop.a l.loop.inv.0 n.loop-test.taken)
-          (puts_more s.pre.3.inside (l.loop.inv.2 rows h)
-          (w.ensures (get_or rows (l.loop.a - 1) [])
-          (table_row s.args.size s.args.cells.now rows h l.loop.a l.loop.inv.0 n.loop-test.taken)
-          (table_width s.args.size s.args.cells.now rows h l.loop.a l.loop.inv.0 n.loop-test.taken))),
+          subst (λ bs. Puts s.args.area.now s.args.begin bs w.new.area w.result)
+          (table_more (pair_as s.args.form) s.args.size s.args.cells.now rows h l.loop-a.a l.loop-a.invariant.0 n.loop-a-test.true)
+          (puts_more s.requires.3.inside (l.loop-a.invariant.2 rows h)
+          (w.ensures (get_or rows (l.loop-a.a - 1) [])
+          (table_row s.args.size s.args.cells.now rows h l.loop-a.a l.loop-a.invariant.0 n.loop-a-test.true)
+          (table_width s.args.size s.args.cells.now rows h l.loop-a.a l.loop-a.invariant.0 n.loop-a-test.true))),
     )
 
-same_length : tie.Need-same-length invariant-loop decreases-loop
-same_length c = (c.before.loop.invariant.2 (start c.before).pre.0.rows (start c.before).pre.0.listed).same_length
+shape_of-area : tie.Need-shape_of-area invariant-loop-a decreases-loop-a
+shape_of-area c = (c.loop-a.invariant.2 c.requires.0.rows c.requires.0.listed).same_length
 
-returns : tie.Need-returns invariant-loop decreases-loop
+returns : tie.Need-returns invariant-loop-a decreases-loop-a
 returns c rows h =
     let l = c.before in
     let s = start l in
-    subst (λ bs. Puts s.args.area.now s.args.begin bs l.loop.area l.loop.writer)
-    (table_all (pair_as s.args.form) s.args.size s.args.cells.now rows h l.loop.a c.loop-test.false) (l.loop.invariant.2 rows h)
+    subst (λ bs. Puts s.args.area.now s.args.begin bs l.loop-a.area l.loop-a.writer)
+    (table_all (pair_as s.args.form) s.args.size s.args.cells.now rows h l.loop-a.a c.loop-a-test.false) (l.loop-a.invariant.2 rows h)
 
-pub put-rows-spec : {M : Type 1} → statement M
-put-rows-spec = tie.close (tie.spec invariant-loop decreases-loop loop-holds put-row-requires add_a loop-less loop-again same_length returns)
+pub put_rows_spec : {M : Type 1} → statement M
+put_rows_spec = tie.close (tie.spec invariant-loop-a decreases-loop-a loop-a-init put_row-writer-requires overflow_add-a loop-a-smaller loop-a-preserved
+    shape_of-area returns)
