@@ -1,10 +1,12 @@
 // Runs two cases of specification 10 that Sheet.antt of the model has not, one line for each: case 2, allowance 5; and that case 14 stops.
+#![tactic(auto)]
+
 ghost use Rattle.std.specs.Prelude.{◌≡◌, length};
 
 use clearing::clear::clear;
-use libc::STDOUT_FILENO;
 use model::answers::{Cleared, Refusal, Reversed};
 use reversal::reverse::reverse;
+use std::io;
 
 // Whether a refusal is 11 or 12.
 fn is_stop(refusal: Refusal) -> bool {
@@ -57,22 +59,19 @@ fn five_finish(workspace: &mut [u8], answer: &mut [u8]) -> bool {
     }
 }
 
-fn tell(passed: bool) {
+fn tell(rt: &impl Print, passed: bool) -> io::Result<()> {
     if passed {
-        io::write_all(STDOUT_FILENO, b": holds\n");
+        println!(rt; ": holds")
     } else {
-        io::write_all(STDOUT_FILENO, b": FAILS\n");
+        println!(rt; ": FAILS")
     }
 }
 
-fn main() {
+fn main(rt: HostRuntime) -> io::Result<()> {
     let mut workspace = [0u8; 32768];
     let mut answer = [0u8; 32768];
-    io::write_all(STDOUT_FILENO, b"allowance 5 finishes the first program");
-    tell(five_finish(&mut workspace, &mut answer));
-    io::write_all(
-        STDOUT_FILENO,
-        b"clearing the endless table stops at every allowance",
-    );
-    tell(endless_always_stops(&mut workspace));
+    print!(rt; "allowance 5 finishes the first program")?;
+    tell(&rt, five_finish(&mut workspace, &mut answer))?;
+    print!(rt; "clearing the endless table stops at every allowance")?;
+    tell(&rt, endless_always_stops(&mut workspace))
 }
