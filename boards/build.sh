@@ -17,10 +17,10 @@ text=target/boards/braid.ll
     fail "the kit's clang does not write the module as text"
 calls=$(sed -n 's/^BRAID_CALL uint8_t \(braid_[a-z_]*\)(.*/\1/p' include/braid.h)
 
-# flags TARGET: what the compiler is told of a target. The small ones are made for size.
+# flags TARGET: what the compiler is told of a target: of x86-64 what rt tells it. The small ones are made for size.
 flags() {
     case $1 in
-    x86_64-linux) echo "--target=x86_64-unknown-linux-gnu -O3" ;;
+    x86_64-linux) cat target/boards/braid.flags ;;
     aarch64-linux) echo "--target=aarch64-unknown-linux-gnu -O3" ;;
     riscv64-linux) echo "--target=riscv64-unknown-linux-gnu -march=rv64gc -mabi=lp64d -O3" ;;
     armv7-linux) echo "--target=armv7-unknown-linux-gnueabihf -march=armv7-a -mfloat-abi=hard -mfpu=vfpv3-d16 -O3" ;;
@@ -48,9 +48,8 @@ for target; do
     "$tools/clang" $(flags "$target") -ffunction-sections -c -x ir "$out/braid.ll" -o "$out/braid.o" || fail "the module was not compiled for $target"
     "$tools/llvm-ar" rcs "$out/libbraid.a" "$out/braid.o" || fail "the archive for $target was not written"
     if [ "$target" = wasm32 ]; then
-        ln -s "$tools/ld.lld" "$out/wasm-ld"
         # shellcheck disable=SC2046
-        "$out/wasm-ld" --no-entry -z stack-size=65536 --export=__heap_base $(echo "$calls" | sed 's/^/--export=/') "$out/braid.o" -o "$out/braid.wasm" ||
+        wasm_ld --no-entry -z stack-size=65536 --export=__heap_base $(echo "$calls" | sed 's/^/--export=/') "$out/braid.o" -o "$out/braid.wasm" ||
             fail "braid.wasm was not linked"
     fi
 done

@@ -4,11 +4,15 @@ known=22
 fail() { echo "$script: $1" >&2; exit "${2:-2}"; }
 
 command -v rt > /dev/null || fail "there is no rt on the PATH: install the Rattle toolchain"
-kit=${RATTLE_HOME:-$(dirname "$(dirname "$(rt doc)")")}
-tools=$kit/on/$(uname -m)/toolchain/bin
+kit=${RATTLE_HOME:-$(dirname "$(rt doc)")}
+tools=$kit/toolchain/bin
 for tool in clang ld.lld llvm-ar; do
-    [ -x "$tools/$tool" ] || fail "the kit at $kit has no $tool at on/$(uname -m)/toolchain/bin: it is not the kit that this script knows"
+    [ -x "$tools/$tool" ] || fail "the kit at $kit has no $tool at toolchain/bin: it is not the kit that this script knows"
 done
 version=$("$tools/clang" --version | sed -n '1s/.*version \([0-9]*\).*/\1/p')
 [ "$version" = "$known" ] ||
     fail "the kit's clang has version ${version:-unknown}, and this script knows $known: look whether rt still makes one module, and enter it in boards/kit.sh"
+
+# The kit's linker for WebAssembly. It is told by its first words: under the name wasm-ld it would be a link below the project's folder, which `rt ci`
+# refuses.
+wasm_ld() { "$tools/ld.lld" -flavor wasm "$@"; }

@@ -87,7 +87,7 @@ same_code() {
     code target/boards/x86_64-linux/libbraid.a > $work/code.here
     functions=$(grep -c '^<.*>:$' $work/code.rt)
     [ "$functions" -gt 0 ] && cmp -s $work/code.rt $work/code.here
-    one "x86_64-linux: the code that rt staticlib makes, $functions functions" $?
+    one "x86_64-linux: the code that rt lib makes, $functions functions" $?
 }
 
 # sources LIST FOLDER: the C files of parts
@@ -154,7 +154,7 @@ on_board() {
 # are left out, and cases that take more memory are told as not run
 on_microbit() {
     awk '/^case / { block = ""; fits = 1 }
-        /^call (left_reverse|mirror_clear|compare_signed)$/ { fits = 0 }
+        /^call (reverse|left_reverse|commit|clear|mirror_clear|compare_signed)$/ { fits = 0 }
         { block = block $0 "\n" }
         /^$/ { if (fits) { printf "%s", block; count++ } block = "" }
         /^braid vectors/ { print $0 "\n"; block = "" ; fits = 0 }
@@ -181,7 +181,7 @@ in_node() {
         objects="$objects $object"
     done
     # shellcheck disable=SC2086
-    target/boards/wasm32/wasm-ld --no-entry -z stack-size=262144 --wrap=make_call --wrap=run_vectors --allow-undefined --export=vectors --export=stream \
+    wasm_ld --no-entry -z stack-size=262144 --wrap=make_call --wrap=run_vectors --allow-undefined --export=vectors --export=stream \
         $objects target/boards/wasm32/libbraid.a -o $work/runner.wasm || { one "wasm32: the runner is linked" 1; return; }
     node boards/wasm/run.mjs $work/runner.wasm vectors $vectors > $work/report
     judged wasm32

@@ -53,7 +53,7 @@ while [ $# -gt 0 ]; do
 done
 [ -n "$library" ] || bad "no library is named: name the static library that is to be tried"
 [ -f "$library" ] || bad "there is no library $library: name the static library that is to be tried"
-[ -f "$ours" ] || bad "our library $ours is not there: build it with 'sh tests/library.sh' or 'rt staticlib braid', or name it with --ours"
+[ -f "$ours" ] || bad "our library $ours is not there: build it with 'sh tests/library.sh', or name it with --ours"
 for tool in "${LD:-ld}" "${OBJCOPY:-objcopy}"; do
     command -v "$tool" > /dev/null || bad "there is no $tool, with which our calls are renamed: install it, or name another with LD or OBJCOPY"
 done

@@ -23,16 +23,22 @@ vectors=${1:-$here/vectors.txt}
 listed=$here/unreached.txt
 [ -f "$listed" ] || fail "there is no file $listed: it lists the edges that no call can reach"
 sh "$top/boards/module.sh" || fail "the library's module is missing: boards/module.sh says above why"
-kit=${RATTLE_HOME:-$(dirname "$(dirname "$(rt doc)")")}
-tools=$kit/on/$(uname -m)/toolchain/bin
-[ -x "$tools/llvm-ar" ] || fail "the kit at $kit has no llvm-ar at on/$(uname -m)/toolchain/bin: it is not the kit that this script knows"
+kit=${RATTLE_HOME:-$(dirname "$(rt doc)")}
+tools=$kit/toolchain/bin
+[ -x "$tools/llvm-ar" ] || fail "the kit at $kit has no llvm-ar at toolchain/bin: it is not the kit that this script knows"
 
 out=$top/target/coverage
 mkdir -p "$out" || fail "$out cannot be made"
 rm -f "$out"/*
 
+# All calls tell a refusal by one function. It stays one: put into each call by the compiler, most of its cases there would be refusals of other calls.
+"$tools/clang" --target=x86_64-unknown-linux-gnu -S -emit-llvm -O0 -Xclang -disable-llvm-passes -x ir "$top/target/boards/braid.bc" -o "$out/module.ll" ||
+    fail "the kit's clang does not write the module as text: it says above why"
+once='^define .*@"numbering::refusals::refusal_numbers"[(]'
+[ "$(grep -c "$once" "$out/module.ll")" -eq 1 ] || fail "the module has no function numbering::refusals::refusal_numbers: look how all calls tell a refusal"
+sed "/$once/s/ #[0-9]* {\$/ noinline&/" "$out/module.ll" > "$out/apart.ll"
 # The object is made from the text whose edges are named, without any further change to it, so that the two have the same guards.
-"$tools/clang" -O1 -fsanitize-coverage=trace-pc-guard -S -emit-llvm -x ir "$top/target/boards/braid.bc" -o "$out/braid.ll" ||
+"$tools/clang" -O1 -fsanitize-coverage=trace-pc-guard -S -emit-llvm -x ir "$out/apart.ll" -o "$out/braid.ll" ||
     fail "the kit's clang put no calls on the edges of the module: it says above why"
 "$tools/clang" -O1 -Xclang -disable-llvm-passes -c -x ir "$out/braid.ll" -o "$out/braid.o" ||
     fail "the kit's clang did not compile $out/braid.ll: it says above why"

@@ -1,6 +1,7 @@
 #!/bin/sh
 # Writes the path of an archive that tests/speed.sh --before links beside the library: libbraid.a of a revision, with before_ before the name of each symbol
-# that it gives, so that both may stand in one program. Usage: tests/before.sh REVISION | ARCHIVE, with git and rt for a revision; an archive is only renamed.
+# that it gives, so that both may stand in one program. Usage: tests/before.sh REVISION | ARCHIVE, with git and rt for a revision, which is one that the
+# installed Rattle proves; an archive is only renamed.
 cd "$(dirname "$0")/.." || exit 1
 [ $# -eq 1 ] || { echo "tests/before.sh REVISION | ARCHIVE" >&2; exit 2; }
 mkdir -p target/before || exit 1
@@ -13,7 +14,7 @@ if [ -f "$1" ]; then
 else
     name=$(git rev-parse --short --verify --quiet "$1^{commit}") || { echo "no revision and no archive: $1" >&2; exit 2; }
     git clone -q . "$work/tree" && git -C "$work/tree" checkout -q "$name" || exit 1
-    (cd "$work/tree" && rt staticlib braid) > "$work/log" 2>&1 || { cat "$work/log" >&2; echo "the library of $name was not built" >&2; exit 1; }
+    sh "$work/tree/tests/library.sh" > "$work/log" 2>&1 || { cat "$work/log" >&2; echo "the library of $name was not built" >&2; exit 1; }
     archive=$work/tree/target/staticlib/libbraid.a
 fi
 

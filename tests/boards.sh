@@ -69,6 +69,8 @@ if ! grep -q '^not run: the boards' "$work/report"; then
     for command in sh sed awk grep cat cp mkdir rm ln mv basename dirname readlink find tail head wc cmp tr uname rt gcc ld as ar objdump mktemp sort env id; do
         [ -z "$(command -v $command)" ] || ln -s "$(command -v $command)" "$work/bin/$command"
     done
+    # rt is a program in Python: the interpreter itself, since what stands on the path may be a script that looks for it.
+    ln -s "$(python3 -c 'import sys; print(sys.executable)')" "$work/bin/python3"
     PATH=$work/bin CI=false sh boards/test.sh --small --calls 10 riscv64-linux > "$work/out" 2>&1
     status=$?
     if [ $status -eq 0 ] && grep -q '^not run: riscv64-linux, for which qemu-riscv64 riscv64-linux-gnu-gcc is missing: apt-get ' "$work/out" &&

@@ -88,21 +88,7 @@ faults() {
 # fits TREE: each edit of which an 'old:' text does not stand in its file exactly once, as `rt` would find it much later
 fits() {
     for edit in "$1"/crates/*/must-fail/*.edit; do
-        awk -v edit="${edit#"$1"/}" -v crate="${edit%/must-fail/*}" '
-            /^file: / { file = substr($0, 7) }
-            /^old: / { old = substr($0, 6) }
-            /^new:/ {
-                new = substr($0, 5)
-                sub(/^ /, "", new)
-                if (!(file in text)) {
-                    while ((getline line < (crate "/" file)) > 0) text[file] = text[file] line "\n"
-                    close(crate "/" file)
-                }
-                at = old == "" ? 0 : index(text[file], old)
-                rest = substr(text[file], at + length(old))
-                if (!at || index(rest, old)) { print edit ": the text stands " (at ? "more than once" : "not") " in " file ": " substr(old, 1, 100); exit }
-                text[file] = substr(text[file], 1, at - 1) new rest
-            }' "$edit"
+        awk -v crate="${edit%/must-fail/*}" -f tests/edited.awk "$edit" | sed "s|^|${edit#"$1"/}: |"
     done
 }
 

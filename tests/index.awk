@@ -179,7 +179,7 @@ kind == "specification" { next }
 }
 
 # who cites the statements of the theory
-kind == "specs" && crate != "theory" && /^use Rattle·theory\.specs\./ {
+kind == "specs" && crate != "theory" && /^use Rattle\.theory\.specs\./ {
     line = $0
     sub(/^[^{]*\{/, "", line)
     sub(/\}.*/, "", line)
@@ -190,15 +190,15 @@ kind == "specs" && crate != "theory" && /^use Rattle·theory\.specs\./ {
 
 # THE PROMISES OF SERVICES: the fields of a record `..Promise`, each with the definitions that it cites
 
-kind == "specs" && /^use Rattle·/ {
+kind == "specs" && /^use Rattle\./ && !/^use Rattle\.std\./ {
     line = $0
-    sub(/^use Rattle·/, "", line)
+    sub(/^use Rattle\./, "", line)
     imports(line)
 }
 # what a line of imports brings in: where each name is from
 function imports(line,    from, module, imported, m, i, as, name) {
     from = line
-    sub(/[·.].*/, "", from)
+    sub(/\..*/, "", from)
     sub(/^[^{]*specs\./, "", line)
     module = line
     sub(/\..*/, "", module)
@@ -228,13 +228,13 @@ function cited_in(text,    tokens, m, i, seen_here, place, module, found) {
 }
 function promise_done() {
     if (field == "") return
-    sub(/-is$/, "", field)
+    sub(/_is$/, "", field)
     promised[promise] = promised[promise] (promised[promise] == "" ? "" : "\n") "  - `" field "`\t" cited_in(field_text)
     promised_names[promise] = promised_names[promise] (promised_names[promise] == "" ? "" : ", ") "`" field "`"
     field = ""
 }
 kind == "specs" && /^[^ ]/ { promise_done(); promise = "" }
-kind == "specs" && promise != "" && /^ +pub [a-z-]+ :/ { promise_done(); field = $2; field_text = "" }
+kind == "specs" && promise != "" && /^ +pub [a-z_]+ :/ { promise_done(); field = $2; field_text = "" }
 kind == "specs" && promise != "" && field != "" { field_text = field_text " " $0 }
 kind == "specs" && /^pub record [A-Za-z]+Promise / { promise = crate SUBSEP file SUBSEP $3 }
 
@@ -293,7 +293,7 @@ function law_done(    parts, n, i, depth, last, opened, closed, words, m, seen) 
         closed = parts[i]
         depth += gsub(/[({]/, "", opened) - gsub(/[)}]/, "", closed)
     }
-    gsub(/[^A-Za-z0-9-]+/, " ", last)
+    gsub(/[^A-Za-z0-9_-]+/, " ", last)
     m = split(last, words, " ")
     for (i = 1; i <= m; i++) if (!(words[i] in seen)) {
         seen[words[i]] = 1
@@ -332,9 +332,9 @@ kind == "proofs" && file ~ /(Cases|^Sheet)\.antt$/ {
 
 # SERVICES
 
-kind == "src" && /^ghost use Rattle·/ {
+kind == "src" && /^ghost use Rattle\./ && !/^ghost use Rattle\.std\./ {
     line = $0
-    sub(/^ghost use Rattle·/, "", line)
+    sub(/^ghost use Rattle\./, "", line)
     imports(line)
     next
 }

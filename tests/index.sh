@@ -111,8 +111,10 @@ printf '# a version\n# wrong at: compare: 1, right is 2\n' > "$small/crates/x/mu
 # planted DEFINITIONS CLAUSE HEAD NAMED: the small tree with these
 planted() {
     printf -- '-- Specification 6, services.\nuse X\n\n%b' "$1" > "$small/crates/model/specs/A.antt"
-    printf -- '-- Specification 6, the promise.\nuse Rattle·model.specs.A.{one, two as second}\n\n%b\n' "$2" > "$small/crates/x/specs/P.antt"
-    printf 'ghost use Rattle·x·specs.specs.P.{XPromise};\npub fn call(\n)\n    ensures { λ r. ⌜ XPromise (now (table .entry)) r ⌝ }\n{\n}\n' > "$small/crates/x/src/x.rt"
+    printf -- '-- Specification 6, the promise.\nuse Rattle.std.specs.Prelude.{◌≡◌}\nuse Rattle.model.specs.A.{one, two as second}\n\n%b\n' "$2" \
+        > "$small/crates/x/specs/P.antt"
+    printf '#![tactic(auto)]\n\nghost use Rattle.x.specs.P.{XPromise};\npub fn call(\n)\n    ensures said { XPromise table.now result }\n{\n}\n' \
+        > "$small/crates/x/src/x.rt"
     printf -- '%b' "$3" > "$small/crates/theory/specs/S.antt"
     printf -- '-- Laws.\n-- `law` proves `Said`.\npub law : (u : U)\n    → Said u\nlaw u = u\n' > "$small/crates/theory/proofs/L.antt"
     printf -- '-- Laws.\n' > "$small/crates/model/proofs/M.antt"
@@ -120,7 +122,7 @@ planted() {
     printf 'An index\n' > "$small/docs/INDEX.md"
 }
 sound='-- 6.4: one of them\n-- and more of it\nabbrev pub one : U\nabbrev pub another : U\n\n-- THE SECOND (6.5)\n\npub record two : U where\n  pub field : U\n'
-clause='-- THE PROMISE (6.4)\npub record XPromise (table : U) : U where\n  pub stated : r ≡ one table\n  pub meaning : second\n      r\n'
+clause='-- THE PROMISE (6.4)\npub record XPromise (table : U) : U where\n  pub stated_is : r ≡ one table\n  pub meaning : second\n      r\n'
 statement='-- Specification 6.5: said.\n-- Twice.\nuse X\n\n-- what is said\npub record Said : U where\n'
 cited='`one`, `another` and\n`two` in `crates/model/specs/A.antt`, `law` in `L.antt`.\n'
 

@@ -14,7 +14,7 @@ for LC_ALL in C.UTF-8 en_US.UTF-8 C; do
 done
 
 # crates TREE: the files of the crates that people write
-crates() { find "$1/crates" -type f \( -name '*.rt' -o -name '*.antt' -o -name '*.edit' \) | sort; }
+crates() { find "$1/crates" -path '*/crates/*/out' -prune -o -type f \( -name '*.rt' -o -name '*.antt' -o -name '*.edit' \) -print | sort; }
 
 # long TREE: each line that is too long
 long() {
@@ -26,7 +26,7 @@ long() {
 # deep TREE: each path of more than three steps back that is not the whole body of an accessor
 deep() {
     crates "$1" | grep '\.antt$' | while IFS= read -r file; do
-        tr '\n' '~' < "$file" | sed -E 's/~ *([^ ~]+) ([^ ~]+) = \2( \.before)+~/~~/g' | grep -oE '( |~)*\.before(( |~)+\.before){3,}' | sed 's/.*/deep/' | sort -u \
+        tr '\n' '~' < "$file" | sed -E 's/~ *([^ ~]+) ([^ ~]+) = \2( *\.before)+~/~~/g' | grep -oE '\.before(( |~)*\.before){3,}' | sed 's/.*/deep/' | sort -u \
             | sed "s|deep|${file#"$1"/}: a path of more than three steps back stands outside an accessor|"
     done
 }
@@ -57,19 +57,19 @@ planted() {
     mkdir -p "$work/crates/x/proofs"
     printf '%b' "$1" > "$work/crates/x/proofs/A.antt"
 }
-path=' .before .before .before .before'
+path=.before.before.before.before
 fault='crates/x/proofs/A.antt: a path of more than three steps back stands outside an accessor'
-planted "abbrev start : A → B\nstart c = c$path\n\nreturns c = c .before .before .before .x\n"
+planted "abbrev start : A → B\nstart c = c$path\n\nreturns c = c.before.before.before.x\n"
 held 'a sound proof' '' "$(long "$work"; deep "$work")"
-planted "returns c = c$path .x\n"
+planted "returns c = c$path.x\n"
 held 'a path in an answer' "$fault" "$(deep "$work")"
-planted 'returns c =\n    f (c .before .before\n    .before .before)\n'
+planted 'returns c =\n    f (c.before.before\n    .before.before)\n'
 held 'a path over two lines' "$fault" "$(deep "$work")"
 planted "start c = d$path\n"
 held 'an accessor of another place than its own' "$fault" "$(deep "$work")"
 planted 'few : n < 4096\n'
 held 'a limit as a number' 'crates/x/proofs/A.antt: line 1 has a limit as a number' "$(numbers "$work")"
-planted 'few : n < 2 ^ countWidth -- 4096\n'
+planted 'few : n < 2 ^ count_width -- 4096\n'
 held 'a limit by its constant' '' "$(numbers "$work")"
 planted "$(printf '%161s' '' | tr ' ' u)\n"
 held 'a line that is too long' 'crates/x/proofs/A.antt: line 1 is longer than 160 characters' "$(long "$work")"
@@ -80,7 +80,8 @@ held 'a line of 160 letters' '' "$(long "$work")"
 written() {
     mkdir -p "$work/crates/x/src"
     {
-        printf 'pub fn f(x: u8) -> u8\n    ensures { λ r. ⌜ r ≡ x ⌝ }\n{\n    let a = [0u8; 4]; // an array; of bytes\n'
+        printf '#![tactic(auto)]\n\npub fn f(x: u8) -> u8\n    ensures said { (record { low = x; high = x }) ≡ result }\n'
+        printf '    ensures {\n        result ≡ x;\n    }\n{\n    let a = [0u8; 4]; // an array; of bytes\n'
         printf '    if a[0] == x {\n        return x;\n    }\n'
         i=2
         while [ "$i" -lt "$1" ]; do

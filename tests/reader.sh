@@ -1,8 +1,8 @@
 #!/bin/sh
 # Runs the bench reader on the samples and compares what it writes byte for byte. Files whose reads fail are made by tests/reads.c (gcc).
-# Usage: tests/reader.sh [READER]
+# Usage: tests/reader.sh [READER]; where none is named, the one that `rt ci` built.
 cd "$(dirname "$0")/.." || exit 1
-reader=${1:-target/bin/reader}
+reader=${1:-crates/reader/out/reader}
 samples=samples
 work=$(mktemp -d) || exit 1
 trap 'rm -rf "$work"' EXIT
@@ -89,6 +89,12 @@ hold "a full device"
 echo 'the report was not written whole: Bad file descriptor' > "$work/expected_errors"
 "$reader" $samples/braid3.table $samples/first.program >&- 2> "$work/errors"
 hold "a closed standard output"
+echo 'the report was not written whole: Broken pipe' > "$work/expected_errors"
+{
+    sleep 1
+    "$reader" $samples/braid3.table $samples/first.program 2> "$work/errors"
+} | :
+hold "a pipe that nobody reads"
 
 echo "$passed passed, $failed failed"
 [ "$failed" -eq 0 ]

@@ -14,6 +14,9 @@ code ~ /^ *(pub )?(extern "C" )?fn / {
     inside = 0
     statements = 0
 }
+# a clause that goes on over lines of its own is none of the function's body
+name != "" && !inside && code ~ /^ *(requires|ensures)[^{]*\{$/ { clause = 1; next }
+clause { if (code ~ /^ *\}$/) clause = 0; next }
 name != "" && !inside && (code == margin "{" || code ~ /\{$/) { inside = 1; opened = 1; next }
 inside && code == margin "}" {
     if (statements > most) print FILENAME ": " name " has " statements " statements, more than " most

@@ -114,17 +114,17 @@ gives 2 'refused 13\n' unpack samples/braid3.table -o "$work/none" --answer 19
 gives 2 'refused 13\n' unpack samples/first.program --table $t -o "$work/none" --answer 4
 [ ! -e "$work/none" ]
 count "what is refused is not written" $?
-if [ -x target/bin/reader ]; then
+if [ -x crates/reader/out/reader ]; then
     # the reader's reports byte for byte, of every sample table with every sample program
     for table in samples/*.table; do
         for program in samples/*.program; do
-            target/bin/reader "$table" "$program" > "$work/expected"
+            crates/reader/out/reader "$table" "$program" > "$work/expected"
             "$tool" reverse "$table" "$program" 2> /dev/null | cmp -s - "$work/expected"
             count "the reader's report of $table and $program" $?
         done
     done
 else
-    echo "not run: the reader's reports, for which target/bin/reader is missing"
+    echo "not run: the reader's reports, for which crates/reader/out/reader is missing"
 fi
 
 # TRAY

@@ -3,28 +3,27 @@
 
 # the words of a text; brackets, commas and dots stand between words
 function words(text, list) {
-    gsub(/[(){}.,;⌜⌝]/, " ", text)
+    gsub(/[(){}.,;]/, " ", text)
     return split(text, list, /[ \t]+/)
 }
 
-# a word of this file means this definition; the parts of an operator `_a_b_` each do
+# a word of this file means this definition; the parts of an operator `◌a◌b◌` each do
 function means(file, name, id,    parts, n, i) {
     meaning[file, name] = id
-    if (name ~ /_/) {
-        n = split(name, parts, "_")
+    if (name ~ /◌/) {
+        n = split(name, parts, /◌/)
         for (i = 1; i <= n; i++) if (parts[i] != "") meaning[file, parts[i]] = id
     }
 }
 
-# the names of a `use` line: use Rattle·CRATE.specs.MODULE.{a, b as c}, of another crate, or with ·specs behind CRATE of this one
+# the names of a `use` line: use Rattle.CRATE.specs.MODULE.{a, b as c}
 function imports(file, line,    from, list, names, n, i, pair) {
     from = line
     sub(/^(ghost )?use /, "", from)
-    if (from !~ /^Rattle·[a-z_]+(·specs)?\.specs\.[A-Za-z]+\.\{/) return
+    if (from !~ /^Rattle\.[a-z_]+\.specs\.[A-Za-z]+\.\{/) return
     list = from
     sub(/\.\{.*/, "", from)
-    sub(/^Rattle·/, "", from)
-    sub(/·specs/, "", from)
+    sub(/^Rattle\./, "", from)
     sub(/\.specs\./, "/", from)
     sub(/^[^{]*\{/, "", list)
     sub(/\}.*/, "", list)
@@ -35,7 +34,18 @@ function imports(file, line,    from, list, names, n, i, pair) {
     }
 }
 
+# what stands in the braces of a clause, from the text behind the opening one; `depth` is how many are still open at its end
+function inside(text,    at, sign) {
+    for (at = 1; at <= length(text); at++) {
+        sign = substr(text, at, 1)
+        if (sign == "{") depth++
+        if (sign == "}" && --depth == 0) return substr(text, 1, at - 1)
+    }
+    return text
+}
+
 FNR == 1 {
+    depth = 0
     split(FILENAME, path, "/")
     crate = path[2]
     module = path[4]
@@ -47,10 +57,13 @@ FNR == 1 {
 /^(ghost )?use / { imports(FILENAME, $0); next }
 { line = $0 }
 code { sub(/\/\/.*/, "", line) }
-# a clause of a contract may go on over several lines
-code && clause != "" { clause = clause " " line }
-code && clause == "" && line ~ /⌜/ { clause = line }
-code && clause != "" && line ~ /⌝/ { root[++count] = clause; root_file[count] = FILENAME; clause = "" }
+# a clause of a contract, `ensures { .. }` or with a name before the brace, may go on over several lines
+code && depth { root[++count] = inside(line); root_file[count] = FILENAME; next }
+code && match(line, /(^|[ \t])(requires|ensures)( \*)?( [a-z_0-9]+)? \{/) {
+    depth = 1
+    root[++count] = inside(substr(line, RSTART + RLENGTH))
+    root_file[count] = FILENAME
+}
 code { next }
 { sub(/(^|[ \t])--.*/, "", line) }
 line ~ /^[ \t]*$/ { next }

@@ -1,4 +1,4 @@
-//! Links libbraid.a: from the folder that BRAID_LIBRARY names, else from the one in which `rt staticlib braid` leaves it in this repository.
+//! Links libbraid.a: from the folder that BRAID_LIBRARY names, else from the one in which `sh tests/library.sh` leaves it in this repository.
 use std::env;
 use std::path::PathBuf;
 
@@ -8,7 +8,7 @@ fn main() {
     let folder = env::var("BRAID_LIBRARY").map_or_else(|_| package.join("../../target/staticlib"), PathBuf::from);
     let library = folder.join("libbraid.a");
     if !library.is_file() {
-        panic!("{} is not there: build it with `rt staticlib braid`, or name its folder in BRAID_LIBRARY", library.display());
+        panic!("{} is not there: build it with `sh tests/library.sh`, or name its folder in BRAID_LIBRARY", library.display());
     }
     println!("cargo:rustc-link-search=native={}", folder.display());
     println!("cargo:rustc-link-lib=static=braid");
