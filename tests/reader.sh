@@ -55,6 +55,9 @@ expect "refusal 1: a table that cannot be read" 'refused 1\n' "$work" $samples/f
 expect "refusal 1: no arguments" 'refused 1\n'
 expect "refusal 3: a table file longer than 4,096 bytes" 'refused 3\n' "$work/long.table" $samples/first.program
 expect "refusal 4: no program file" 'refused 4\n' $samples/braid3.table "$work/missing.program"
+other=$work/$(printf '\377').program
+cp $samples/first.program "$other"
+expect "refusal 4: a program file whose name is not UTF-8" 'refused 4\n' $samples/braid3.table "$other"
 expect "refusal 4: one argument" 'refused 4\n' $samples/braid3.table
 expect "refusal 6: a byte follows the program" 'refused 6\n' $samples/braid3.table $samples/tail.program
 expect "refusal 6: a program file of 4,096 bytes" 'refused 6\n' $samples/braid3.table "$work/full.program"
