@@ -1,8 +1,15 @@
 #!/bin/sh
 # Where the sources have a form that the design pass looks at (docs/DESIGN-PASS.md): a line a place, 'POINT FILE:LINE what', or 'POINT what' for what several
 # files share. It finds candidates by their form; the page says which of them are places. Usage: tools/places.sh [POINT [TREE]]
+# Exit status: 0 what was found is printed, be it nothing; 2 bad usage.
 point=${1:-all}
-cd "${2:-$(dirname "$0")/..}" || exit 1
+tree=${2:-$(dirname "$0")/..}
+case $point in [1-8] | all) ;; *) echo "tools/places.sh: there is no point $point: name one of 1 to 8, or all" >&2; exit 2 ;; esac
+[ $# -le 2 ] || { echo "tools/places.sh: it takes a point and a tree: tools/places.sh [POINT [TREE]]" >&2; exit 2; }
+[ -d "$tree/crates" ] || { echo "tools/places.sh: $tree has no folder crates: name a checkout of this repository" >&2; exit 2; }
+cd "$tree" || exit 2
+work=$(mktemp -d) || exit 2
+trap 'rm -rf "$work"' EXIT
 sources() { find crates -path '*/out' -prune -o -path '*/src/*.rt' -print | sort; }
 wanted() { [ "$point" = all ] || [ "$point" = "$1" ]; }
 
@@ -76,13 +83,12 @@ seven() {
     sources | xargs awk '
         /^(pub(\([a-z]+\))? )?enum / { open = 1; name = $0; sub(/.*enum /, "", name); sub(/[ <].*/, "", name); bare = 1 }
         open && /^    [A-Z]/ && $0 !~ /^    [A-Za-z]+,$/ { bare = 0 }
-        open && /^}/ { if (bare) print name; open = 0 }' | sort -u > /tmp/places.$$
+        open && /^}/ { if (bare) print name; open = 0 }' | sort -u > "$work/bare"
     heads | sed 's/ \(requires\|ensures\) .*//' | while read -r at name head; do
-        for kind in $(cat /tmp/places.$$); do
+        for kind in $(cat "$work/bare"); do
             case $head in *": $kind"[,\)]*) echo "7 $at $name takes $kind" ;; esac
         done
     done
-    rm -f /tmp/places.$$
 }
 
 # 8: each proof by hand.
