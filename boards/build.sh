@@ -43,7 +43,7 @@ for target; do
     [ -n "$triple" ] && [ -n "$layout" ] || fail "the kit's clang names no triple or data layout for $target"
     awk -v triple="$triple" -v layout="$layout" -f boards/retarget.awk $text > "$out/braid.ll"
     [ "$(awk -f boards/extended.awk "$out/braid.ll")" = "$(echo "$calls" | wc -l)" ] ||
-        fail "a call for $target has a narrow result or parameter without zeroext, or is missing: awk -f boards/extended.awk $out/braid.ll names it"
+        fail "the module for $target is not as callers and pointers of this processor need it: awk -f boards/extended.awk $out/braid.ll names what is not"
     # shellcheck disable=SC2046
     "$tools/clang" $(flags "$target") -ffunction-sections -c -x ir "$out/braid.ll" -o "$out/braid.o" || fail "the module was not compiled for $target"
     "$tools/llvm-ar" rcs "$out/libbraid.a" "$out/braid.o" || fail "the archive for $target was not written"

@@ -64,6 +64,16 @@ if ! grep -q '^not run: the boards' "$work/report"; then
         failed=$((failed + 1))
         echo "failed: a call from within is not seen"
     fi
+    for line in '%1 = alloca ptr, align 8' '%1 = load { i8, ptr }, ptr %r0, align 8' 'store { ptr, i64 } %r1, ptr %r0, align 8' \
+        '%1 = load [2 x ptr], ptr %r0'; do
+        { cat $module; echo "  $line"; } > "$work/short.ll"
+        if awk -f boards/extended.awk "$work/short.ll" | grep -q 'a pointer in memory that is laid out by the target'; then
+            passed=$((passed + 1))
+        else
+            failed=$((failed + 1))
+            echo "failed: a pointer that the target lays out is not seen: $line"
+        fi
+    done
     # An emulator that is missing is named, and counts neither way: of the commands only those that are needed before are on the path.
     mkdir "$work/bin"
     for command in sh sed awk grep cat cp mkdir rm ln mv basename dirname readlink find tail head wc cmp tr uname rt gcc ld as ar objdump mktemp sort env id; do
