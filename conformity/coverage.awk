@@ -219,6 +219,19 @@ BEGIN {
     depth_shown = 4
 }
 
+# A name between quotes may have spaces, commas and brackets in it, as that of a generic function: without them it is one word.
+inside || /^define / {
+    text = $0
+    out = ""
+    while (match(text, /"[^"]*"/)) {
+        value = substr(text, RSTART, RLENGTH)
+        gsub(/[][ ,(){}<>]/, "", value)
+        out = out substr(text, 1, RSTART - 1) value
+        text = substr(text, RSTART + RLENGTH)
+    }
+    $0 = out text
+}
+
 # The guards of a function stand in an array of its own, and the arrays one behind the other in the order of the text.
 /^@__sancov_gen_/ {
     match($0, /\[[0-9]+ x i32\]/)

@@ -36,7 +36,15 @@ rm -f "$out"/*
     fail "the kit's clang does not write the module as text: it says above why"
 once='^define .*@"numbering::refusals::refusal_numbers"[(]'
 [ "$(grep -c "$once" "$out/module.ll")" -eq 1 ] || fail "the module has no function numbering::refusals::refusal_numbers: look how all calls tell a refusal"
-sed "/$once/s/ #[0-9]* {\$/ noinline&/" "$out/module.ll" > "$out/apart.ll"
+# So does each function of the library that comes with Rattle: what it does for each call of ours would stand as edges of the caller's, and its own are the same
+# for all calls.
+awk -v once="$once" '
+    NR == FNR { if (/^attributes #[0-9]+ = .*[ {]alwaysinline[ }]/) always[$2] = 1; next }
+    /^define .*@"(core|std|std_[a-z]+)::/ || $0 ~ once {
+        if (match($0, / #[0-9]+ \{$/)) sub(/ #[0-9]+ \{$/, substr($0, RSTART + 1, RLENGTH - 3) in always ? " noinline {" : " noinline&")
+    }
+    { print }
+' "$out/module.ll" "$out/module.ll" > "$out/apart.ll"
 # The object is made from the text whose edges are named, without any further change to it, so that the two have the same guards.
 "$tools/clang" -O1 -fsanitize-coverage=trace-pc-guard -S -emit-llvm -x ir "$out/apart.ll" -o "$out/braid.ll" ||
     fail "the kit's clang put no calls on the edges of the module: it says above why"

@@ -267,6 +267,14 @@ passes uncited 'a definition in a clause with a name, over two lines'
 cp -r "$work/cited/." "$work/tree"
 printf 'ghost use Rattle.x.specs.A.{Cited};\npub fn one(x: u8) -> u8\n    ensures { x ≡ result } // { Cited\n{\n    Cited\n}\n' > "$work/tree/crates/x/src/x.rt"
 sees uncited 'a definition that stands beside a clause alone'
+cp -r "$work/cited/." "$work/tree"
+printf 'pub struct One {\n    x: u8,\n    ghost low: { Cited x x },\n}\nimpl One {\n    ghost use Rattle.x.specs.A.{Cited};\n}\n' \
+    > "$work/tree/crates/x/src/x.rt"
+passes uncited 'a definition in what a type promises, named by a use within an impl'
+cp -r "$work/cited/." "$work/tree"
+printf 'ghost use Rattle.x.specs.A.{Cited};\npub struct One {\n    x: u8,\n    ghost low: { x < 9 }, // { Cited x x }\n}\n' \
+    > "$work/tree/crates/x/src/x.rt"
+sees uncited 'a definition that stands beside what a type promises alone'
 echo 'another kit' > "$work/tree/.ci/toolchain"
 sees toolchain 'another toolchain'
 

@@ -19,7 +19,7 @@ function means(file, name, id,    parts, n, i) {
 # the names of a `use` line: use Rattle.CRATE.specs.MODULE.{a, b as c}
 function imports(file, line,    from, list, names, n, i, pair) {
     from = line
-    sub(/^(ghost )?use /, "", from)
+    sub(/^[ \t]*(ghost )?use /, "", from)
     if (from !~ /^Rattle\.[a-z_]+\.specs\.[A-Za-z]+\.\{/) return
     list = from
     sub(/\.\{.*/, "", from)
@@ -54,12 +54,13 @@ FNR == 1 {
     id = ""
     base = 0
 }
-/^(ghost )?use / { imports(FILENAME, $0); next }
+/^[ \t]*(ghost )?use / { imports(FILENAME, $0); next }
 { line = $0 }
 code { sub(/\/\/.*/, "", line) }
-# a clause of a contract, `ensures { .. }` or with a name before the brace, may go on over several lines
+# a clause of a contract, `ensures { .. }` or with a name before the brace, may go on over several lines; so may what a type promises of each value,
+# `ghost invariant = { .. }`, `ghost view = { .. }` or a field `ghost name: { .. }`
 code && depth { root[++count] = inside(line); root_file[count] = FILENAME; next }
-code && match(line, /(^|[ \t])(requires|ensures)( \*)?( [a-z_0-9]+)? \{/) {
+code && match(line, /(^|[ \t])((requires|ensures)( \*)?( [a-z_0-9]+)?|ghost [a-z_0-9]+( =|:)) \{/) {
     depth = 1
     root[++count] = inside(substr(line, RSTART + RLENGTH))
     root_file[count] = FILENAME

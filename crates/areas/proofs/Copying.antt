@@ -1,22 +1,11 @@
--- A copy, byte after byte: from another area, and from a place of the same area.
+-- A copy, byte after byte, from a place of an area to a place behind it.
 use mathlib.Core.Path.{◌≡◌, sym, ap, subst, ◌∙◌}
-use mathlib.Core.List.{List, [], ◌∷◌, ◌++◌, append_assoc}
+use mathlib.Core.List.{List, ◌++◌, append_assoc}
 use Prim.Native.Nat.{ℕ, suc, ◌+◌, ◌≤◌, ◌<◌}
 use native.Mathlib.Omega.{arith}
-use native.Mathlib.Numerals.{add-one}
 use lib.ListN.{length, take, drop, set, get_or, length-drop, get_or-append}
-use lib.Seq.{take-suc, set_at, drop-cons, length-take-le, paste, paste-suc, get_or-take, get_or-drop}
+use lib.Seq.{length-take-le, paste, paste-suc, get_or-take, get_or-drop}
 use Rattle.model.specs.Areas.{written}
-
--- one byte more of a copy
-pub copied_more : (s d : List ℕ) (i : ℕ) → i < length s → i < length d → set (take i s ++ drop i d) i (get_or s i 0) ≡ take (i + 1) s ++ drop (i + 1) d
-copied_more s d i hs hd =
-    ap (λ l. set (take i s ++ l) i (get_or s i 0)) (drop-cons d i 0 hd)
-    ∙ (set_at (take i s) (get_or d i 0) (drop (suc i) d) (get_or s i 0) i (length-take-le i s (omega arith))
-    ∙ (sym (append_assoc (take i s) (get_or s i 0 ∷ []) (drop (suc i) d))
-    ∙ (ap (λ l. l ++ drop (suc i) d) (sym (take-suc s i 0 hs)) ∙ ap (λ k. take k s ++ drop k d) (sym (add-one i)))))
-
--- IN ONE AREA
 
 -- a byte before the place of a copy is as it was
 copy_source : (a : List ℕ) (to : ℕ) (s : List ℕ) (n j : ℕ) → j < to → to ≤ length a → get_or (paste a to s n) j 0 ≡ get_or a j 0

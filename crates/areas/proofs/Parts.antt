@@ -1,15 +1,20 @@
 -- A part of an area, also one that was lent to a call.
-use mathlib.Core.Path.{◌≡◌, ap, ◌∙◌}
+use mathlib.Core.Path.{◌≡◌, sym, ap, ◌∙◌}
 use mathlib.Core.List.{List, ◌++◌, append-nil}
 use Prim.Native.Nat.{ℕ, ◌+◌, ◌-◌, ◌≤◌}
 use native.Mathlib.Omega.{arith}
 use borrow.Rule.Slice.PartMut.{put_mid, take_put, Post-is, same_len_mid}
-use lib.ListN.{length, take, drop, length-drop}
+use lib.ListN.{length, take, drop, length-drop, take-append-drop}
 use lib.Seq.{drop_at, drop-length, length-take-le}
 
 -- so many bytes from a place on
 pub taken_length : (area : List ℕ) (from count : ℕ) → from + count ≤ length area → length (take count (drop from area)) ≡ count
 taken_length area from count h = length-take-le count (drop from area) (omega (arith, length-drop from area))
+
+-- what stood before a part that was lent is as it was
+pub part_joined : (from k : ℕ) (xs ys : List ℕ) → from ≤ length xs → put_mid from k xs ys ≡ take from xs ++ drop from (put_mid from k xs ys)
+part_joined from k xs ys inside =
+    sym (take-append-drop from (put_mid from k xs ys)) ∙ ap (λ l. l ++ drop from (put_mid from k xs ys)) (take_put from k xs ys inside)
 
 -- a part from `kept` on that was lent and is back
 module _ (kept : ℕ) (xs ys : List ℕ) (inside : kept ≤ length xs) where

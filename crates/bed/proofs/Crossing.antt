@@ -15,6 +15,7 @@ use Rattle.model.specs.Range.{InRange}
 use Rattle.model.specs.Enumeration.{pairs}
 use Rattle.model.specs.Bed.{Bed, exchanged, position, crossing, crossed}
 use Rattle.model.proofs.Beds.{exchanged_length, sum_within, bobbin_named, bobbins_differ}
+use Rattle.model.proofs.Positions.{position_inside}
 use Rattle.model.specs.Plain.{most_letters}
 use Rattle.bed.specs.declared.moves.Bed.{Bed as BedStruct}
 use Rattle.bed.specs.Shown.{Shows, Shown}
@@ -50,16 +51,16 @@ exchanged_sets (x ∷ y ∷ bs) zero h = refl
 exchanged_sets (x ∷ []) (suc j) h = absurd (omega arith)
 exchanged_sets (x ∷ y ∷ bs) (suc j) h = ap (λ l. x ∷ l) (exchanged_sets (y ∷ bs) j (omega arith))
 
-module _ (v : BedStruct) (places : ℕ) (B : Bed) (h : Shown v places B) where
-  pub bobbin_at : (j : ℕ) → j < places → get_or v.bobbins j 0 ≡ get_or B.bobbins j 0
+module _ (v : BedStruct) (B : Bed) (h : Shown v B) where
+  pub bobbin_at : (j : ℕ) → j < v.places → get_or v.bobbins j 0 ≡ get_or B.bobbins j 0
   bobbin_at j l =
       sym (get_or-take (length B.bobbins) v.bobbins j 0 (omega (arith, h.sound.places))) ∙ ap (λ l. get_or l j 0) h.shows.bobbins
 
-  pub bobbin_in : (j : ℕ) → j < places → InRange places (get_or v.bobbins j 0)
-  bobbin_in j l = rw (bobbin_at j l) (bobbin_named places h.c B h.sound j l)
+  pub bobbin_in : (j : ℕ) → j < v.places → InRange v.places (get_or v.bobbins j 0)
+  bobbin_in j l = rw (bobbin_at j l) (bobbin_named v.places h.c B h.sound j l)
 
-  pub bobbins_two : (j k : ℕ) → j < k → k < places → get_or v.bobbins j 0 ≢ get_or v.bobbins k 0
-  bobbins_two j k l m e = bobbins_differ places h.c B h.sound j k l m (sym (bobbin_at j (omega arith)) ∙ (e ∙ bobbin_at k m))
+  pub bobbins_two : (j k : ℕ) → j < k → k < v.places → get_or v.bobbins j 0 ≢ get_or v.bobbins k 0
+  bobbins_two j k l m e = bobbins_differ v.places h.c B h.sound j k l m (sym (bobbin_at j (omega arith)) ∙ (e ∙ bobbin_at k m))
 
   total_at : (k : ℕ) → k < length B.totals → get_or v.totals k (pos 0) ≡ get_or B.totals k (pos 0)
   total_at k l =
@@ -69,7 +70,7 @@ module _ (v : BedStruct) (places : ℕ) (B : Bed) (h : Shown v places B) where
   total_within k l = rw (total_at k l) (omega (arith, h.sound.within k, h.few))
 
   -- the first bobbins after two stores
-  bobbins_stored : (i : ℕ) → 1 ≤ i → i < places
+  bobbins_stored : (i : ℕ) → 1 ≤ i → i < v.places
       → take (length B.bobbins) (set (set v.bobbins (i - 1) (get_or v.bobbins i 0)) i (get_or v.bobbins (i - 1) 0)) ≡ exchanged B.bobbins (i - 1)
   bobbins_stored i low high =
       let n = length B.bobbins in
@@ -83,27 +84,36 @@ module _ (v : BedStruct) (places : ℕ) (B : Bed) (h : Shown v places B) where
       ∙ exchanged_sets B.bobbins j (omega (arith, h.sound.places)))))))
 
   -- the struct after a crossing
-  module _ (i at : ℕ) (low : 1 ≤ i) (high : i < places) (at_is : at ≡ position (get_or v.bobbins (i - 1) 0) (get_or v.bobbins i 0) (pairs places)) where
+  module _ (i at : ℕ) (low : 1 ≤ i) (high : i < v.places) (at_is : at ≡ position (get_or v.bobbins (i - 1) 0) (get_or v.bobbins i 0) (pairs v.places)) where
     pub crossing_at : at ≡ crossing B.bobbins (i - 1)
     crossing_at =
         at_is
-        ∙ (ap (λ x. position x (get_or v.bobbins i 0) (pairs places)) (bobbin_at (i - 1) (omega arith))
-        ∙ (ap (λ y. position (get_or B.bobbins (i - 1) 0) y (pairs places)) (bobbin_at i high)
-        ∙ (ap (λ k. position (get_or B.bobbins (i - 1) 0) (get_or B.bobbins k 0) (pairs places)) {x = i} {y = suc (i - 1)} (omega arith)
+        ∙ (ap (λ x. position x (get_or v.bobbins i 0) (pairs v.places)) (bobbin_at (i - 1) (omega arith))
+        ∙ (ap (λ y. position (get_or B.bobbins (i - 1) 0) y (pairs v.places)) (bobbin_at i high)
+        ∙ (ap (λ k. position (get_or B.bobbins (i - 1) 0) (get_or B.bobbins k 0) (pairs v.places)) {x = i} {y = suc (i - 1)} (omega arith)
         ∙ ap (λ m. position (get_or B.bobbins (i - 1) 0) (get_or B.bobbins (suc (i - 1)) 0) (pairs m)) (sym h.sound.places))))
 
-    pub crossed_shows : (inside : at < length B.totals) (t d : ℤ) → t ≡ get_or v.totals at (pos 0) +ℤ d
-        → Shows (record { bobbins = set (set v.bobbins (i - 1) (get_or v.bobbins i 0)) i (get_or v.bobbins (i - 1) 0); totals = set v.totals at t })
-        (crossed (i - 1) d B)
-    crossed_shows inside t d e =
+    pub total_inside : at < length B.totals
+    total_inside =
+        omega (
+          arith,
+          at_is,
+          h.sound.many,
+          position_inside v.places (get_or v.bobbins (i - 1) 0) (get_or v.bobbins i 0) (bobbin_in (i - 1) (omega arith)) (bobbin_in i high)
+              (bobbins_two (i - 1) i (omega arith) high),
+        )
+
+    pub crossed_shows : (bs : List ℕ) → bs ≡ set (set v.bobbins (i - 1) (get_or v.bobbins i 0)) i (get_or v.bobbins (i - 1) 0)
+        → (t d : ℤ) → t ≡ get_or v.totals at (pos 0) +ℤ d
+        → Shows (record { places = v.places; bobbins = bs; totals = set v.totals at t }) (crossed (i - 1) d B)
+    crossed_shows bs swapped t d e =
         record {
-          bobbins =
-              ap (λ n. take n (set (set v.bobbins (i - 1) (get_or v.bobbins i 0)) i (get_or v.bobbins (i - 1) 0))) (exchanged_length B.bobbins (i - 1))
-              ∙ bobbins_stored i low high;
+          places = h.shows.places ∙ sym (exchanged_length B.bobbins (i - 1));
+          bobbins = ap (λ n. take n bs) (exchanged_length B.bobbins (i - 1)) ∙ (ap (take (length B.bobbins)) swapped ∙ bobbins_stored i low high);
           totals =
               ap (λ n. take n (set v.totals at t)) (length-set B.totals (crossing B.bobbins (i - 1)) _)
-              ∙ (take-set-lt (length B.totals) v.totals at t inside
+              ∙ (take-set-lt (length B.totals) v.totals at t total_inside
               ∙ (ap (λ l. set l at t) h.shows.totals
-              ∙ (ap (set B.totals at) (e ∙ ap (λ x. x +ℤ d) (total_at at inside))
+              ∙ (ap (set B.totals at) (e ∙ ap (λ x. x +ℤ d) (total_at at total_inside))
               ∙ ap (λ k. set B.totals k (get_or B.totals k (pos 0) +ℤ d)) crossing_at)));
         }

@@ -5,19 +5,19 @@ use Prim.Native.Nat.{ℕ, zero, suc, ◌+◌, ◌-◌, ◌≤◌, ◌<◌}
 use native.Mathlib.Omega.{arith}
 use lib.ListN.{length, take, get_or, replicate, length-replicate}
 use lib.Seq.{take-suc, length-take-le}
-use lib.IntN.{ℤ, pos, negsuc}
-use Rattle.model.specs.Word.{Letter, forward, back, Word, byte}
+use lib.IntN.{ℤ, pos}
+use Rattle.model.specs.Word.{forward, Word, byte}
 use Rattle.model.specs.Range.{LetterInRange, Lettered}
 use Rattle.model.specs.Enumeration.{range, pairs}
 use Rattle.model.specs.Outcome.{answered}
 use Rattle.model.specs.Images.{read_program, most_size}
-use Rattle.model.specs.Bed.{Sound, first_bed, crossed, laid}
+use Rattle.model.specs.Bed.{Sound, first_bed, laid}
 use Rattle.model.proofs.Positions.{pairs_many, pairs_few}
 use Rattle.model.proofs.Beds.{range_length, first_sound, laid_sound, laid_append}
 use Rattle.images.proofs.RoundTrip.{program_in_range}
 use Rattle.model.specs.Plain.{most_letters}
 use Rattle.bed.specs.declared.moves.Bed.{Bed as BedStruct}
-use Rattle.bed.specs.Shown.{Shows, Shown, Crosses, CrossedBy, Moves, MovedBy}
+use Rattle.bed.specs.Shown.{Shows, Shown, Moves, MovedBy}
 
 -- THE FIRST BED
 
@@ -31,41 +31,15 @@ copies_front z zero m h = refl
 copies_front z (suc k) zero h = absurd (omega arith)
 copies_front z (suc k) (suc m) h = ap (λ l. z ∷ l) (copies_front z k m (omega arith))
 
-pub first_shows : (n : ℕ) → n ≤ most_size → Shows (record { bobbins = range 1 17; totals = replicate 136 (pos 0) }) (first_bed n)
+pub first_shows : (n : ℕ) → n ≤ most_size → Shows (record { places = n + 1; bobbins = range 1 17; totals = replicate 136 (pos 0) }) (first_bed n)
 first_shows n h =
     record {
+      places = omega (arith, range_length 1 (suc n));
       bobbins = ap (λ k. take k (range 1 17)) (range_length 1 (suc n)) ∙ range_front 1 (suc n) 17 (omega arith);
       totals =
           ap (λ k. take k (replicate 136 (pos 0))) (length-replicate (length (pairs (suc n))) (pos 0))
           ∙ copies_front (pos 0) (length (pairs (suc n))) 136 (omega (arith, pairs_many (suc n), pairs_few (suc n) (omega arith)));
     }
-
--- A MOVE BY ITS BYTE
-
-module _ (v : BedStruct) (places x : ℕ) where
-  module _ (low : x < 128) where
-    pub forward_crosses : Moves v places x → Crosses v places x
-    forward_crosses m = go m.letter m.byte_is m.named
-      where
-        go : (l : Letter) → byte l ≡ x → LetterInRange (places - 1) l → Crosses v places x
-        go (forward a) e r = record { bed = m.bed; shown = m.shown; low = omega (arith, r.low); high = omega (arith, r.low, r.high) }
-        go (back a) e r = absurd (omega arith)
-
-    pub forward_moved : (r : BedStruct) → CrossedBy v places x (pos 1) r → MovedBy v places x r
-    forward_moved r c (forward a) e n B h = rw e (c B h)
-    forward_moved r c (back a) e n B h = absurd (omega arith)
-
-  module _ (high : 128 ≤ x) where
-    pub back_crosses : Moves v places x → Crosses v places (x - 128)
-    back_crosses m = go m.letter m.byte_is m.named
-      where
-        go : (l : Letter) → byte l ≡ x → LetterInRange (places - 1) l → Crosses v places (x - 128)
-        go (forward a) e r = absurd (omega (arith, m.shown.small, r.high))
-        go (back a) e r = record { bed = m.bed; shown = m.shown; low = omega (arith, r.low); high = omega (arith, r.low, r.high) }
-
-    pub back_moved : (r : BedStruct) → CrossedBy v places (x - 128) (negsuc 0) r → MovedBy v places x r
-    back_moved r c (forward a) e n B h = absurd (omega (arith, h.small, n.high))
-    back_moved r c (back a) e n B h = subst (λ i. Shows r (crossed (i - 1) (negsuc 0) B)) {x = x - 128} {y = a} (omega arith) (c B h)
 
 -- THE MOVES OF A PROGRAM
 
@@ -82,25 +56,30 @@ module _ (program : List ℕ) (size : ℕ) (few : size ≤ most_size) (w : Word)
   done = length-take-le i w (omega arith)
 
   module _ (v : BedStruct) (shows : Shows v (laid (take i w) (first_bed size))) where
-    so_far : Shown v (size + 1) (laid (take i w) (first_bed size))
+    sound : Sound (suc size) (length (take i w) + 0) (laid (take i w) (first_bed size))
+    sound = laid_sound (suc size) 0 (take i w) (first_bed size) (first_sound size)
+
+    all : v.places ≡ suc size
+    all = shows.places ∙ sound.places
+
+    so_far : Shown v (laid (take i w) (first_bed size))
     so_far =
         record {
           shows = shows;
           c = length (take i w) + 0;
-          sound = subst (λ m. Sound m (length (take i w) + 0) (laid (take i w) (first_bed size))) {x = suc size} {y = size + 1} (omega arith)
-              (laid_sound (suc size) 0 (take i w) (first_bed size) (first_sound size));
+          sound = subst (λ m. Sound m (length (take i w) + 0) (laid (take i w) (first_bed size))) (sym all) sound;
           few = omega (arith, done, short);
-          small = omega arith;
+          small = omega (arith, all);
         }
 
-    named : LetterInRange (size + 1 - 1) (get_or w i (forward 0))
-    named = subst (λ n. LetterInRange n (get_or w i (forward 0))) {x = size} {y = size + 1 - 1} (omega arith)
+    named : LetterInRange (v.places - 1) (get_or w i (forward 0))
+    named = subst (λ n. LetterInRange n (get_or w i (forward 0))) {x = size} {y = v.places - 1} (omega (arith, all))
         (letter_of size w i h (program_in_range size few program w read).letters)
 
-    pub next_moves : (x : ℕ) → x ≡ byte (get_or w i (forward 0)) → Moves v (size + 1) x
+    pub next_moves : (x : ℕ) → x ≡ byte (get_or w i (forward 0)) → Moves v x
     next_moves x e = record { bed = laid (take i w) (first_bed size); shown = so_far; letter = get_or w i (forward 0); byte_is = sym e; named = named }
 
-    pub next_shows : (x : ℕ) → x ≡ byte (get_or w i (forward 0)) → (r : BedStruct) → MovedBy v (size + 1) x r → Shows r (laid (take (i + 1) w) (first_bed size))
+    pub next_shows : (x : ℕ) → x ≡ byte (get_or w i (forward 0)) → (r : BedStruct) → MovedBy v x r → Shows r (laid (take (i + 1) w) (first_bed size))
     next_shows x e r m =
         subst (Shows r)
         (sym

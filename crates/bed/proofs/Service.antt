@@ -9,7 +9,7 @@ use lib.ListN.{length, take, drop}
 use lib.Seq.{take_at}
 use Rattle.model.specs.declared.answers.Refusal.{Refusal}
 use Rattle.model.specs.declared.answers.Refusal.TheVariants.{NotBraidTable}
-use Rattle.model.specs.declared.answers.Packed.{Packed}
+use Rattle.std.specs.declared.result.Result.{Result}
 use Rattle.model.specs.Word.{Word}
 use Rattle.model.specs.Presentation.{Presentation}
 use Rattle.model.specs.Outcome.{Outcome, answered, refused, ◌>>=◌, unless, mapped}
@@ -92,7 +92,8 @@ same_bytes area bytes other e = go (dec_lt area (length bytes))
     go (yes l) = let s = short_area area bytes l in impossible (cc)
     go (no l) = let s = long_area area bytes (omega arith) in cc
 
-module _ (table program : List ℕ) (moves : ℕ) (before after : List ℕ) (r : Packed) (a : Answers (bed table program moves (length before)) before after r) where
+module _ (table program : List ℕ) (moves : ℕ) (before after : List ℕ) (r : Result ℕ Refusal)
+    (a : Answers (bed table program moves (length before)) before after r) where
   pub bed_says : BedSays table program moves (packed_as r) after
   bed_says T e w p k told =
       let t = told_bytes (bed table program moves (length before)) k (sym a.result ∙ told) in

@@ -1,127 +1,87 @@
 -- A total in two bytes, and the totals written one after the other.
-use mathlib.Core.Path.{◌≡◌, refl, sym, ap, ◌∙◌}
-use mathlib.Core.List.{List, [], ◌∷◌, ◌++◌, append_assoc}
-use mathlib.Core.Bool.{true, false, cond}
-use Prim.Native.Nat.{ℕ, suc, ◌+◌, ◌*◌, ◌-◌, ◌≤◌, ◌<◌}
+use mathlib.Core.Path.{◌≡◌, refl, sym, ap, ap₂, ◌∙◌}
+use mathlib.Core.List.{List, [], ◌∷◌, ◌++◌, append_assoc, append-nil}
+use Prim.Native.Nat.{ℕ, suc, ◌+◌, ◌*◌, ◌-◌, ◌/◌, ◌%◌, ◌≤◌, ◌<◌}
 use native.Mathlib.Omega.{arith}
-use lib.ListN.{length, take, drop, get_or, set, length-append}
-use lib.Seq.{take-suc, drop-cons, set_at, length-take-le}
-use lib.IntN.{ℤ, pos, negsuc, nat_abs, ◌+ℤ◌}
-use lib.Signed.{lt_z, non_neg}
-use lib.Dec.{T}
-use mir.Syntax.{w16, w32}
-use mir.Val.{Fits, SFits, to_z, of_z}
-use mir.ValLaws.{to_z-of_z}
-use borrow.Author.Tests.{le-ltb}
+use lib.ListN.{length, take, drop, get_or, set, length-append, length-drop}
+use lib.Seq.{sets-eq, take-suc, length-take-le, take-append_seam, drop-append_seam, drop-append-add, drop-drop, drop-length, take_all, take_at}
+use lib.IntN.{ℤ, pos, negsuc}
+use mir.Syntax.{w16}
+use mir.Val.{SFits, of_z}
+use borrow.Rule.Slice.PartMut.{put_mid}
+use Rattle.std.specs.Int.{to_be_bytes}
 use Rattle.model.specs.Enumeration.{concat_map}
-use Rattle.model.specs.Areas.{written}
-use Rattle.model.specs.Bed.{sixteen_bits, total_bytes}
-use Rattle.model.proofs.Impossible.{impossible}
+use Rattle.model.specs.Areas.{written, begins}
+use Rattle.model.specs.Bed.{total_bytes}
 
--- SIXTEEN BITS
+-- a number's bytes, the high one first
+high_first : (n : ℕ) → n < 65536 → to_be_bytes w16 n ≡ (n / 256) ∷ (n % 256) ∷ []
+high_first n h = ap (λ x. x ∷ (n % 256) ∷ []) {x = n / 256 % 256} {y = n / 256} (omega arith)
 
-module _ (z : ℤ) (fits : SFits w16 z) where
-  pub widened : to_z w32 (of_z w32 (to_z w16 (of_z w16 z))) ≡ z
-  widened =
-      ap (λ x. to_z w32 (of_z w32 x)) (to_z-of_z w16 z fits) ∙ to_z-of_z w32 z (record { sfits = omega (arith, fits.sfits) })
-
-  pub widens : SFits w32 (to_z w16 (of_z w16 z))
-  widens = rw (to_z-of_z w16 z fits) (record { sfits = omega (arith, fits.sfits) })
-
-  pub bits_below : sixteen_bits z < 65536
-  bits_below = go z fits
-    where
-      go : (z : ℤ) → SFits w16 z → sixteen_bits z < 65536
-      go (pos a) f = omega (arith, f.sfits)
-      go (negsuc a) f = omega arith
-
-  raised : lt_z z (pos 0) ≡ true → z +ℤ pos 65536 ≡ pos (sixteen_bits z)
-  raised e = go z fits e
-    where
-      go : (z : ℤ) → SFits w16 z → lt_z z (pos 0) ≡ true → z +ℤ pos 65536 ≡ pos (sixteen_bits z)
-      go (pos a) f e = impossible (cc (le-ltb a 0 (omega arith)))
-      go (negsuc a) f e =
-          ap (λ t. cond t (negsuc (suc a - suc 65536)) (pos (65536 - suc a))) (le-ltb 65536 (suc a) (omega (arith, f.sfits)))
-          ∙ ap pos {x = 65536 - suc a} {y = 65535 - a} (omega arith)
-
-  level : lt_z z (pos 0) ≡ false → z ≡ pos (sixteen_bits z)
-  level e = go z e
-    where
-      go : (z : ℤ) → lt_z z (pos 0) ≡ false → z ≡ pos (sixteen_bits z)
-      go (pos a) e = refl
-      go (negsuc a) e = impossible (cc)
-
-  module _ (below : lt_z (to_z w32 (of_z w32 (to_z w16 (of_z w16 z)))) (pos 0) ≡ true) where
-    sum_is : to_z w32 (of_z w32 (to_z w16 (of_z w16 z))) +ℤ pos 65536 ≡ pos (sixteen_bits z)
-    sum_is = ap (λ x. x +ℤ pos 65536) widened ∙ raised (rw widened at below)
-
-    pub raised_fits : SFits w32 (to_z w32 (of_z w32 (to_z w16 (of_z w16 z))) +ℤ pos 65536)
-    raised_fits = rw sum_is (record { sfits = omega (arith, bits_below) })
-
-    pub raised_is : to_z w32 (of_z w32 (to_z w32 (of_z w32 (to_z w16 (of_z w16 z))) +ℤ pos 65536)) ≡ pos (sixteen_bits z)
-    raised_is = to_z-of_z w32 (to_z w32 (of_z w32 (to_z w16 (of_z w16 z))) +ℤ pos 65536) raised_fits ∙ sum_is
-
-  pub level_is : lt_z (to_z w32 (of_z w32 (to_z w16 (of_z w16 z)))) (pos 0) ≡ false → to_z w32 (of_z w32 (to_z w16 (of_z w16 z))) ≡ pos (sixteen_bits z)
-  level_is above = widened ∙ level (rw widened at above)
-
--- a number that is not negative and below 2 ^ 16
-pub narrows : (x : ℤ) (n : ℕ) → x ≡ pos n → n < 65536 → T (non_neg x) × Fits w16 (nat_abs x)
-narrows x n e h = rw e (tt, record { fits = h })
-
--- TOTALS ONE AFTER THE OTHER
-
-bytes_append : (s t : List ℤ) → concat_map total_bytes (s ++ t) ≡ concat_map total_bytes s ++ concat_map total_bytes t
-bytes_append [] t = refl
-bytes_append (x ∷ s) t = ap (λ l. total_bytes x ++ l) (bytes_append s t)
+pub two_bytes : (z : ℤ) → SFits w16 z → to_be_bytes w16 (of_z w16 z) ≡ total_bytes z
+two_bytes (pos a) f = high_first a (omega (arith, f.sfits))
+two_bytes (negsuc a) f =
+    let e : 65536 - suc a ≡ 65535 - a = omega arith in
+    high_first (65536 - suc a) (omega arith) ∙ ap (λ n. (n / 256) ∷ (n % 256) ∷ []) e
 
 pub bytes_length : (s : List ℤ) → length (concat_map total_bytes s) ≡ 2 * length s
 bytes_length [] = refl
 bytes_length (x ∷ s) = omega (arith, bytes_length s)
 
-module _ (old : List ℕ) (at k : ℕ) (ts : List ℤ) (more : k < length ts) (room : at + 2 * k + 2 ≤ length old) where
-  done : List ℕ
-  done = take at old ++ concat_map total_bytes (take k ts)
+bytes_append : (s t : List ℤ) → concat_map total_bytes (s ++ t) ≡ concat_map total_bytes s ++ concat_map total_bytes t
+bytes_append [] t = refl
+bytes_append (x ∷ s) t = ap (λ l. total_bytes x ++ l) (bytes_append s t)
 
-  done_length : length done ≡ at + 2 * k
-  unfolding done
-  done_length =
-      length-append (take at old) (concat_map total_bytes (take k ts))
-      ∙ omega (arith, length-take-le at old (omega arith), bytes_length (take k ts), length-take-le k ts (omega arith))
+-- bytes put behind those that an area begins with
+behind : (bs more old mid : List ℕ) → mid ≡ begins bs old → written mid (length bs) more ≡ begins (bs ++ more) old
+behind bs more old mid e =
+    let n = length bs in
+    ap (λ m. take n m ++ (more ++ drop (n + length more) m)) e
+    ∙ (ap (λ l. l ++ (more ++ drop (n + length more) (bs ++ drop n old))) (take-append_seam bs (drop n old))
+    ∙ (ap (λ l. bs ++ (more ++ l)) (drop-append-add bs (drop n old) (length more) ∙ drop-drop (length more) n old)
+    ∙ (sym (append_assoc bs more (drop (n + length more) old))
+    ∙ ap (λ k. (bs ++ more) ++ drop k old) (sym (length-append bs more)))))
 
-  -- what is written, and the two bytes that come next
-  so_far : written old at (concat_map total_bytes (take k ts)) ≡ done
-      ++ (get_or old (at + 2 * k) 0 ∷ get_or old (suc (at + 2 * k)) 0 ∷ drop (suc (suc (at + 2 * k))) old)
-  unfolding done
-  so_far =
-      sym (append_assoc (take at old) (concat_map total_bytes (take k ts)) _)
-      ∙ (ap (λ n. done ++ drop n old) {x = at + length (concat_map total_bytes (take k ts))} {y = at + 2 * k}
-      (omega (arith, bytes_length (take k ts), length-take-le k ts (omega arith)))
-      ∙ ap (λ l. done ++ l)
-      (drop-cons old (at + 2 * k) 0 (omega arith) ∙ ap (λ l. get_or old (at + 2 * k) 0 ∷ l) (drop-cons old (suc (at + 2 * k)) 0 (omega arith))))
+-- two bytes written one after the other
+two_written : (xs : List ℕ) (at x y : ℕ) → at + 2 ≤ length xs → set (set xs at x) (at + 1) y ≡ written xs at (x ∷ y ∷ [])
+two_written xs at x y h = ap (λ i. set (set xs at x) i y) {x = at + 1} {y = suc at} (omega arith)
+    ∙ (sets-eq (x ∷ y ∷ []) xs at h ∙ append_assoc (take at xs) (x ∷ y ∷ []) (drop (at + 2) xs))
 
-  pub total_written : (area : List ℕ) (h l : ℕ) → area ≡ written old at (concat_map total_bytes (take k ts)) → h ∷ l ∷ [] ≡ total_bytes (get_or ts k (pos 0))
-      → set (set area (at + 2 * k) h) (at + 2 * k + 1) l ≡ written old at (concat_map total_bytes (take (k + 1) ts))
-  unfolding done
-  total_written area h l e two =
-      let rest = drop (suc (suc (at + 2 * k))) old in
-      ap (λ a. set (set a (at + 2 * k) h) (at + 2 * k + 1) l) (e ∙ so_far)
-      ∙ (ap (λ a. set a (at + 2 * k + 1) l) (set_at done (get_or old (at + 2 * k) 0) (get_or old (suc (at + 2 * k)) 0 ∷ rest) h (at + 2 * k) done_length)
-      ∙ (ap (λ a. set a (at + 2 * k + 1) l) (sym (append_assoc done (h ∷ []) (get_or old (suc (at + 2 * k)) 0 ∷ rest)))
-      ∙ (set_at (done ++ (h ∷ [])) (get_or old (suc (at + 2 * k)) 0) rest l (at + 2 * k + 1) (length-append done (h ∷ []) ∙ omega (arith, done_length))
-      ∙ (append_assoc done (h ∷ []) (l ∷ rest)
-      ∙ (ap (λ b. done ++ (b ++ rest)) two ∙ sym after)))))
-    where
-      bytes_are : concat_map total_bytes (take (k + 1) ts) ≡ concat_map total_bytes (take k ts) ++ total_bytes (get_or ts k (pos 0))
-      bytes_are =
-          ap (λ n. concat_map total_bytes (take n ts)) {x = k + 1} {y = suc k} (omega arith)
-          ∙ (ap (concat_map total_bytes) (take-suc ts k (pos 0) more) ∙ bytes_append (take k ts) (get_or ts k (pos 0) ∷ []))
+-- one total more
+pub total_put : (old : List ℕ) (ts : List ℤ) (k : ℕ) → k < length ts → 2 * length ts ≤ length old → (area bytes : List ℕ)
+    → area ≡ begins (concat_map total_bytes (take k ts)) old → bytes ≡ total_bytes (get_or ts k (pos 0))
+    → set (set area (2 * k) (get_or bytes 0 0)) (2 * k + 1) (get_or bytes 1 0) ≡ begins (concat_map total_bytes (take (k + 1) ts)) old
+total_put old ts k more room area bytes e two =
+    let done = concat_map total_bytes (take k ts) in
+    let z = get_or ts k (pos 0) in
+    let n : length (concat_map total_bytes (take k ts)) ≡ 2 * k = omega (arith, bytes_length (take k ts), length-take-le k ts (omega arith)) in
+    let long : length area ≡ length (concat_map total_bytes (take k ts)) + length (drop (length (concat_map total_bytes (take k ts))) old) =
+    ap length e ∙ length-append done (drop (length done) old) in
+    ap (λ b. set (set area (2 * k) (get_or b 0 0)) (2 * k + 1) (get_or b 1 0)) two
+    ∙ (two_written area (2 * k) _ _ (omega (arith, long, n, length-drop (length (concat_map total_bytes (take k ts))) old))
+    ∙ (ap (λ m. written area m (total_bytes z)) (sym n)
+    ∙ (behind done (total_bytes z) old area e
+    ∙ ap (λ l. begins l old)
+    (sym (bytes_append (take k ts) (z ∷ []))
+    ∙ ap (concat_map total_bytes) (sym (take-suc ts k (pos 0) more) ∙ ap (λ m. take m ts) {x = suc k} {y = k + 1} (omega arith))))))
 
-      after : written old at (concat_map total_bytes (take (k + 1) ts)) ≡ done ++ (total_bytes (get_or ts k (pos 0)) ++ drop (suc (suc (at + 2 * k))) old)
-      after =
-          ap (λ n. take at old ++ (concat_map total_bytes (take (k + 1) ts) ++ drop n old))
-          {x = at + length (concat_map total_bytes (take (k + 1) ts))} {y = suc (suc (at + 2 * k))}
-          (omega (arith, bytes_length (take (k + 1) ts), length-take-le (k + 1) ts (omega arith)))
-          ∙ (ap (λ b. take at old ++ (b ++ drop (suc (suc (at + 2 * k))) old)) bytes_are
-          ∙ (ap (λ b. take at old ++ b) (append_assoc (concat_map total_bytes (take k ts)) (total_bytes (get_or ts k (pos 0)))
-          (drop (suc (suc (at + 2 * k))) old))
-          ∙ sym (append_assoc (take at old) (concat_map total_bytes (take k ts)) (total_bytes (get_or ts k (pos 0)) ++ drop (suc (suc (at + 2 * k))) old))))
+behind_put : (bs bytes old part : List ℕ) (n : ℕ) → length bs ≡ n
+    → part ≡ begins bytes (take (length (bs ++ drop n old) - n) (drop n (bs ++ drop n old)))
+    → put_mid n (length (bs ++ drop n old) - n) (bs ++ drop n old) part ≡ begins (bs ++ bytes) old
+behind_put bs bytes old part n e p =
+    let rest = drop n old in
+    let back : drop n (bs ++ drop n old) ≡ drop n old = ap (λ m. drop m (bs ++ rest)) (sym e) ∙ drop-append_seam bs rest in
+    let size : length (bs ++ drop n old) - n ≡ length (drop n old) = omega (arith, length-append bs rest, e) in
+    let whole : part ≡ begins bytes (drop n old) = p ∙ ap (begins bytes) (ap₂ take size back ∙ take_all (length rest) rest (omega arith)) in
+    let none : drop (length (bs ++ drop n old) - n) (drop n (bs ++ drop n old)) ≡ [] = ap₂ drop size back ∙ drop-length rest in
+    ap₂ (λ l r. l ++ (part ++ r)) (take_at bs rest n e) none
+    ∙ (ap (λ l. bs ++ l) (append-nil part ∙ whole)
+    ∙ (ap (λ m. bs ++ (bytes ++ drop (length bytes) (drop m old))) (sym e)
+    ∙ (ap (λ l. bs ++ (bytes ++ l)) (drop-drop (length bytes) (length bs) old)
+    ∙ (sym (append_assoc bs bytes (drop (length bs + length bytes) old)) ∙ ap (λ k. (bs ++ bytes) ++ drop k old) (sym (length-append bs bytes))))))
+
+-- an area's first bytes, and behind them what is written to its end
+pub end_put : (bs bytes old part : List ℕ) (n : ℕ) (mid : List ℕ) → length bs ≡ n → mid ≡ bs ++ drop n old
+    → part ≡ begins bytes (take (length mid - n) (drop n mid)) → put_mid n (length mid - n) mid part ≡ begins (bs ++ bytes) old
+end_put bs bytes old part n mid e c p =
+    ap (λ m. put_mid n (length m - n) m part) c ∙ behind_put bs bytes old part n e (p ∙ ap (λ m. begins bytes (take (length m - n) (drop n m))) c)

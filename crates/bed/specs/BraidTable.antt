@@ -1,19 +1,15 @@
 -- What the test for the braid table says of every presentation that the cells stand for.
-use Rattle.std.specs.Prelude.{List, ◌≡◌, Bool, true, false, ℕ, ◌≤◌, ◌<◌}
+use Rattle.std.specs.Prelude.{List, ◌≡◌, Bool, ℕ, ◌≤◌, ◌<◌, Ok, Err}
+use Rattle.std.specs.Bool.{Decides}
+use Rattle.std.specs.declared.result.Result.{Result}
 use Rattle.model.specs.Word.{Positive}
 use Rattle.model.specs.Presentation.{Presentation, complement, complete}
 use Rattle.model.specs.Range.{InRange}
 use Rattle.model.specs.Outcome.{answered}
 use Rattle.model.specs.Stated.{refusal}
+use Rattle.model.specs.declared.answers.Refusal.{Refusal}
 use Rattle.model.specs.Bed.{braid_word, read_braid}
-use Rattle.images.specs.declared.tables.TableRead.{TableRead}
-use Rattle.images.specs.declared.tables.TableRead.TheVariants.{Table, Refused}
 use Rattle.cells.specs.Stands.{Stands, Of}
-
--- a test decides a statement
-pub record Decides (r : Bool) (P : Type 0) : Type 0 where
-  pub holds : r ≡ true → P
-  pub fails : r ≡ false → P → ⊥
 
 -- C(a,b) is as in the braid table
 pub record HasBraidWord (T : Presentation) (a b : ℕ) : Type 0 where
@@ -40,6 +36,6 @@ pub record BraidOf (image cells : List ℕ) (size : ℕ) : Type 0 where
   pub read : read_braid image ≡ answered table
   pub of : Of cells size table
 
-abbrev pub BraidDone : List ℕ → List ℕ → TableRead → Type 0
-BraidDone image cells (Table size) = BraidOf image cells size
-BraidDone image cells (Refused r) = read_braid image ≡ refusal r
+abbrev pub BraidDone : List ℕ → List ℕ → Result ℕ Refusal → Type 0
+BraidDone image cells (Ok size) = BraidOf image cells size
+BraidDone image cells (Err r) = read_braid image ≡ refusal r

@@ -7,17 +7,14 @@ ghost use Rattle.model.specs.Images.{most_size};
 ghost use Rattle.bed.specs.BraidTable.{WordDecided, RowDecided, BraidDone};
 
 use cells::layout::cell_at;
-use images::tables::{TableRead, read_table};
+use images::tables::read_table;
 use model::answers::Refusal;
 
 pub fn are_adjacent(a: u8, b: u8) -> bool
     requires { (a ≤ most_size) × (b ≤ most_size) }
     ensures { result ≡ adjacent a b }
 {
-    if a < b {
-        return a + 1 == b;
-    }
-    b + 1 == a
+    a.abs_diff(b) == 1
 }
 
 // Whether C(a,b) is b a, for letters that differ by 1, or b.
@@ -26,16 +23,10 @@ pub fn has_braid_word(cells: &[u8], a: u8, b: u8) -> bool
     ensures { WordDecided cells.now a b result }
 {
     let cell = cell_at(a, b);
-    if cells[cell + 1] != b {
-        return false;
-    }
     if are_adjacent(a, b) {
-        if cells[cell + 2] != a {
-            return false;
-        }
-        return cells[cell] == 2;
+        return cells[cell..cell + 3] == [2, b, a];
     }
-    cells[cell] == 1
+    cells[cell..cell + 2] == [1, b]
 }
 
 // The pairs of one letter with those after it.
@@ -43,15 +34,13 @@ pub fn is_braid_row(cells: &[u8], size: u8, a: u8) -> bool
     requires { Sized cells.now size × (1 ≤ a) × (a ≤ size) }
     ensures { RowDecided cells.now size a result }
 {
-    let mut b = a + 1;
-    while b <= size {
+    for b in a + 1..size + 1 {
         if !has_braid_word(cells, a, b) {
             return false;
         }
         if !has_braid_word(cells, b, a) {
             return false;
         }
-        b += 1;
     }
     true
 }
@@ -60,29 +49,22 @@ pub fn is_braid(cells: &[u8], size: u8) -> bool
     requires { Sized cells.now size }
     ensures { (T : Presentation) → Of cells.now size T → result ≡ is_braid T }
 {
-    let mut a: u8 = 1;
-    while a <= size {
+    for a in 1..size + 1 {
         if !is_braid_row(cells, size, a) {
             return false;
         }
-        a += 1;
     }
     true
 }
 
 // As reading a table into cells, then refusal 15 where it is not a braid table.
-pub fn read_braid(image: &[u8], cells: &mut [u8]) -> TableRead
+pub fn read_braid(image: &[u8], cells: &mut [u8]) -> Result<u8, Refusal>
     requires { Blank cells.old }
     ensures { BraidDone image.now cells.new result }
 {
-    let read = read_table(image, cells);
-    match read {
-        TableRead::Refused(refusal) => TableRead::Refused(refusal),
-        TableRead::Table { size } => {
-            if is_braid(cells, size) {
-                return TableRead::Table { size };
-            }
-            TableRead::Refused(Refusal::NotBraidTable)
-        }
+    let size = read_table(image, cells)?;
+    if is_braid(cells, size) {
+        return Ok(size);
     }
+    Err(Refusal::NotBraidTable)
 }

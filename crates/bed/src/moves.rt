@@ -1,5 +1,5 @@
 // The bed of a program: the bobbin at each place, and the total of each pair of bobbins.
-ghost use Rattle.std.specs.Prelude.{◌≡◌, ℕ, ◌+◌, ◌≤◌, ◌<◌, take, nat_abs};
+ghost use Rattle.std.specs.Prelude.{◌≡◌, ◌+◌, ◌≤◌, ◌<◌, take, nat_abs};
 ghost use Rattle.model.specs.Word.{Word};
 ghost use Rattle.model.specs.Range.{InRange};
 ghost use Rattle.model.specs.Enumeration.{pairs};
@@ -17,17 +17,21 @@ pub const MOST_BOBBINS: usize = 17;
 
 pub const MOST_PAIRS: usize = 136;
 
-// A table of n letters has the first n + 1 bobbins, and the totals of their pairs in order come first.
+// The bobbin at each of so many places, and the totals of the pairs of bobbins in order. What an array holds behind these says nothing.
+// Kept (6): (a) the project has no heap, so that the number of places stands beside arrays that hold the most.
 #[derive(Clone, Copy)]
 pub struct Bed {
+    pub places: usize,
     pub bobbins: [u8; MOST_BOBBINS],
     pub totals: [i16; MOST_PAIRS],
 }
 
-pub fn first_bed() -> Bed
-    ensures { (n : ℕ) → n ≤ most_size → Shows result (first_bed n) }
+// The bed of so many letters before any move.
+pub fn first_bed(size: u8) -> Bed
+    ensures { size ≤ most_size → Shows result (first_bed size) }
 {
     Bed {
+        places: size as usize + 1,
         bobbins: [1, 2, 3, 4, 5, 6, 7, 8, 9, 10, 11, 12, 13, 14, 15, 16, 17],
         totals: [0; MOST_PAIRS],
     }
@@ -54,33 +58,32 @@ pub fn total_index(places: usize, x: u8, y: u8) -> usize
     pair_index(places, y, x)
 }
 
-// The bobbins at the places i and i + 1 cross, and their total changes.
-pub fn crossed(bed: Bed, places: usize, i: u8, change: i16) -> Bed
-    requires { Crosses bed places i × (nat_abs change ≤ 1) }
-    ensures { CrossedBy bed places i change result }
-{
-    let high = i as usize;
-    let low = high - 1;
-    let x = bed.bobbins[low];
-    let y = bed.bobbins[high];
-    let at = total_index(places, x, y);
-    let total = bed.totals[at];
-    let mut next = bed;
-    next.bobbins[low] = y;
-    next.bobbins[high] = x;
-    next.totals[at] = total + change;
-    next
-}
-
-// One move, by its byte.
-pub fn moved(bed: Bed, places: usize, byte: u8) -> Bed
-    requires { Moves bed places byte }
-    ensures { MovedBy bed places byte result }
-{
-    if byte < BACK {
-        return crossed(bed, places, byte, 1);
+impl Bed {
+    // The bobbins at the places i and i + 1 cross, and their total changes.
+    pub fn cross(&mut self, i: u8, change: i16)
+        requires { Crosses self.old i × (nat_abs change ≤ 1) }
+        ensures { CrossedBy self.old i change self.new }
+    {
+        let high = i as usize;
+        let low = high - 1;
+        let x = self.bobbins[low];
+        let y = self.bobbins[high];
+        let at = total_index(self.places, x, y);
+        self.bobbins.swap(low, high);
+        self.totals[at] += change;
     }
-    crossed(bed, places, byte - BACK, -1)
+
+    // One move, by its byte.
+    pub fn make_move(&mut self, byte: u8)
+        requires { Moves self.old byte }
+        ensures { MovedBy self.old byte self.new }
+    {
+        if byte < BACK {
+            self.cross(byte, 1);
+            return;
+        }
+        self.cross(byte - BACK, -1);
+    }
 }
 
 // The first moves of an accepted program, from the first bed on.
@@ -89,13 +92,9 @@ pub fn laid(program: &[u8], size: u8, count: u16, made: u16) -> Bed
     ensures { (w : Word) → read_program size program.now ≡ answered w → Shows result (laid (take made w) (first_bed size)) }
 {
     let width = bits::letter_width(size) as u32;
-    let places = size as usize + 1;
-    let mut bed = first_bed();
-    let mut i: u16 = 0;
-    while i < made {
-        let byte = programs::letter_at(program, size, width, i as usize);
-        bed = moved(bed, places, byte);
-        i += 1;
+    let mut bed = first_bed(size);
+    for i in 0..made {
+        bed.make_move(programs::letter_at(program, size, width, i as usize));
     }
     bed
 }

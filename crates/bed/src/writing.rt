@@ -1,48 +1,34 @@
 // The bytes of a bed.
-ghost use Rattle.std.specs.Prelude.{◌≡◌, ◌+◌, ◌*◌, ◌≤◌, length, take};
+ghost use Rattle.std.specs.Prelude.{◌≡◌, ◌*◌, ◌≤◌, length};
 ghost use Rattle.model.specs.Enumeration.{concat_map};
-ghost use Rattle.model.specs.Areas.{written};
-ghost use Rattle.model.specs.Bed.{sixteen_bits, total_bytes};
+ghost use Rattle.model.specs.Areas.{begins};
+ghost use Rattle.model.specs.Bed.{total_bytes};
 ghost use Rattle.bed.specs.Shown.{BedWritten};
 
 use crate::moves::Bed;
 use areas::bytes::copy_bytes;
 
-// A total in two's complement of 16 bits.
-pub fn sixteen_bits(total: i16) -> u16
-    ensures { result ≡ sixteen_bits total }
-{
-    let wide = total as i32;
-    if wide < 0 {
-        return (wide + 65536) as u16;
-    }
-    wide as u16
-}
-
-// The first totals, two bytes each, the high one first, into an area from a place on.
-pub fn write_totals(bed: Bed, count: usize, area: &mut [u8], at: usize)
-    requires { (count ≤ 136) × (at + 2 * count ≤ length area.old) }
+// The totals, two bytes each in two's complement, the high one first, at the beginning of an area.
+pub fn write_totals(totals: &[i16], area: &mut [u8])
+    requires { 2 * length totals.now ≤ length area.old }
     ensures length { length area.new ≡ length area.old }
-    ensures totals { area.new ≡ written area.old at (concat_map total_bytes (take count bed.totals)) }
+    ensures totals { area.new ≡ begins (concat_map total_bytes totals.now) area.old }
 {
-    let totals = bed.totals;
-    let mut k: usize = 0;
-    while k < count {
-        let total = totals[k];
-        let bits = sixteen_bits(total);
-        area[at + 2 * k] = (bits / 256) as u8;
-        area[at + 2 * k + 1] = (bits % 256) as u8;
-        k += 1;
+    for (k, total) in totals.iter().enumerate() {
+        let [high, low] = total.cast_unsigned().to_be_bytes();
+        area[2 * k] = high;
+        area[2 * k + 1] = low;
     }
 }
 
 // The bobbins, a byte each, then the totals, at the beginning of an area.
-pub fn write_bed(bed: Bed, places: usize, area: &mut [u8])
-    requires { (1 ≤ places) × (places ≤ 17) × (places * places ≤ length area.old) }
+pub fn write_bed(bed: &Bed, area: &mut [u8])
+    requires { (1 ≤ bed.now.places) × (bed.now.places ≤ 17) × (bed.now.places * bed.now.places ≤ length area.old) }
     ensures length { length area.new ≡ length area.old }
-    ensures bed { BedWritten bed places area.old area.new }
+    ensures bed { BedWritten bed.now area.old area.new }
 {
-    let bobbins = bed.bobbins;
-    copy_bytes(&bobbins, places, area);
-    write_totals(bed, places * (places - 1) / 2, area, places);
+    let places = bed.places;
+    let pairs = places * (places - 1) / 2;
+    copy_bytes(&bed.bobbins[..places], area);
+    write_totals(&bed.totals[..pairs], &mut area[places..]);
 }

@@ -4,40 +4,28 @@
 ghost use Rattle.std.specs.Prelude.{◌≡◌, length};
 
 use clearing::clear::clear;
-use model::answers::{Cleared, Refusal, Reversed};
+use model::answers::Refusal;
 use reversal::reverse::reverse;
 use std::io;
 
 // Whether a refusal is 11 or 12.
 fn is_stop(refusal: Refusal) -> bool {
-    match refusal {
-        Refusal::AllowanceUsed(_) => true,
-        Refusal::WorkspaceShort(_) => true,
-        _ => false,
-    }
+    matches!(
+        refusal,
+        Refusal::AllowanceUsed(_) | Refusal::WorkspaceShort(_)
+    )
 }
 
 // Table E, C(a,b) = b a throughout: whether clearing stops.
 fn endless_stops(allowance: u16, workspace: &mut [u8]) -> bool
     ensures { length workspace.new ≡ length workspace.old }
 {
-    let cleared = clear(b"\x20\x04\x90\x86\x50\x45\x29\x26", allowance, workspace);
-    match cleared {
-        Cleared::Passed => false,
-        Cleared::Refused(refusal) => is_stop(refusal),
-    }
+    clear(b"\x20\x04\x90\x86\x50\x45\x29\x26", allowance, workspace).is_err_and(is_stop)
 }
 
 // At every allowance, from 0 to 65,535.
 fn endless_always_stops(workspace: &mut [u8]) -> bool {
-    let mut allowance: u16 = 0;
-    while allowance < 65535 {
-        if !endless_stops(allowance, workspace) {
-            return false;
-        }
-        allowance += 1;
-    }
-    endless_stops(65535, workspace)
+    (0..=u16::MAX).all(|allowance| endless_stops(allowance, workspace))
 }
 
 // The program of case 1 at allowance 5.
@@ -49,14 +37,7 @@ fn five_finish(workspace: &mut [u8], answer: &mut [u8]) -> bool {
         workspace,
         answer,
     );
-    match reversed {
-        Reversed::Refused(_) => false,
-        Reversed::Answer {
-            numerator,
-            denominator,
-            steps,
-        } => numerator == 4 && denominator == 3 && steps == 5,
-    }
+    reversed.is_ok_and(|told| told.numerator == 4 && told.denominator == 3 && told.steps == 5)
 }
 
 fn tell(rt: &impl Print, passed: bool) -> io::Result<()> {

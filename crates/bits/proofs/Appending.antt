@@ -1,29 +1,21 @@
 -- Bits put at a position, one part after another.
-use mathlib.Core.Path.{◌≡◌, refl, sym, ap, ap₂, ◌∙◌}
+use mathlib.Core.Path.{◌≡◌, sym, ap, ap₂, ◌∙◌}
 use mathlib.Core.List.{List, [], ◌∷◌, ◌++◌, append_assoc}
-use Prim.Native.Nat.{ℕ, ◌+◌, ◌*◌, ◌≤◌, ◌<◌}
+use Prim.Native.Nat.{ℕ, ◌+◌, ◌≤◌, ◌<◌}
 use native.Mathlib.Omega.{arith}
 use native.Mathlib.Numerals.{add-one}
-use lib.ListN.{length, take, drop, set, length-append, take-append-drop}
+use lib.ListN.{length, take, drop, set, length-append}
 use lib.Seq.{take_at, drop_at, drop-drop, length-take-le, set_split}
 use Rattle.model.specs.Bits.{bits_of, digits}
 use Rattle.model.specs.Areas.{written}
 use Rattle.bits.specs.Fields.{Written, Appended}
 use Rattle.bits.proofs.Digits.{length_digits}
-use Rattle.bits.proofs.Bytes.{length_bits}
 
 pub appended_field : (before : List ℕ) (at width v : ℕ) (after : List ℕ) → Written before at width v after → Appended before at (digits width v) after
 appended_field before at width v after w =
     record {
       same_length = w.same_length;
       bits = w.bits ∙ ap (λ n. take at (bits_of before) ++ (digits width v ++ drop (at + n) (bits_of before))) (sym (length_digits width v));
-    }
-
-pub appended_none : (before : List ℕ) (at : ℕ) → Appended before at [] before
-appended_none before at =
-    record {
-      same_length = refl;
-      bits = sym (ap (λ n. take at (bits_of before) ++ drop n (bits_of before)) {x = at + 0} {y = at} (omega arith) ∙ take-append-drop at (bits_of before));
     }
 
 -- one byte written
@@ -48,16 +40,6 @@ written_more old at xs ys h =
     ∙ (ap (λ l. (take at old ++ xs) ++ (ys ++ l)) d
     ∙ (append_assoc (take at old) xs (ys ++ drop (at + length (xs ++ ys)) old)
     ∙ ap (λ l. take at old ++ l) (sym (append_assoc xs ys (drop (at + length (xs ++ ys)) old)))))
-
-pub appended_more : (before : List ℕ) (at : ℕ) (xs mid ys after : List ℕ) → at + length xs ≤ 8 * length before
-    → Appended before at xs mid → Appended mid (at + length xs) ys after → Appended before at (xs ++ ys) after
-appended_more before at xs mid ys after h p q =
-    record {
-      same_length = q.same_length ∙ p.same_length;
-      bits =
-          q.bits
-          ∙ (ap (λ bits. written bits (at + length xs) ys) p.bits ∙ written_more (bits_of before) at xs ys (omega (arith, length_bits before)));
-    }
 
 -- at a position and with bits that are the same
 pub appended_as : {before after : List ℕ} {at at' : ℕ} {bits bits' : List ℕ} → at ≡ at' → bits ≡ bits' → Appended before at bits after

@@ -1,10 +1,10 @@
--- The bits of bytes: where they stand, and what a store of one byte changes. Reading a bit and writing a run rest on these.
+-- The bits of bytes: where they stand, and what a store of one byte changes. Writing a run rests on these.
 use mathlib.Core.Path.{◌≡◌, refl, sym, ap, ◌∙◌}
 use mathlib.Core.List.{List, [], ◌∷◌, ◌++◌, append_assoc}
-use Prim.Native.Nat.{ℕ, zero, suc, ◌+◌, ◌-◌, ◌*◌, ◌/◌, ◌%◌, ◌^◌, ◌≤◌, ◌<◌}
+use Prim.Native.Nat.{ℕ, suc, ◌+◌, ◌*◌, ◌≤◌, ◌<◌}
 use native.Mathlib.Omega.{arith}
-use lib.ListN.{length, take, drop, set, get_or, length-append, get_or-append}
-use lib.Seq.{split_at, set_split, get_or-drop, get_or-append-add, length-take-le}
+use lib.ListN.{length, take, drop, set, get_or, length-append}
+use lib.Seq.{split_at, set_split, get_or-drop, length-take-le}
 use Rattle.model.specs.Bits.{digits, bits_of}
 use Rattle.model.specs.Range.{AreBytes}
 use Rattle.bits.proofs.Digits.{AreBits, length_digits, digits_are_bits, bits_append}
@@ -30,22 +30,6 @@ bits_store xs q y h = ap bits_of (set_split xs q y h) ∙ bits_of_append (take q
 
 pub length_bits_take : (xs : List ℕ) (q : ℕ) → q ≤ length xs → length (bits_of (take q xs)) ≡ 8 * q
 length_bits_take xs q h = length_bits (take q xs) ∙ ap (λ n. 8 * n) (length-take-le q xs h)
-
-pub digit_at : (width v k : ℕ) → k < width → get_or (digits width v) k 0 ≡ v / 2 ^ (width - 1 - k) % 2
-digit_at zero v k h = absurd (omega arith)
-digit_at (suc width) v zero h = ap (λ n. v / 2 ^ n % 2) (omega arith)
-digit_at (suc width) v (suc k) h = digit_at width v k (omega arith) ∙ ap (λ n. v / 2 ^ n % 2) (omega arith)
-
--- the bit at a position is a digit of the byte there
-pub bit_at : (xs : List ℕ) (at : ℕ) → at < 8 * length xs → get_or (bits_of xs) at 0 ≡ get_or xs (at / 8) 0 / 2 ^ (7 - at % 8) % 2
-bit_at xs at h =
-    let q : at / 8 < length xs = omega arith in
-    let l : length (bits_of (take (at / 8) xs)) ≡ 8 * (at / 8) = length_bits_take xs (at / 8) (omega arith) in
-    ap (λ n. get_or (bits_of xs) n 0) (omega arith)
-    ∙ (ap (λ bs. get_or bs (length (bits_of (take (at / 8) xs)) + at % 8) 0) (bits_split xs (at / 8) q)
-    ∙ (get_or-append-add (bits_of (take (at / 8) xs)) (digits 8 (get_or xs (at / 8) 0) ++ bits_of (drop (suc (at / 8)) xs)) (at % 8) 0
-    ∙ (get_or-append (digits 8 (get_or xs (at / 8) 0)) (bits_of (drop (suc (at / 8)) xs)) 0 (at % 8) (omega (arith, length_digits 8 (get_or xs (at / 8) 0)))
-    ∙ digit_at 8 (get_or xs (at / 8) 0) (at % 8) (omega arith))))
 
 -- bytes without the first ones
 pub bytes_drop : (k : ℕ) (xs : List ℕ) → AreBytes xs → AreBytes (drop k xs)

@@ -1,5 +1,5 @@
 -- More of a field, a run at a time: the steps that `read_field` and `write_field` take.
-use mathlib.Core.Path.{◌≡◌, refl, sym, ap, ◌∙◌}
+use mathlib.Core.Path.{◌≡◌, sym, ap, ◌∙◌}
 use mathlib.Core.List.{List, [], ◌∷◌, ◌++◌, append_assoc}
 use Prim.Native.Nat.{ℕ, zero, suc, ◌+◌, ◌-◌, ◌*◌, ◌/◌, ◌%◌, ◌^◌, ◌≤◌, ◌<◌}
 use native.Mathlib.Omega.{arith}
@@ -39,7 +39,7 @@ module _ (bytes : List ℕ) (at width : ℕ) (inside : Inside bytes at width) wh
 
   -- a run more
   module _ (i c : ℕ) (more : i + c ≤ width) where
-    pub field_more : number 0 (take (i + c) (drop at (bits_of bytes))) ≡ number 0 (take i (drop at (bits_of bytes))) * 2 ^ c + number 0
+    field_more : number 0 (take (i + c) (drop at (bits_of bytes))) ≡ number 0 (take i (drop at (bits_of bytes))) * 2 ^ c + number 0
         (take c (drop (at + i) (bits_of bytes)))
     field_more =
         let bits = drop at (bits_of bytes) in
@@ -55,20 +55,18 @@ module _ (bytes : List ℕ) (at width : ℕ) (inside : Inside bytes at width) wh
         (length-take-le c (drop (at + i) (bits_of bytes)) (omega (arith, rest_long i (omega arith))))))
 
     -- what is computed on the way fits
-    pub shift_exact : number 0 (take i (drop at (bits_of bytes))) * 2 ^ c % 65536 ≡ number 0 (take i (drop at (bits_of bytes))) * 2 ^ c
+    shift_exact : number 0 (take i (drop at (bits_of bytes))) * 2 ^ c % 65536 ≡ number 0 (take i (drop at (bits_of bytes))) * 2 ^ c
     shift_exact = shl_exact i c most_width (field_fits i (omega arith)) (omega (arith, inside.narrow))
 
-    pub step_fits : number 0 (take i (drop at (bits_of bytes))) * 2 ^ c + number 0 (take c (drop (at + i) (bits_of bytes))) < 2 ^ 16
-    step_fits =
+    pub more_fits : number 0 (take (i + c) (drop at (bits_of bytes))) < 2 ^ 16
+    more_fits =
         let m : 2 ^ (i + c) ≤ 2 ^ most_width = pow_mono {j = most_width} (omega (arith, inside.narrow)) in
-        omega (arith, field_more, field_fits (i + c) more)
+        omega (arith, field_fits (i + c) more)
 
--- before the first run nothing is written
-pub written_none : (xs : List ℕ) (at v : ℕ) → Written xs at 0 v xs
-written_none xs at v = record {
-  same_length = refl;
-  bits = sym (ap (λ n. take at (bits_of xs) ++ drop n (bits_of xs)) {x = at + 0} {y = at} (omega arith) ∙ take-append-drop at (bits_of xs));
-}
+    -- .. as code computes it
+    pub field_next : (value run : ℕ) → value ≡ number 0 (take i (drop at (bits_of bytes))) → run ≡ number 0 (take c (drop (at + i) (bits_of bytes)))
+        → value * 2 ^ c % 65536 + run ≡ number 0 (take (i + c) (drop at (bits_of bytes)))
+    field_next value run ev er = rw (ev, er) (ap (λ n. n + number 0 (take c (drop (at + i) (bits_of bytes)))) shift_exact ∙ sym field_more)
 
 joined : (a b m r : List ℕ) → (a ++ b) ++ (m ++ r) ≡ a ++ ((b ++ m) ++ r)
 joined a b m r = simp append_assoc

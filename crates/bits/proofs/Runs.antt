@@ -6,7 +6,7 @@ use native.Mathlib.Omega.{arith}
 use native.Mathlib.Nat.{mod-lt, zero-mul}
 use lib.ListN.{length, take, drop, set, get_or, length-set, length-append}
 use lib.Seq.{take_at, drop_at, drop-drop}
-use lib.Pow.{pow_pos, pow_mono, pow-add, shl_exact, shr_lt, shr-shr, high}
+use lib.Pow.{pow_pos, pow-add, shl_exact, shr_lt, shr-shr, high}
 use lib.Arith.{digits_lt}
 use Rattle.model.specs.Bits.{digits, number, bits_of}
 use Rattle.bits.specs.Fields.{Written}
@@ -89,24 +89,9 @@ module _ (xs : List ℕ) (at c v : ℕ) where
   abbrev stored : ℕ
   stored = start * weight + get_or xs (at / 8) 0 % weight
 
-  -- no divisor is 0, and what is computed on the way fits
-  pub record RunFits : Type 0 where
-    pub some_span : 0 < span
-    pub some_weight : 0 < weight
-    pub start_fits : start < 2 ^ 8
-    pub stored_fits : stored < 2 ^ 8
-
-  pub run_fits : at % 8 + c ≤ 8 → get_or xs (at / 8) 0 < 2 ^ 8 → RunFits
-  run_fits place byte =
-      let s = shifted_one 32 c (omega arith) in
-      let w = shifted_one 32 (8 - at % 8 - c) (omega arith) in
-      let m : 2 ^ (at % 8 + c) ≤ 2 ^ 8 = pow_mono {j = 8} place in
-      record {
-        some_span = omega (arith, pow_pos c);
-        some_weight = omega (arith, pow_pos (8 - at % 8 - c));
-        start_fits = omega (arith, head_below 8 (at % 8) c (get_or xs (at / 8) 0) v span weight place s w byte);
-        stored_fits = whole_below 8 (at % 8) c (get_or xs (at / 8) 0) v span weight place s w byte;
-      }
+  pub stored_fits : at % 8 + c ≤ 8 → get_or xs (at / 8) 0 < 2 ^ 8 → stored < 2 ^ 8
+  stored_fits place byte =
+      whole_below 8 (at % 8) c (get_or xs (at / 8) 0) v span weight place (shifted_one 32 c (omega arith)) (shifted_one 32 (8 - at % 8 - c) (omega arith)) byte
 
   -- the bits before the run, those of the run and those after it
   abbrev before : List ℕ

@@ -10,18 +10,14 @@ pub fn letter_width(n: u8) -> u8
     requires { (1 ≤ n) × (n ≤ most_size) }
     ensures { result ≡ letter_width n }
 {
-    (8 - u8::leading_zeros(n - 1)) as u8
+    (u8::BITS - (n - 1).leading_zeros()) as u8
 }
 
 // How many of the bits of a field stand in the byte of its first bit.
 fn run_length(at: usize, width: usize) -> usize
     ensures { RunOf at width result }
 {
-    let room = 8 - at % 8;
-    if width < room {
-        return width;
-    }
-    room
+    width.min(8 - at % 8)
 }
 
 // The number that a run of bits within one byte writes.
@@ -41,6 +37,7 @@ pub fn read_field(bytes: &[u8], at: usize, width: usize) -> u16
 {
     let mut value: u16 = 0;
     let mut i: usize = 0;
+    // Kept (3): (d) a turn takes a run of 1 to 8 bits, so no range counts the turns.
     while i < width {
         let count = run_length(at + i, width - i);
         let run = read_run(bytes, at + i, count);
@@ -71,6 +68,7 @@ pub fn write_field(bytes: &mut [u8], at: usize, width: usize, value: u32)
     ensures { Written bytes.old at width value bytes.new }
 {
     let mut left = width;
+    // Kept (3): (d) a turn takes a run of 1 to 8 bits, so no range counts the turns.
     while left > 0 {
         let place = at + (width - left);
         let count = run_length(place, left);

@@ -6,11 +6,11 @@ ghost use Rattle.braid.specs.Told.{told, sizes_told, passed_told, verdict_told, 
 ghost use Rattle.braid.specs.Told.{logs_told};
 
 use model::answers::{
-    Chained, Checked, Cleared, Compared, ComparedSigned, Packed, Refusal, Remaining, Reversed,
-    TrayCompared, Ways,
+    Chained, Checked, Compared, ComparedSigned, Refusal, Remaining, Reversed, Ways,
 };
 use numbering::refusals::refusal_numbers;
 
+// Kept (1): (a) C is told the outcome as this number, 0 of an answer, which `told` states.
 #[derive(Clone, Copy)]
 pub struct Numbers {
     pub code: u8,
@@ -20,15 +20,16 @@ pub struct Numbers {
     pub fourth: u64,
 }
 
-pub(crate) fn alone(code: u8) -> Numbers
-    ensures { result ≡ record { code = code; first = 0; second = 0; third = 0; fourth = 0 } }
+// An answer's four values.
+pub(crate) fn answered(first: u64, second: u64, third: u64, fourth: u64) -> Numbers
+    ensures { result ≡ record { code = 0; first = first; second = second; third = third; fourth = fourth } }
 {
     Numbers {
-        code,
-        first: 0,
-        second: 0,
-        third: 0,
-        fourth: 0,
+        code: 0,
+        first,
+        second,
+        third,
+        fourth,
     }
 }
 
@@ -46,159 +47,103 @@ pub(crate) fn of_refusal(refused: Refusal) -> Numbers
     }
 }
 
-pub(crate) fn of_reversed(answer: Reversed) -> Numbers
+// Kept (2): (d) each answer has values of its own, and a refusal is told by one function: one function over all answers would only take the arms as closures.
+pub(crate) fn of_reversed(answer: Result<Reversed, Refusal>) -> Numbers
     ensures { result ≡ told sizes_told (reversed answer) }
 {
-    match answer {
-        Reversed::Refused(refusal) => of_refusal(refusal),
-        Reversed::Answer {
-            numerator,
-            denominator,
-            steps,
-        } => Numbers {
-            code: 0,
-            first: numerator as u64,
-            second: denominator as u64,
-            third: steps as u64,
-            fourth: 0,
-        },
-    }
+    answer.map_or_else(
+        of_refusal,
+        |words| answered(
+            words.numerator as u64,
+            words.denominator as u64,
+            words.steps as u64,
+            0,
+        ),
+    )
 }
 
-pub(crate) fn of_cleared(answer: Cleared) -> Numbers
+pub(crate) fn of_cleared(answer: Result<(), Refusal>) -> Numbers
     ensures { result ≡ told passed_told (cleared_as answer) }
 {
-    match answer {
-        Cleared::Refused(refusal) => of_refusal(refusal),
-        Cleared::Passed => alone(0),
-    }
+    answer.map_or_else(of_refusal, |_| answered(0, 0, 0, 0))
 }
 
-pub(crate) fn counted(first: u64, second: u64) -> Numbers
-    ensures { result ≡ record { code = 0; first = first; second = second; third = 0; fourth = 0 } }
-{
-    Numbers {
-        code: 0,
-        first,
-        second,
-        third: 0,
-        fourth: 0,
-    }
-}
-
-pub(crate) fn counted_twice(first: u64, second: u64, third: u64) -> Numbers
-    ensures { result ≡ record { code = 0; first = first; second = second; third = third; fourth = 0 } }
-{
-    Numbers {
-        code: 0,
-        first,
-        second,
-        third,
-        fourth: 0,
-    }
-}
-
-pub(crate) fn of_compared(answer: Compared) -> Numbers
+pub(crate) fn of_compared(answer: Result<Compared, Refusal>) -> Numbers
     ensures { result ≡ told verdict_told (compared answer) }
 {
     match answer {
-        Compared::Refused(refusal) => of_refusal(refusal),
-        Compared::Same {
-            steps,
-            relations: _,
-        } => counted(0, steps as u64),
-        Compared::Different { steps } => counted(1, steps as u64),
+        Err(refusal) => of_refusal(refusal),
+        Ok(Compared::Same { steps, .. }) => answered(0, steps as u64, 0, 0),
+        Ok(Compared::Different { steps }) => answered(1, steps as u64, 0, 0),
     }
 }
 
-pub(crate) fn of_compared_signed(answer: ComparedSigned) -> Numbers
+pub(crate) fn of_compared_signed(answer: Result<ComparedSigned, Refusal>) -> Numbers
     ensures { result ≡ told signed_told (compared_signed answer) }
 {
     match answer {
-        ComparedSigned::Refused(refusal) => of_refusal(refusal),
-        ComparedSigned::Same { first, second } => counted_twice(0, first as u64, second as u64),
-        ComparedSigned::Different { first, second } => {
-            counted_twice(1, first as u64, second as u64)
+        Err(refusal) => of_refusal(refusal),
+        Ok(ComparedSigned::Same { first, second }) => answered(0, first as u64, second as u64, 0),
+        Ok(ComparedSigned::Different { first, second }) => {
+            answered(1, first as u64, second as u64, 0)
         }
     }
 }
 
-pub(crate) fn of_chained(answer: Chained) -> Numbers
+pub(crate) fn of_chained(answer: Result<Chained, Refusal>) -> Numbers
     ensures { result ≡ told chain_told (chained answer) }
 {
     match answer {
-        Chained::Refused(refusal) => of_refusal(refusal),
-        Chained::Listed {
-            steps,
-            entries,
-            bytes,
-        } => Numbers {
-            code: 0,
-            first: 0,
-            second: steps as u64,
-            third: entries as u64,
-            fourth: bytes as u64,
-        },
-        Chained::Unlisted { steps } => counted(1, steps as u64),
+        Err(refusal) => of_refusal(refusal),
+        Ok(
+            Chained::Listed {
+                steps,
+                entries,
+                bytes,
+            },
+        ) => answered(0, steps as u64, entries as u64, bytes as u64),
+        Ok(Chained::Unlisted { steps }) => answered(1, steps as u64, 0, 0),
     }
 }
 
-pub(crate) fn of_remaining(answer: Remaining) -> Numbers
+pub(crate) fn of_remaining(answer: Result<Remaining, Refusal>) -> Numbers
     ensures { result ≡ told remainder_told (remaining answer) }
 {
     match answer {
-        Remaining::Refused(refusal) => of_refusal(refusal),
-        Remaining::Moves { count, steps } => Numbers {
-            code: 0,
-            first: 0,
-            second: count as u64,
-            third: steps as u64,
-            fourth: 0,
-        },
-        Remaining::Nothing { steps } => Numbers {
-            code: 0,
-            first: 1,
-            second: 0,
-            third: steps as u64,
-            fourth: 0,
-        },
+        Err(refusal) => of_refusal(refusal),
+        Ok(Remaining::Moves { count, steps }) => answered(0, count as u64, steps as u64, 0),
+        Ok(Remaining::Nothing { steps }) => answered(1, 0, steps as u64, 0),
     }
 }
 
-pub(crate) fn of_checked(answer: Checked) -> Numbers
+pub(crate) fn of_checked(answer: Result<Checked, Refusal>) -> Numbers
     ensures { result ≡ told passage_told (checked answer) }
 {
     match answer {
-        Checked::Refused(refusal) => of_refusal(refusal),
-        Checked::Joins => counted(0, 0),
-        Checked::Breaks { entry } => counted(1, entry as u64),
-        Checked::EndsElsewhere => counted(2, 0),
+        Err(refusal) => of_refusal(refusal),
+        Ok(Checked::Joins) => answered(0, 0, 0, 0),
+        Ok(Checked::Breaks { entry }) => answered(1, entry as u64, 0, 0),
+        Ok(Checked::EndsElsewhere) => answered(2, 0, 0, 0),
     }
 }
 
-pub(crate) fn of_packed(answer: Packed) -> Numbers
+pub(crate) fn of_packed(answer: Result<usize, Refusal>) -> Numbers
     ensures { result ≡ told bytes_told (packed_as answer) }
 {
-    match answer {
-        Packed::Refused(refusal) => of_refusal(refusal),
-        Packed::Written { bytes } => counted(bytes as u64, 0),
-    }
+    answer.map_or_else(of_refusal, |bytes| answered(bytes as u64, 0, 0, 0))
 }
 
-pub(crate) fn of_ways(answer: Ways) -> Numbers
+pub(crate) fn of_ways(answer: Result<Ways, Refusal>) -> Numbers
     ensures { result ≡ told counts_told (listed_as answer) }
 {
-    match answer {
-        Ways::Refused(refusal) => of_refusal(refusal),
-        Ways::Listed { words, bytes } => counted(words as u64, bytes as u64),
-    }
+    answer.map_or_else(
+        of_refusal,
+        |listing| answered(listing.words as u64, listing.bytes as u64, 0, 0),
+    )
 }
 
-pub(crate) fn of_tray_compared(answer: TrayCompared) -> Numbers
+pub(crate) fn of_tray_compared(answer: Result<u8, Refusal>) -> Numbers
     ensures { result ≡ told logs_told (tray_compared answer) }
 {
-    match answer {
-        TrayCompared::Refused(refusal) => of_refusal(refusal),
-        TrayCompared::Answered { logs } => counted(logs as u64, 0),
-    }
+    answer.map_or_else(of_refusal, |logs| answered(logs as u64, 0, 0, 0))
 }

@@ -14,7 +14,7 @@ pub const CELLS: usize = LETTERS * LETTERS * CELL;
 // What stands for the length of C(a,b) in the cell of an undefined pair, as a byte and as a length.
 pub const UNDEFINED: u8 = 255;
 
-pub const UNDEFINED_LENGTH: usize = 255;
+pub const UNDEFINED_LENGTH: usize = UNDEFINED as usize;
 
 // Where the cell of a pair begins.
 pub fn cell_at(a: u8, b: u8) -> usize

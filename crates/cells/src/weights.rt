@@ -11,6 +11,5 @@ pub fn letter_weight(cells: &[u8], a: u8) -> u16
     requires letter { InRange most_size a }
     ensures { result ≡ suc (get_or cells.now (weight_at a) 0) }
 {
-    let place = weight_at(a);
-    cells[place] as u16 + 1
+    cells[weight_at(a)] as u16 + 1
 }

@@ -1,5 +1,6 @@
 -- What checking a chain between two loaded programs comes to.
-use Rattle.std.specs.Prelude.{List, cond, ◌↔◌, ◌≡◌, ℕ, ◌≤◌, length}
+use Rattle.std.specs.Prelude.{List, cond, ◌↔◌, ◌≡◌, ℕ, ◌≤◌, length, Ok}
+use Rattle.std.specs.declared.result.Result.{Result}
 use Rattle.model.specs.Word.{Positive}
 use Rattle.model.specs.Presentation.{Presentation}
 use Rattle.model.specs.Equivalence.{Entry, equal, Joined}
@@ -10,6 +11,7 @@ use Rattle.model.specs.Services.{Passage, joins, ends_elsewhere, read_forward, f
 use Rattle.model.specs.Areas.{Compares, workspace_after}
 use Rattle.model.specs.Stated.{checked}
 use Rattle.model.specs.declared.answers.Checked.{Checked}
+use Rattle.model.specs.declared.answers.Refusal.{Refusal}
 use Rattle.theory.specs.Passages.{Passes}
 use Rattle.images.specs.Chains.{ChainOf}
 use Rattle.images.specs.Programs.{ForwardOf}
@@ -27,10 +29,10 @@ pub record Arrives (bytes : List ℕ) (left right : ℕ) (second : List ℕ) (si
 -- whether the word is the program's
 abbrev pub ArrivalMeans : List ℕ → ℕ → ℕ → List ℕ → ℕ → Checked → Type 0
 ArrivalMeans bytes left right second size r =
-    (v : Positive) → read_forward size second ≡ answered v → checked r ≡ answered (cond (equal (held_at bytes left right) v) joins ends_elsewhere)
+    (v : Positive) → read_forward size second ≡ answered v → checked (Ok r) ≡ answered (cond (equal (held_at bytes left right) v) joins ends_elsewhere)
 
 -- where the entries lead from the word that stands at the area's end
-abbrev pub LoadedMeans : List ℕ → ℕ → List ℕ → List ℕ → List ℕ → ℕ → Checked → Type 0
+abbrev pub LoadedMeans : List ℕ → ℕ → List ℕ → List ℕ → List ℕ → ℕ → Result Checked Refusal → Type 0
 LoadedMeans cells size second entries bytes right r =
     (T : Presentation) → Of cells size T → (v : Positive) → read_forward size second ≡ answered v → (es : List Entry)
     → read_chain size entries ≡ answered es → checked r ≡ followed T (length bytes) 0 (held_at bytes 0 right) es v
@@ -40,12 +42,12 @@ pub record ForwardChain (cells : List ℕ) (size : ℕ) (first : List ℕ) (firs
   pub forward : Forward cells size first firsts second seconds
   pub chain : ChainOf entries size entry_count
 
-abbrev pub PassageMeans : List ℕ → ℕ → List ℕ → List ℕ → List ℕ → ℕ → Checked → Type 0
+abbrev pub PassageMeans : List ℕ → ℕ → List ℕ → List ℕ → List ℕ → ℕ → Result Checked Refusal → Type 0
 PassageMeans cells size first second entries room r =
     (T : Presentation) → Of cells size T → (u v : Positive) → read_forward size first ≡ answered u → read_forward size second ≡ answered v → (es : List Entry)
     → read_chain size entries ≡ answered es → checked r ≡ passage T room u es v
 
-pub record Checks (cells : List ℕ) (size : ℕ) (first second entries before after : List ℕ) (r : Checked) : Type 0 where
+pub record Checks (cells : List ℕ) (size : ℕ) (first second entries before after : List ℕ) (r : Result Checked Refusal) : Type 0 where
   pub wiped : after ≡ workspace_after (checked r) before
   pub passes : PassageMeans cells size first second entries (length before) r
 

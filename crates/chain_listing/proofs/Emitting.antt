@@ -85,14 +85,8 @@ module _ {t : Task} {cells : List ℕ} {size total : ℕ} {bytes answer : List �
   pub passed_few : at.passed < 2 ^ offset_width
   passed_few = omega (arith, passed_of_lem s top.top, passed_short s.settled course)
 
-  pub stacked_some : 1 ≤ at.stacked
-  stacked_some = omega (arith, stacked_of s top.top)
-
   pub slots_over : at.emitted < total
   slots_over = omega (arith, s.held.emitted, relations_within t total course.running)
-
-  pub slot_over : EntryInside size at.emitted answer
-  slot_over = slot_in s.settled s.held.layout.same_length at.emitted slots_over
 
   -- C(b,a) fits between the rest and what is left of the second word
   room_here : at.left + length f.other ≤ at.right

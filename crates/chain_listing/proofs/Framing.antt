@@ -98,20 +98,6 @@ module _ (n total : ℕ) (before mid after : List ℕ) (room : chain_bytes n tot
             ∙ ap₂ (λ i t. digits chain_count_width total ++ (gap ++ (digits i 0 ++ t))) w last_bits);
       }
 
-  pub fill_inside : length mid ≡ length before → total < 65536 → Writable mid end ((8 - end % 8) % 8)
-  fill_inside e h =
-      record {
-        narrow = omega arith;
-        inside = ends (entry_position n total) here (length before) e room;
-        small = small (entry_position n total) (entry_width n) here (entry_small n total h);
-      }
-    where
-      ends : (k : ℕ) → end ≡ k → (l : ℕ) → length mid ≡ l → bytes_for k ≤ l → end + (8 - end % 8) % 8 ≤ 8 * length mid
-      ends k f l m r = omega arith
-
-      small : (k s : ℕ) → end ≡ k → k + s ≤ 2000000 → end + (8 - end % 8) % 8 < 2 ^ 64
-      small k s f r = omega arith
-
 -- AT THE END
 
 zero_digits : (width : ℕ) → digits width 0 ≡ replicate width 0

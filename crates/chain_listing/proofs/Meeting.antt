@@ -120,9 +120,6 @@ module _ {t : Task} {cells : List ℕ} {size total b : ℕ} {bytes answer : List
     pub left_some : 1 ≤ at.left
     left_some = facing.first.some
 
-    pub left_inside : at.left ≤ length bytes
-    left_inside = omega (arith, s.held.ordered, s.held.inside)
-
     pub passed_small : at.passed < 2 ^ offset_width
     passed_small = omega (arith, s.held.passed, passed_within s.settled s.course)
 
@@ -131,9 +128,6 @@ module _ {t : Task} {cells : List ℕ} {size total b : ℕ} {bytes answer : List
 
     pub b_here : InRange size b
     b_here = taken_named s.settled b s.faces s.done s.left s.course.stacked
-
-    pub stacked_small : at.stacked < 65536
-    stacked_small = omega (arith, s.held.stacked, relations_within t total s.course.running, s.settled.few)
 
     pub met_equal_here : meeting ≡ b
         → Situation t cells size total [] bytes answer

@@ -38,13 +38,7 @@ pub fn meet(
     let a = bytes[left] - BACK;
     let passed = at.passed + 1;
     if a == b {
-        return Progress {
-            left,
-            right: at.right,
-            passed,
-            emitted: at.emitted,
-            stacked: at.stacked,
-        };
+        return Progress { left, passed, ..at };
     }
     let to = cell_at(a, b);
     let offset = cells[to] as u16;
@@ -52,10 +46,9 @@ pub fn meet(
     write_entry(answer, size, total - stacked, ChainEntry { offset, a, b });
     Progress {
         left,
-        right: at.right,
         passed,
-        emitted: at.emitted,
         stacked,
+        ..at
     }
 }
 
@@ -72,14 +65,10 @@ pub fn take_letter(
     requires more { (at.stacked ≡ 0) × (at.right < length bytes.now) }
     ensures { Moves cells.now size total [] bytes.now answer.old at bytes.now answer.new result }
 {
-    let right = at.right;
-    let next = bytes[right];
+    let next = bytes[at.right];
     let taken = Progress {
-        left: at.left,
-        right: right + 1,
-        passed: at.passed,
-        emitted: at.emitted,
-        stacked: at.stacked,
+        right: at.right + 1,
+        ..at
     };
     meet(cells, size, total, bytes, taken, next, answer)
 }
@@ -89,8 +78,7 @@ pub fn face_start(cells: &[u8], passed: usize, a: u8, b: u8) -> usize
     requires { FacePassed cells.now passed a b }
     ensures { result ≡ passed - get_or cells.now (cell_at a b) 0 - 1 }
 {
-    let to = cell_at(a, b);
-    let x = cells[to] as usize;
+    let x = cells[cell_at(a, b)] as usize;
     passed - x - 1
 }
 
@@ -102,8 +90,7 @@ pub fn extend_rest(cells: &[u8], bytes: &mut [u8], left: usize, a: u8, b: u8) ->
         (get_or cells.now (cell_at a b) 0) bytes.new }
 {
     let from = cell_at(a, b);
-    let y = cells[from] as usize;
-    let end = left + y;
+    let end = left + cells[from] as usize;
     push_inverse(bytes, end, cells, from);
     end
 }
@@ -129,10 +116,10 @@ pub fn emit(
     let left = extend_rest(cells, bytes, at.left, b, a);
     Progress {
         left,
-        right: at.right,
         passed: start + 1,
         emitted: at.emitted + 1,
         stacked: at.stacked - 1,
+        ..at
     }
 }
 

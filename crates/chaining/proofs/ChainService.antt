@@ -2,10 +2,9 @@
 use mathlib.Core.Path.{◌≡◌, refl, sym, ap, ap₂, subst, ◌∙◌}
 use mathlib.Core.List.{List, [], ◌++◌}
 use mathlib.Core.Bool.{Bool, true, false}
-use Prim.Native.Nat.{ℕ, ◌+◌, ◌≤◌, ◌<◌}
+use Prim.Native.Nat.{ℕ, ◌+◌, ◌-◌, ◌≤◌, ◌<◌}
 use native.Mathlib.Omega.{arith}
 use native.Mathlib.Decide.{dec_lt}
-use borrow.Author.Tests.{lt-ltb, le-ltb}
 use lib.Dec.{ltb}
 use lib.ListN.{length, length-append}
 use Rattle.model.specs.Word.{Word, Positive, positive, negative}
@@ -17,12 +16,13 @@ use Rattle.model.specs.Services.{Verdict, same_after, different_after, read_forw
 use Rattle.model.specs.Services.{unlisted_after}
 use Rattle.model.specs.Services.{chain_answer, verdict_in, chain, Images, read_images}
 use Rattle.model.specs.Areas.{Compares, Listed, ChainArea, workspace_after}
-use Rattle.model.specs.Stated.{refusal}
+use Rattle.model.specs.Stated.{refusal, compared}
 use Rattle.model.specs.declared.answers.Refusal.{Refusal}
-use Rattle.model.specs.declared.answers.Refusal.TheVariants.{AnswerShort}
+use Rattle.std.specs.Prelude.{Ok}
+use Rattle.std.specs.declared.result.Result.{Result}
 use Rattle.model.specs.declared.answers.Compared.{Compared}
-use Rattle.model.specs.declared.answers.Compared.TheVariants.{Same, Different, Refused}
-use Rattle.model.proofs.Impossible.{impossible, answer_of}
+use Rattle.model.specs.declared.answers.Compared.TheVariants.{Same}
+use Rattle.model.proofs.Impossible.{impossible, answer_of, same_answer}
 use Rattle.model.proofs.Reversal.{reversing_long}
 use Rattle.model.proofs.Equiv.{Homogeneous}
 use Rattle.theory.proofs.Clearing.{clear_homogeneous}
@@ -31,16 +31,16 @@ use Rattle.theory.proofs.Comparison.{answered_clear}
 use Rattle.theory.specs.Verdicts.{VerdictMeaning}
 use Rattle.theory.proofs.Verdicts.{demand_three_told}
 use Rattle.model.specs.Range.{ProgramInRange, Lettered}
-use Rattle.model.proofs.Outcomes.{still_refused}
 use Rattle.images.specs.Programs.{ForwardOf}
 use Rattle.images.proofs.RoundTrip.{chain_reads_back, program_in_range}
 use Rattle.cells.specs.Stands.{Of}
 use Rattle.cells.proofs.Rules.{of_few, weight_within}
 use Rattle.engine.proofs.Lettering.{length_positive, length_negative}
-use Rattle.chain_listing.specs.Listing.{Chained, Compared as Listed-from}
-use Rattle.comparing.specs.Compare.{Ended, Judged, CompareSays}
-use Rattle.loading.specs.Reversing.{LoadedPrograms}
-use Rattle.chaining.specs.Chain.{Area, ListedAs, JoinsChecked, ListedChecks}
+use Rattle.chain_listing.specs.Listing.{Chained, Listable, Compared as Listed-from}
+use Rattle.comparing.specs.Compare.{Ended, EndedIf, Judged, CompareSays}
+use Rattle.loading.specs.Loading.{Forward}
+use Rattle.loading.specs.Reversing.{LoadedPrograms, Loads}
+use Rattle.chaining.specs.Chain.{EndsSame, Area, ListedAs, JoinsChecked, ListedChecks, ChainPromise}
 use Rattle.loading.proofs.Outcomes.{AsFound}
 use Rattle.loading.proofs.Reading.{programs_refused, programs_run}
 use Rattle.chain_check.proofs.CheckService.{check_runs}
@@ -52,63 +52,30 @@ verdict_back n (answered (different_after k)) = refl
 verdict_back n (refused i place) = refl
 
 -- and the workspace after it is that after the verdict
-pub answer_workspace : (n : ℕ) (o : Outcome Verdict) (area : List ℕ) → workspace_after (mapped (chain_answer n) o) area ≡ workspace_after o area
+answer_workspace : (n : ℕ) (o : Outcome Verdict) (area : List ℕ) → workspace_after (mapped (chain_answer n) o) area ≡ workspace_after o area
 answer_workspace n (answered v) area = refl
 answer_workspace n (refused i place) area = refl
-
--- A VERDICT THAT LISTS NOTHING
-
-abbrev pub NotSame : Compared → Type 0
-NotSame (Same k r) = ⊥
-NotSame (Different k) = Unit {0}
-NotSame (Refused r) = Unit {0}
-
-module _ (T : Presentation) (u v : Positive) (budget room : ℕ) (before : List ℕ) where
-  pub lists_nothing : (j : Compared) → NotSame j → Judged T u v budget room j → ListedAs T u v budget room before before j
-  lists_nothing (Same k r) unlike p = absurd unlike
-  lists_nothing (Different k) unlike p =
-      record { verdict = ap (λ o. o >>= listable T.size (length before)) p.verdict; area = refl }
-  lists_nothing (Refused r) unlike p =
-      record {
-        verdict = sym (still_refused (comparison T u v budget room) r (sym p.verdict) (listable T.size (length before)));
-        area = refl;
-      }
-
-  module _ (size k r : ℕ) (sized : T.size ≡ size) (p : Judged T u v budget room (Same k r)) where
-    listing_of : (comparison T u v budget room >>= listable T.size (length before)) ≡ unless (ltb (length before) (chain_bytes size r)) 13 (same_after k r)
-    listing_of =
-        ap (λ o. o >>= listable T.size (length before)) (sym p.verdict)
-        ∙ ap (λ n. unless (ltb (length before) (chain_bytes n r)) 13 (same_after k r)) sized
-
-    pub area_too_short : length before < chain_bytes size r → ListedAs T u v budget room before before (Refused AnswerShort)
-    area_too_short h =
-        record {
-          verdict = sym (listing_of ∙ ap (λ t. unless t 13 (same_after k r)) (lt-ltb (length before) (chain_bytes size r) h));
-          area = refl;
-        }
-
-    pub lists_chain : chain_bytes size r ≤ length before → (after : List ℕ) → Listed T u v r (chain_bytes T.size r) before after
-        → ListedAs T u v budget room before after (Same k r)
-    lists_chain h after l =
-        record {
-          verdict = sym (listing_of ∙ ap (λ t. unless t 13 (same_after k r)) (le-ltb (length before) (chain_bytes size r) h));
-          area = l;
-        }
 
 -- THE LISTING
 
 -- a reversing that finished began with a word that fits
-pub finished_fits : (T : Presentation) (budget room : ℕ) (w : Word) (n d : Positive) (k r : ℕ) → reversing T budget room w ≡ finished n d k r → length w ≤ room
+finished_fits : (T : Presentation) (budget room : ℕ) (w : Word) (n d : Positive) (k r : ℕ) → reversing T budget room w ≡ finished n d k r → length w ≤ room
 finished_fits T budget room w n d k r e = go (dec_lt room (length w))
   where
     go : Dec (room < length w) → length w ≤ room
     go (yes h) = let f = reversing_long T budget room w h in impossible (cc (f, e))
     go (no h) = omega arith
 
-pub programs_fit : (T : Presentation) (u v : Positive) (budget room k r : ℕ) → Ended T u v budget room k r → length u + length v ≤ room
+programs_fit : (T : Presentation) (u v : Positive) (budget room k r : ℕ) → Ended T u v budget room k r → length u + length v ≤ room
 programs_fit T u v budget room k r e =
     let h = finished_fits T budget room (negative u ++ positive v) [] [] k r e.empty in
     omega (arith, length-append (negative u) (positive v), length_negative u, length_positive v)
+
+-- a verdict `same` in a workspace of as many bytes
+pub ends_same : (T : Presentation) (u v : Positive) (budget : ℕ) (before after : List ℕ) → length after ≡ length before → (verdict : Compared) (k r : ℕ)
+    → verdict ≡ Same k r → Judged T u v budget (length before) (Ok verdict) → (b steps : ℕ) × Ended T u v b (length after) steps r
+ends_same T u v budget before after long verdict k r is j =
+    (budget, k, subst (λ i. Ended T u v budget i k r) (sym long) (subst (λ w. EndedIf T u v budget (length before) (Ok w)) is j.ended))
 
 pub listed_of : (T : Presentation) (u v : Positive) (r : ℕ) (before after : List ℕ) → T.size ≤ most_size → Chained T u v r before after
     → Listed T u v r (chain_bytes T.size r) before after
@@ -143,7 +110,7 @@ module _ (cells : List ℕ) (size : ℕ) (T : Presentation) (o : Of cells size T
   lettered : (w : Positive) → ProgramInRange size (positive w) → Lettered T.size (positive w)
   lettered w p = subst (λ i. Lettered i (positive w)) (sym o.sized) p.letters
 
-  pub listed_from : Listed-from cells size bytes firsts right r area T u v k
+  listed_from : Listed-from cells size bytes firsts right r area T u v k
   listed_from =
       record {
         stands = o.stands;
@@ -161,17 +128,42 @@ module _ (cells : List ℕ) (size : ℕ) (T : Presentation) (o : Of cells size T
         enough = enough;
       }
 
+-- two loaded programs whose comparison said `same`
+module _ {cells : List ℕ} {size : ℕ} {first : List ℕ} {firsts : ℕ} {second : List ℕ} {seconds : ℕ} (f : Forward cells size first firsts second seconds)
+    (before : List ℕ) (r : ℕ) (same : EndsSame cells size first second (length before) r) where
+  pub both_fit : firsts + seconds ≤ length before
+  both_fit =
+      let p = f.pair in
+      let e = same f.table f.of p.one.word p.two.word p.one.read p.two.read in
+      omega (arith, programs_fit f.table p.one.word p.two.word e.0 (length before) e.1 r e.2, p.one.count_is, p.two.count_is)
+
+  module _ (bytes : List ℕ) (l : Loads size first firsts second seconds before bytes) (area : ℕ) (enough : chain_bytes size r ≤ area) where
+    pub asked : (T : Presentation) (o : Of cells size T) (u v : Positive) (eu : read_forward size first ≡ answered u)
+        (ev : read_forward size second ≡ answered v)
+        → Listed-from cells size bytes firsts (length before - seconds) r area T u v (same T o u v eu ev).1
+    asked T o u v eu ev =
+        let p = f.pair in
+        let e = same T o u v eu ev in
+        listed_from cells size T o u v first second firsts seconds p.one p.two (same_answer p.one.word u (sym p.one.read ∙ eu))
+        (same_answer p.two.word v (sym p.two.read ∙ ev)) e.0 (length before) e.1 r e.2 bytes (length before - seconds) l.same_length
+        (l.loads cells T o u v eu ev) area enough
+
+    pub listable_loaded : Listable cells size bytes firsts (length before - seconds) r area
+    listable_loaded =
+        let p = f.pair in
+        (f.table, p.one.word, p.two.word, _, asked f.table f.of p.one.word p.two.word p.one.read p.two.read)
+
 -- THE SERVICE
 
 module _ (table first second : List ℕ) (budget room area : ℕ) where
   abbrev lists : Images Positive → Outcome ChainAnswer
   lists p = mapped (chain_answer p.table.size) (comparison p.table p.first p.second budget room >>= listable p.table.size area)
 
-  pub chain_refused : (r : Refusal) → read_images read_forward table first second ≡ refusal r → AsFound (chain table first second budget room area) r
+  chain_refused : (r : Refusal) → read_images read_forward table first second ≡ refusal r → AsFound (chain table first second budget room area) r
   unfolding chain
   chain_refused = programs_refused table first second lists
 
-  pub chain_runs : (T : Presentation) (u v : Positive) → Compares table first second T u v
+  chain_runs : (T : Presentation) (u v : Positive) → Compares table first second T u v
       → chain table first second budget room area ≡ mapped (chain_answer T.size) (comparison T u v budget room >>= listable T.size area)
   unfolding chain
   chain_runs = programs_run table first second lists
@@ -185,7 +177,7 @@ module _ (table first second : List ℕ) (budget room area : ℕ) where
       by_room false q = cc
   shown n (different_after k) y e = cc
 
-  pub chain_means : (o : Outcome ChainAnswer) → o ≡ chain table first second budget room area
+  chain_means : (o : Outcome ChainAnswer) → o ≡ chain table first second budget room area
       → CompareSays table first second budget room (λ T v. listable T.size area v) (mapped verdict_in o)
   chain_means o e T u v c =
       subst (VerdictMeaning T u v budget room (listable T.size area))
@@ -202,7 +194,7 @@ module _ (table first second : List ℕ) (budget room area : ℕ) where
 
 -- the answer area of the service
 module _ (table first second before after : List ℕ) where
-  pub area_listed : (T : Presentation) (u v : Positive) → Compares table first second T u v → (o : Outcome Verdict) → Area T u v before after o
+  area_listed : (T : Presentation) (u v : Positive) → Compares table first second T u v → (o : Outcome Verdict) → Area T u v before after o
       → ChainArea table first second before after (mapped (chain_answer T.size) o)
   area_listed T u v c (answered (same_after k r)) l = (T, u, v, c, l)
   area_listed T u v c (answered (different_after k)) l = l
@@ -240,8 +232,40 @@ module _ (table first second : List ℕ) (budget room : ℕ) (before after : Lis
           let words : u ≡ u' = cc in
           ap₂ weigh tables words
 
-  pub listed_checks : (o : Outcome ChainAnswer) → o ≡ chain table first second budget room (length before) → ChainArea table first second before after o
+  listed_checks : (o : Outcome ChainAnswer) → o ≡ chain table first second budget room (length before) → ChainArea table first second before after o
       → ListedChecks table first second before after o
   listed_checks (answered (listed_after k r bytes)) e (T, u, v, c, l) = joins_checked T u v c k r bytes e l
   listed_checks (answered (unlisted_after k)) e a = tt
   listed_checks (refused n ps) e a = tt
+
+-- THE PROMISE
+
+module _ (table first second : List ℕ) (budget : ℕ) (area before : List ℕ) where
+  pub promised_refused : (r : Refusal) → read_images read_forward table first second ≡ refusal r
+      → ChainPromise table first second budget area area before before (refusal r)
+  promised_refused r e =
+      let o = chain_refused table first second budget (length area) (length before) r e in
+      record {
+        stated = o.stated;
+        workspace_is = o.workspace area;
+        area = refl;
+        checks = listed_checks table first second budget (length area) before before _ o.stated refl;
+        meaning = chain_means table first second budget (length area) (length before) _ o.stated;
+      }
+
+  module _ (T : Presentation) (u v : Positive) (c : Compares table first second T u v) (size : ℕ) (sized : T.size ≡ size) where
+    pub promised_listed : (r : Result Compared Refusal) (area' after : List ℕ) → area' ≡ workspace_after (compared r) area
+        → ListedAs T u v budget (length area) before after r → (told : Outcome ChainAnswer) → told ≡ mapped (chain_answer size) (compared r)
+        → ChainPromise table first second budget area area' before after told
+    promised_listed r area' after w l told q =
+        let told_is = q ∙ ap (λ n. mapped (chain_answer n) (compared r)) (sym sized) in
+        let e = told_is ∙ (ap (mapped (chain_answer T.size)) l.verdict ∙ sym (chain_runs table first second budget (length area) (length before) T u v c)) in
+        let listed = subst (ChainArea table first second before after) (sym told_is)
+        (area_listed table first second before after T u v c (compared r) l.area) in
+        record {
+          stated = e;
+          workspace_is = w ∙ (sym (answer_workspace T.size (compared r) area) ∙ ap (λ x. workspace_after x area) (sym told_is ∙ e));
+          area = listed;
+          checks = listed_checks table first second budget (length area) before after told e listed;
+          meaning = chain_means table first second budget (length area) (length before) _ e;
+        }

@@ -1,5 +1,6 @@
 -- What listing a chain after a comparison of two loaded programs comes to.
 use Rattle.std.specs.Prelude.{List, ◌≡◌, ℕ, ◌≤◌, length}
+use Rattle.std.specs.declared.result.Result.{Result}
 use Rattle.model.specs.Word.{Positive}
 use Rattle.model.specs.Presentation.{Presentation, weigh}
 use Rattle.model.specs.Outcome.{Outcome, answered, refused, ◌>>=◌, mapped}
@@ -9,6 +10,7 @@ use Rattle.model.specs.Services.{joins, check, chain, verdict_in}
 use Rattle.model.specs.Areas.{begins, Compares, Listed, workspace_after, ChainArea}
 use Rattle.model.specs.Stated.{compared}
 use Rattle.model.specs.declared.answers.Compared.{Compared}
+use Rattle.model.specs.declared.answers.Refusal.{Refusal}
 use Rattle.cells.specs.Stands.{Of}
 use Rattle.comparing.specs.Compare.{Ended, CompareSays}
 
@@ -30,11 +32,12 @@ Area T u v before after (answered (same_after k r)) = Listed T u v r (chain_byte
 Area T u v before after (answered (different_after k)) = after ≡ before
 Area T u v before after (refused n ps) = after ≡ before
 
-pub record ListedAs (T : Presentation) (u v : Positive) (budget room : ℕ) (before after : List ℕ) (r : Compared) : Type 0 where
+pub record ListedAs (T : Presentation) (u v : Positive) (budget room : ℕ) (before after : List ℕ) (r : Result Compared Refusal) : Type 0 where
   pub verdict : compared r ≡ (comparison T u v budget room >>= listable T.size (length before))
   pub area : Area T u v before after (compared r)
 
-pub record Lists (cells : List ℕ) (size : ℕ) (first second : List ℕ) (budget : ℕ) (workspace workspace' before after : List ℕ) (r : Compared) : Type 0 where
+pub record Lists (cells : List ℕ) (size : ℕ) (first second : List ℕ) (budget : ℕ) (workspace workspace' before after : List ℕ)
+    (r : Result Compared Refusal) : Type 0 where
   pub wiped : workspace' ≡ workspace_after (compared r) workspace
   pub lists : (T : Presentation) → Of cells size T → (u v : Positive) → read_forward size first ≡ answered u → read_forward size second ≡ answered v
       → ListedAs T u v budget (length workspace) before after r

@@ -15,35 +15,33 @@ use comparing::compare::compare_programs;
 use engine::gap::Gap;
 use entries::entry::chain_bytes;
 use images::programs::Signs;
-use loading::loading::{ProgramsRead, read_programs};
+use loading::loading::{Programs, read_programs};
 use loading::reversing::load_programs;
 use model::answers::{Chained, Compared, Refusal};
 
 // Lists a chain of two programs whose comparison in this workspace said `same`. The workspace is wiped.
 pub fn list_programs(
     cells: &[u8],
-    size: u8,
     first: &[u8],
-    firsts: u16,
     second: &[u8],
-    seconds: u16,
+    loaded: Programs,
     relations: u16,
     workspace: &mut [u8],
     answer: &mut [u8],
 )
-    requires programs { Forward cells.now size first.now firsts second.now seconds }
-    requires same { EndsSame cells.now size first.now second.now (length workspace.old) relations }
-    requires room { chain_bytes size relations ≤ length answer.old }
+    requires programs { Forward cells.now loaded.size first.now loaded.firsts second.now loaded.seconds }
+    requires same { EndsSame cells.now loaded.size first.now second.now (length workspace.old) relations }
+    requires room { chain_bytes loaded.size relations ≤ length answer.old }
     ensures wiped { workspace.new ≡ replicate (length workspace.old) 0 }
-    ensures listed { ProgramsListed cells.now size first.now second.now relations answer.old
+    ensures listed { ProgramsListed cells.now loaded.size first.now second.now relations answer.old
         answer.new }
 {
-    let left = firsts as usize;
-    let right = workspace.len() - seconds as usize;
-    load_programs(size, first, firsts, second, seconds, workspace);
+    let left = loaded.firsts as usize;
+    let right = workspace.len() - loaded.seconds as usize;
+    load_programs(first, second, loaded, workspace);
     list(
         cells,
-        size,
+        loaded.size,
         workspace,
         Gap { left, right },
         relations,
@@ -52,53 +50,48 @@ pub fn list_programs(
     wipe(workspace);
 }
 
-// Two accepted forward programs, which weigh `one` and `two`, under a table that was loaded. The workspace is wiped, unless the weight check refused.
+// Two accepted forward programs under a table that was loaded. The workspace is wiped, unless the weight check refused.
 pub fn chain_programs(
     cells: &[u8],
-    size: u8,
     first: &[u8],
-    firsts: u16,
     second: &[u8],
-    seconds: u16,
-    one: u16,
-    two: u16,
+    loaded: Programs,
     budget: u16,
     workspace: &mut [u8],
     answer: &mut [u8],
-) -> Compared
-    requires programs { Forward cells.now size first.now firsts second.now seconds }
-    requires weights { Weigh cells.now size first.now one second.now two }
-    ensures { Lists cells.now size first.now second.now budget workspace.old workspace.new
+) -> Result<Compared, Refusal>
+    requires programs { Forward cells.now loaded.size first.now loaded.firsts second.now loaded.seconds }
+    requires weights { Weigh cells.now loaded.size first.now loaded.first_weight second.now loaded.second_weight }
+    ensures { Lists cells.now loaded.size first.now second.now budget workspace.old workspace.new
         answer.old answer.new result }
 {
-    let verdict = compare_programs(
-        cells, size, first, firsts, second, seconds, one, two, budget, workspace,
-    );
-    let Compared::Same { steps, relations } = verdict else {
-        return verdict;
+    let verdict = compare_programs(cells, first, second, loaded, budget, workspace)?;
+    let Compared::Same {
+        steps: _,
+        relations,
+    } = verdict
+    else {
+        return Ok(verdict);
     };
-    if answer.len() < chain_bytes(size, relations) {
-        return Compared::Refused(Refusal::AnswerShort);
+    if answer.len() < chain_bytes(loaded.size, relations) {
+        return Err(Refusal::AnswerShort);
     }
-    list_programs(
-        cells, size, first, firsts, second, seconds, relations, workspace, answer,
-    );
-    Compared::Same { steps, relations }
+    list_programs(cells, first, second, loaded, relations, workspace, answer);
+    Ok(verdict)
 }
 
 // The answer of chain: what is listed has an entry for each step on two different letters.
-pub fn listed(verdict: Compared, size: u8) -> Chained
+pub fn listed(verdict: Result<Compared, Refusal>, size: u8) -> Result<Chained, Refusal>
     requires { (1 ≤ size) × (size ≤ most_size) }
     ensures { chained result ≡ mapped (chain_answer size) (compared verdict) }
 {
-    match verdict {
-        Compared::Same { steps, relations } => Chained::Listed {
+    match verdict? {
+        Compared::Same { steps, relations } => Ok(Chained::Listed {
             steps,
             entries: relations,
             bytes: chain_bytes(size, relations),
-        },
-        Compared::Different { steps } => Chained::Unlisted { steps },
-        Compared::Refused(refusal) => Chained::Refused(refusal),
+        }),
+        Compared::Different { steps } => Ok(Chained::Unlisted { steps }),
     }
 }
 
@@ -109,35 +102,12 @@ pub fn chain(
     allowance: u16,
     workspace: &mut [u8],
     answer: &mut [u8],
-) -> Chained
+) -> Result<Chained, Refusal>
     ensures { ChainPromise table.now first.now second.now allowance workspace.old workspace.new
         answer.old answer.new (chained result) }
 {
     let mut cells = [0u8; CELLS];
-    let read = read_programs(table, first, second, Signs::Forward, &mut cells);
-    match read {
-        ProgramsRead::Refused(refusal) => Chained::Refused(refusal),
-        ProgramsRead::Programs {
-            size,
-            firsts,
-            seconds,
-            first_weight,
-            second_weight,
-        } => {
-            let verdict = chain_programs(
-                &cells,
-                size,
-                first,
-                firsts,
-                second,
-                seconds,
-                first_weight,
-                second_weight,
-                allowance,
-                workspace,
-                answer,
-            );
-            listed(verdict, size)
-        }
-    }
+    let loaded = read_programs(table, first, second, Signs::Forward, &mut cells)?;
+    let verdict = chain_programs(&cells, first, second, loaded, allowance, workspace, answer);
+    listed(verdict, loaded.size)
 }

@@ -1,2 +1,1 @@
-pub mod BothChecks
 pub mod Cleared

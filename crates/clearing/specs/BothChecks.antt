@@ -1,5 +1,6 @@
 -- What both checks of loaded cells answer, where the triples are a table's own or its mirror's.
-use Rattle.std.specs.Prelude.{List, ◌≡◌, ℕ, length, replicate}
+use Rattle.std.specs.Prelude.{List, ◌≡◌, ℕ, length, replicate, Ok, Err}
+use Rattle.std.specs.declared.result.Result.{Result}
 use Rattle.model.specs.Presentation.{Presentation}
 use Rattle.model.specs.Enumeration.{pairs, triples}
 use Rattle.model.specs.Outcome.{Outcome, ◌>>=◌}
@@ -13,11 +14,9 @@ use Rattle.model.specs.declared.answers.Place.{Place}
 use Rattle.model.specs.declared.answers.Place.TheVariants.{Triple as AtTriple, MirrorTriple}
 use Rattle.model.specs.declared.answers.Refusal.{Refusal}
 use Rattle.model.specs.declared.answers.Refusal.TheVariants.{CubeFails, MirrorFails, AllowanceUsed, WorkspaceShort}
-use Rattle.model.specs.declared.answers.Cleared.{Cleared}
-use Rattle.model.specs.declared.answers.Cleared.TheVariants.{Passed, Refused}
 use Rattle.cells.specs.Stands.{Of}
-use Rattle.table_checks.specs.declared.table.Triples.{Triples}
-use Rattle.table_checks.specs.declared.table.Triples.TheVariants.{Hold, Fail, Halt}
+use Rattle.table_checks.specs.declared.table.TripleFault.{TripleFault}
+use Rattle.table_checks.specs.declared.table.TripleFault.TheVariants.{Fails, Halts}
 use Rattle.clearing.specs.declared.both_checks.TriplesOf.{TriplesOf}
 use Rattle.clearing.specs.declared.both_checks.TriplesOf.TheVariants.{Table, Mirror}
 
@@ -29,11 +28,14 @@ abbrev pub failure_of : TriplesOf → Triple → Refusal
 failure_of Table t = CubeFails t
 failure_of Mirror t = MirrorFails t
 
-abbrev pub triples_refusal : TriplesOf → Triples → Cleared
-triples_refusal whose Hold = Passed
-triples_refusal whose (Fail t) = Refused (failure_of whose t)
-triples_refusal whose (Halt Budget t) = Refused (AllowanceUsed (place_of whose t))
-triples_refusal whose (Halt Room t) = Refused (WorkspaceShort (place_of whose t))
+abbrev pub triple_refusal : TriplesOf → TripleFault → Refusal
+triple_refusal whose (Fails t) = failure_of whose t
+triple_refusal whose (Halts Budget t) = AllowanceUsed (place_of whose t)
+triple_refusal whose (Halts Room t) = WorkspaceShort (place_of whose t)
+
+abbrev pub triples_refusal : TriplesOf → Result (Unit {0}) TripleFault → Result (Unit {0}) Refusal
+triples_refusal whose (Ok u) = Ok u
+triples_refusal whose (Err f) = Err (triple_refusal whose f)
 
 -- the outcome of the cube check, as it is told
 abbrev pub told_of : TriplesOf → Outcome (Unit {0}) → Outcome (Unit {0})
@@ -41,12 +43,12 @@ told_of Table o = o
 told_of Mirror o = of_mirror o
 
 -- the cube check of every table that the cells stand for; a refusal comes after the work has begun
-pub record CubesMean (whose : TriplesOf) (cells : List ℕ) (size budget room : ℕ) (r : Cleared) : Type 0 where
+pub record CubesMean (whose : TriplesOf) (cells : List ℕ) (size budget room : ℕ) (r : Result (Unit {0}) Refusal) : Type 0 where
   pub states : (T : Presentation) → Of cells size T → cleared_as r ≡ told_of whose (cube_check T budget room (triples size))
   pub late : (area : List ℕ) → workspace_after (cleared_as r) area ≡ replicate (length area) 0
 
 -- the weights of every table T that the first cells stand for, then the triples of every table U that the second do
-abbrev pub BothMean : TriplesOf → List ℕ → List ℕ → ℕ → ℕ → ℕ → Cleared → Type 0
+abbrev pub BothMean : TriplesOf → List ℕ → List ℕ → ℕ → ℕ → ℕ → Result (Unit {0}) Refusal → Type 0
 BothMean whose weighed cubed size budget room r =
     (T U : Presentation) → Of weighed size T → Of cubed size U
     → cleared_as r ≡ (weight_check T (pairs size) >>= λ ok. told_of whose (cube_check U budget room (triples size)))

@@ -3,11 +3,11 @@ ghost use Rattle.std.specs.Prelude.{◌≡◌, length, replicate};
 ghost use Rattle.model.specs.Areas.{workspace_after};
 ghost use Rattle.model.specs.Stated.{cleared_as};
 ghost use Rattle.cells.specs.Stands.{Sized};
-ghost use Rattle.clearing.specs.BothChecks.{place_of, triples_refusal, CubesMean, BothMean};
+ghost use Rattle.clearing.specs.BothChecks.{place_of, triple_refusal, triples_refusal, CubesMean, BothMean};
 
 use areas::bytes::wipe;
-use model::answers::{Cleared, Place, Refusal, Stop, Triple};
-use table_checks::table::{Triples, Weights, check_triples, check_weights};
+use model::answers::{Place, Refusal, Stop, Triple};
+use table_checks::table::{TripleFault, check_triples, check_weights};
 
 // Whose triples the cube check goes through.
 #[derive(Clone, Copy)]
@@ -26,21 +26,28 @@ pub fn triple_place(of: TriplesOf, triple: Triple) -> Place
     }
 }
 
-// The answer that the check of the triples is.
-pub fn triples_answer(of: TriplesOf, found: Triples) -> Cleared
-    ensures { result ≡ triples_refusal of found }
+// The refusal that a fault of a triple is.
+// Kept (2): (a) the edit stops_exchanged is of the two stops of a triple alone, so that they do not share the match of `model::stops`.
+pub(crate) fn triple_refusal(of: TriplesOf, fault: TripleFault) -> Refusal
+    ensures { result ≡ triple_refusal of fault }
 {
-    match found {
-        Triples::Hold => Cleared::Passed,
-        Triples::Fail(triple) => match of {
-            TriplesOf::Table => Cleared::Refused(Refusal::CubeFails(triple)),
-            TriplesOf::Mirror => Cleared::Refused(Refusal::MirrorFails(triple)),
+    match fault {
+        TripleFault::Fails(triple) => match of {
+            TriplesOf::Table => Refusal::CubeFails(triple),
+            TriplesOf::Mirror => Refusal::MirrorFails(triple),
         },
-        Triples::Halt(stop, triple) => match stop {
-            Stop::Budget => Cleared::Refused(Refusal::AllowanceUsed(triple_place(of, triple))),
-            Stop::Room => Cleared::Refused(Refusal::WorkspaceShort(triple_place(of, triple))),
+        TripleFault::Halts(stop, triple) => match stop {
+            Stop::Budget => Refusal::AllowanceUsed(triple_place(of, triple)),
+            Stop::Room => Refusal::WorkspaceShort(triple_place(of, triple)),
         },
     }
+}
+
+// The answer that the check of the triples is.
+pub fn triples_answer(of: TriplesOf, found: Result<(), TripleFault>) -> Result<(), Refusal>
+    ensures { result ≡ triples_refusal of found }
+{
+    found.map_err(|fault| triple_refusal(of, fault))
 }
 
 // The cube check of loaded cells. The workspace is wiped.
@@ -50,7 +57,7 @@ pub fn check_cubes(
     of: TriplesOf,
     budget: u16,
     workspace: &mut [u8],
-) -> Cleared
+) -> Result<(), Refusal>
     requires { Sized cells.now size }
     ensures cubes { CubesMean of cells.now size budget (length workspace.old) result }
     ensures workspace { workspace.new ≡ replicate (length workspace.old) 0 }
@@ -68,14 +75,11 @@ pub fn check_both(
     of: TriplesOf,
     budget: u16,
     workspace: &mut [u8],
-) -> Cleared
+) -> Result<(), Refusal>
     requires { Sized weighed.now size × Sized cubed.now size }
     ensures checks { BothMean of weighed.now cubed.now size budget (length workspace.old) result }
     ensures workspace { workspace.new ≡ workspace_after (cleared_as result) workspace.old }
 {
-    let weights = check_weights(weighed, size);
-    match weights {
-        Weights::Unequal(pair) => Cleared::Refused(Refusal::UnequalWeights(pair)),
-        Weights::Equal => check_cubes(cubed, size, of, budget, workspace),
-    }
+    check_weights(weighed, size).map_err(Refusal::UnequalWeights)?;
+    check_cubes(cubed, size, of, budget, workspace)
 }

@@ -2,12 +2,15 @@
 ghost use Rattle.model.specs.Stated.{cleared_as};
 ghost use Rattle.clearing.specs.MirrorClear.{MirrorPromise};
 
-use crate::both_checks::TriplesOf;
-use crate::clearing::clear_image;
-use model::answers::Cleared;
+use crate::clearing::clear_mirror;
+use cells::layout::CELLS;
+use images::tables::read_table;
+use model::answers::Refusal;
 
-pub fn mirror_clear(table: &[u8], allowance: u16, workspace: &mut [u8]) -> Cleared
+pub fn mirror_clear(table: &[u8], allowance: u16, workspace: &mut [u8]) -> Result<(), Refusal>
     ensures { MirrorPromise table.now allowance workspace.old workspace.new (cleared_as result) }
 {
-    clear_image(table, TriplesOf::Mirror, allowance, workspace)
+    let mut cells = [0u8; CELLS];
+    let size = read_table(table, &mut cells)?;
+    clear_mirror(&cells, size, allowance, workspace)
 }

@@ -1,41 +1,38 @@
 -- How many letters of a word are forward and how many back, and what a finished word is.
-use mathlib.Core.Path.{◌≡◌, refl, sym, ap, ◌∙◌}
+use mathlib.Core.Path.{◌≡◌, refl, sym, ap, ap₂, ◌∙◌}
 use mathlib.Core.List.{List, [], ◌∷◌, ◌++◌, reverse}
 use Prim.Native.Nat.{ℕ, ◌+◌, ◌-◌, ◌≤◌, ◌<◌}
+use native.Mathlib.Decide.{dec_lt}
 use native.Mathlib.Omega.{arith}
-use native.Mathlib.Numerals.{add-one}
-use lib.ListN.{length, take, get_or, length-append, length-take, length-reverse}
-use lib.Seq.{take-suc, length-take-le}
-use Rattle.model.specs.Word.{Letter, forward, back, Word, forwards, backs, letter, positive, negative}
+use borrow.Author.Tests.{lt-ltb, le-ltb}
+use Rattle.std.specs.Prelude.{cond, nat_lt}
+use Rattle.std.specs.List.{count_by}
+use Rattle.std.proofs.lemmas.List.Sums.{sum_by-cons}
+use lib.ListN.{length, take, length-take, length-reverse}
+use lib.Seq.{length-take-le, take-take}
+use Rattle.model.specs.Word.{forward, back, Word, forwards, backs, letter, positive, negative}
 use Rattle.model.specs.Reversing.{ended, site}
-use Rattle.model.proofs.Words.{forwards_append, site_fraction}
+use Rattle.model.proofs.Words.{site_fraction}
+use Rattle.model.specs.declared.answers.Ending.TheVariants.{Finished}
 use Rattle.engine.specs.Gap.{letters, AtEnd}
-use Rattle.engine.specs.Run.{LeavesWord}
-use Rattle.engine.proofs.Letters.{letter_forward, letter_back, letters_append, letters_cons, letters_nil, length_letters}
+use Rattle.engine.specs.Run.{LeavesWord, finished_at}
+use Rattle.engine.proofs.Letters.{letter_forward, letter_back, length_letters}
 use Rattle.engine.proofs.AtGap.{end_word}
 
-module _ (bytes : List ℕ) (i : ℕ) (h : i < length bytes) where
-  one_more : letters (take (i + 1) bytes) ≡ letters (take i bytes) ++ (letter (get_or bytes i 0) ∷ [])
-  one_more =
-      ap letters (ap (λ j. take j bytes) (add-one i) ∙ take-suc bytes i 0 h)
-      ∙ (letters_append (take i bytes) (get_or bytes i 0 ∷ [])
-      ∙ ap (λ w. letters (take i bytes) ++ w) (letters_cons (get_or bytes i 0) [] ∙ ap (λ w. letter (get_or bytes i 0) ∷ w) letters_nil))
+-- a letter is forward where its byte is below 128
+one_counted : (x : ℕ) (w : Word) → length (forwards (letter x ∷ w)) ≡ cond (nat_lt x 128) 1 0 + length (forwards w)
+one_counted x w = go (dec_lt x 128)
+  where
+    go : Dec (x < 128) → length (forwards (letter x ∷ w)) ≡ cond (nat_lt x 128) 1 0 + length (forwards w)
+    go (yes h) = rw (letter_forward x h, lt-ltb x 128 h) (omega arith)
+    go (no h) = rw (letter_back x (omega arith), le-ltb x 128 (omega arith)) (omega arith)
 
-  counted : (l : Letter) → letter (get_or bytes i 0) ≡ l
-      → length (forwards (letters (take (i + 1) bytes))) ≡ length (forwards (letters (take i bytes))) + length (forwards (l ∷ []))
-  counted l e =
-      ap (λ w. length (forwards w)) (one_more ∙ ap (λ m. letters (take i bytes) ++ (m ∷ [])) e)
-      ∙ (ap length (forwards_append (letters (take i bytes)) (l ∷ [])) ∙ length-append (forwards (letters (take i bytes))) (forwards (l ∷ [])))
-
-  pub counts_forward : get_or bytes i 0 < 128 → length (forwards (letters (take (i + 1) bytes))) ≡ length (forwards (letters (take i bytes))) + 1
-  counts_forward f = counted (forward (get_or bytes i 0)) (letter_forward (get_or bytes i 0) f)
-
-  pub counts_back : 128 ≤ get_or bytes i 0 → length (forwards (letters (take (i + 1) bytes))) ≡ length (forwards (letters (take i bytes)))
-  counts_back f = omega (arith, counted (back (get_or bytes i 0 - 128)) (letter_back (get_or bytes i 0) f))
-
-pub counts_none : (bytes : List ℕ) → length (forwards (letters (take 0 bytes))) ≡ 0
+pub forwards_counted : (xs : List ℕ) → length (forwards (letters xs)) ≡ count_by (λ x. nat_lt x 128) xs
 unfolding letters
-counts_none bytes = refl
+forwards_counted [] = refl
+forwards_counted (x ∷ xs) =
+    one_counted x (letters xs)
+    ∙ (ap (λ n. cond (nat_lt x 128) 1 0 + n) (forwards_counted xs) ∙ sym (sum_by-cons (λ y. cond (nat_lt y 128) 1 0) x xs))
 
 both_signs : (w : Word) → length (forwards w) + length (backs w) ≡ length w
 both_signs [] = refl
@@ -64,3 +61,12 @@ pub counts_few : (bytes : List ℕ) (end : ℕ) → length (forwards (letters (t
 counts_few bytes end =
     let e : length (letters (take end bytes)) ≤ end = simp (length_letters, length-take) (omega arith) in
     omega (arith, both_signs (letters (take end bytes)))
+
+-- the word that stands in the first bytes
+pub finished_front : (bytes : List ℕ) (end steps relations : ℕ) → end ≤ length bytes
+    → finished_at (take end bytes) (length (take end bytes)) steps relations ≡ finished_at bytes end steps relations
+finished_front bytes end steps relations inside =
+    let n : length (take end bytes) ≡ end = length-take-le end bytes inside in
+    let whole : take (length (take end bytes)) (take end bytes) ≡ take end bytes =
+    ap (λ k. take k (take end bytes)) n ∙ take-take end end bytes (omega arith) in
+    ap₂ (λ w k. Finished (length (forwards (letters w))) (k - length (forwards (letters w))) steps relations) whole n

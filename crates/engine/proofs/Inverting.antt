@@ -1,66 +1,65 @@
--- A word is inverted in place from both ends: where they have met the whole is inverted.
-use mathlib.Core.Path.{◌≡◌, refl, sym, ap, ◌∙◌}
-use mathlib.Core.List.{List, [], ◌∷◌, map}
-use Prim.Native.Nat.{ℕ, zero, suc, ◌-◌, ◌≤◌, ◌<◌}
+-- A word is inverted in place: its letters are put into the other order, then each is turned.
+use mathlib.Core.Path.{◌≡◌, refl, sym, ap, ap₂, ◌∙◌}
+use mathlib.Core.List.{List, [], ◌∷◌, ◌++◌, map, reverse}
+use Prim.Native.Nat.{ℕ, zero, suc, ◌+◌, ◌≤◌, ◌<◌}
 use native.Mathlib.Omega.{arith}
-use lib.ListN.{length, take, get_or, length-map, length-reverse, get_or-map}
-use lib.Seq.{get_or-take, length-take-le, ext_get_or}
-use Rattle.model.proofs.Words.{reverse_at}
-use Rattle.model.proofs.Exchanging.{Exchanging, exchanged}
-use Rattle.model.specs.Word.{Letter, forward, Word, flip, inverse, letter}
+use lib.ListN.{length, take, drop, get_or, length-append, length-drop, length-map, length-reverse}
+use lib.Seq.{length-take-le, take_all, take_at, drop_at}
+use borrow.Rule.Slice.PartMut.{put_mid}
+use Rattle.std.proofs.lemmas.List.{drop_all}
+use Rattle.model.proofs.Words.{map_reverse}
+use Rattle.model.specs.Word.{Word, flip, inverse, letter}
 use Rattle.engine.specs.Gap.{letters}
-use Rattle.engine.proofs.Letters.{length_letters}
 use Rattle.engine.specs.Words.{Inverted}
 
 pub length_inverse : (w : Word) → length (inverse w) ≡ length w
 length_inverse w = length-reverse (map flip w) ∙ length-map w flip
 
--- a letter of an inverse
-turned_at : (w : Word) (k : ℕ) (d : Letter) → k < length w → get_or (map flip w) k d ≡ flip (get_or w k d)
-turned_at [] k d h = absurd (omega arith)
-turned_at (x ∷ w) zero d h = refl
-turned_at (x ∷ w) (suc k) d h = turned_at w k d (omega arith)
-
-pub inverse_at : (w : Word) (k : ℕ) (d : Letter) → k < length w → get_or (inverse w) k d ≡ flip (get_or w (length w - 1 - k) d)
-inverse_at w k d h =
-    let e : length (map flip w) - 1 - k ≡ length w - 1 - k = omega (arith, length-map w flip) in
-    reverse_at (map flip w) k d (omega (arith, length-map w flip))
-    ∙ (ap (λ j. get_or (map flip w) j d) e ∙ turned_at w (length w - 1 - k) d (omega arith))
-
--- a letter of a word in bytes
-pub letter_at : (bytes : List ℕ) (count k : ℕ) → k < count → get_or (letters (take count bytes)) k (forward 0) ≡ letter (get_or bytes k 0)
+-- bytes that are those of others turned, as words
+turned_all : (xs ys : List ℕ) → length xs ≡ length ys → ((k : ℕ) → k < length ys → letter (get_or xs k 0) ≡ flip (letter (get_or ys k 0)))
+    → letters xs ≡ map flip (letters ys)
 unfolding letters
-letter_at bytes count k h = get_or-map letter (take count bytes) k 0 ∙ ap letter (get_or-take count bytes k 0 h)
+turned_all [] [] n h = refl
+turned_all [] (y ∷ ys) n h = absurd (omega arith)
+turned_all (x ∷ xs) [] n h = absurd (omega arith)
+turned_all (x ∷ xs) (y ∷ ys) n h =
+    ap₂ (λ l w. l ∷ w) (h zero (omega arith)) (turned_all xs ys (omega arith) (λ k i. h (suc k) (omega arith)))
 
--- the letter that a byte is turned into
-abbrev pub Turns : ℕ → ℕ → Type 0
-Turns x y = letter x ≡ flip (letter y)
+reversed : (xs : List ℕ) → map flip (letters (reverse xs)) ≡ inverse (letters xs)
+unfolding letters
+reversed xs = ap (map flip) (map_reverse letter xs) ∙ map_reverse flip (map letter xs)
 
-module _ (before : List ℕ) (count : ℕ) (inside : count ≤ length before) (bytes : List ℕ) (low high : ℕ) (p : Exchanging Turns before count bytes low high) where
-  pub inverting_done : high ≤ low → Inverted before count bytes
-  inverting_done met =
-      record {
-        same_length = p.same_length;
-        inverted = ext_get_or (forward 0) (letters (take count bytes)) (inverse (letters (take count before))) lengths same;
-        rest = p.rest;
-      }
-    where
-      first_length : length (letters (take count bytes)) ≡ count
-      first_length = length_letters (take count bytes) ∙ length-take-le count bytes (omega (arith, p.same_length))
+-- `turned` has the bytes in the other order, each turned
+pub inverted_whole : (before turned : List ℕ) → length turned ≡ length before
+    → ((k : ℕ) → k < length before → letter (get_or turned k 0) ≡ flip (letter (get_or (reverse before) k 0))) → Inverted before (length before) turned
+inverted_whole before turned n h =
+    let e : length (reverse before) ≡ length before = length-reverse before in
+    let all : (l : List ℕ) → length l ≡ length before → take (length before) l ≡ l = λ l m. take_all (length before) l (omega (arith, m)) in
+    let none : (l : List ℕ) → length l ≡ length before → drop (length before) l ≡ [] = λ l m. drop_all (length before) l (omega (arith, m)) in
+    record {
+      same_length = n;
+      inverted = ap letters (all turned n) ∙ (turned_all turned (reverse before) (n ∙ sym e) (λ k i. h k (omega arith))
+          ∙ (reversed before ∙ ap (λ l. inverse (letters l)) (sym (all before refl))));
+      rest = none turned n ∙ sym (none before refl);
+    }
 
-      before_length : length (letters (take count before)) ≡ count
-      before_length = length_letters (take count before) ∙ length-take-le count before inside
-
-      lengths : length (letters (take count bytes)) ≡ length (inverse (letters (take count before)))
-      lengths = first_length ∙ (sym before_length ∙ sym (length_inverse (letters (take count before))))
-
-      same : (k : ℕ) → k < length (letters (take count bytes))
-          → get_or (letters (take count bytes)) k (forward 0) ≡ get_or (inverse (letters (take count before))) k (forward 0)
-      same k h =
-          let i : k < count = omega (arith, first_length) in
-          let e : length (letters (take count before)) - 1 - k ≡ count - 1 - k = omega (arith, before_length) in
-          letter_at bytes count k i
-          ∙ (exchanged Turns before count inside bytes low high p met k i
-          ∙ (ap flip (sym (letter_at before count (count - 1 - k) (omega arith)))
-          ∙ (ap (λ j. flip (get_or (letters (take count before)) j (forward 0))) (sym e)
-          ∙ sym (inverse_at (letters (take count before)) k (forward 0) (omega (arith, before_length))))))
+-- the word of `n` letters from a place on, inverted where it stands
+pub inverted_part : (from n k : ℕ) (bytes part : List ℕ) → n ≡ k → from + n ≤ length bytes
+    → Inverted (take k (drop from bytes)) (length (take k (drop from bytes))) part
+    → Inverted (drop from bytes) n (drop from (put_mid from k bytes part))
+inverted_part from n k bytes part e inside i =
+    let xs = drop from bytes in
+    let long : k ≤ length xs = omega (arith, length-drop from bytes) in
+    let some : length (take k xs) ≡ n = length-take-le k xs long ∙ sym e in
+    let many : length part ≡ n = i.same_length ∙ some in
+    let after : drop from (put_mid from k bytes part) ≡ part ++ drop n xs =
+    drop_at (take from bytes) _ from (length-take-le from bytes (omega arith)) ∙ ap (λ m. part ++ drop m xs) (sym e) in
+    record {
+      same_length = ap length after ∙ simp (length-append, length-drop) (omega arith);
+      inverted = ap (λ l. letters (take n l)) after
+          ∙ (ap letters (take_at part (drop n xs) n many)
+          ∙ (ap letters (sym (take_all n part (omega arith)))
+          ∙ (ap (λ m. letters (take m part)) (sym some)
+          ∙ (i.inverted ∙ ap (λ l. inverse (letters l)) (take_all (length (take k xs)) (take k xs) (omega arith) ∙ ap (λ m. take m xs) (sym e))))));
+      rest = ap (drop n) after ∙ drop_at part (drop n xs) n many;
+    }

@@ -8,7 +8,7 @@ use lib.Seq.{get_or-take, drop-length}
 use Rattle.engine.specs.Gap.{letters}
 use Rattle.engine.specs.Turn.{Pushed}
 use Rattle.engine.proofs.Letters.{letters_nil}
-use Rattle.engine.proofs.Pushes.{pushed_kept, word_none, word_turn, word_all}
+use Rattle.engine.proofs.Pushes.{pushed_as, pushed_kept, word_none, word_turn}
 use Rattle.engine.specs.Words.{Moved}
 
 module _ (before : List ℕ) (from count : ℕ) (inside : from + count ≤ length before) where
@@ -32,13 +32,13 @@ module _ (before : List ℕ) (from count : ℕ) (inside : from + count ≤ lengt
         sym (get_or-take (length before - i) bytes (from + (count - 1 - i)) 0 (omega arith))
         ∙ (ap (λ l. get_or l (from + (count - 1 - i)) 0) p.before ∙ get_or-take (length before - i) before (from + (count - 1 - i)) 0 (omega arith))
 
-    pub moving_turn : (end : ℕ) → end ≡ length before → i < count → Moving (i + 1) (set bytes (end - 1 - i) (get_or bytes (from + (count - 1 - i)) 0))
-    moving_turn end e h =
-        rw (e, unread h) (word_turn before from count inside before (length before) all room bytes i h p)
+    pub moving_turn : i < count → Moving (i + 1) (set bytes (length before - 1 - i) (get_or bytes (from + (count - 1 - i)) 0))
+    moving_turn h = rw (unread h) (word_turn before from count inside before (length before) all room bytes i h p)
 
     pub moving_done : i ≡ count → Moved before from count bytes
     moving_done e =
-        let q = word_all before from count inside before (length before) all room bytes i e p in
+        let f : count - i ≡ 0 = omega arith in
+        let q = pushed_as (ap (λ j. letters (drop j (take count (drop from before)))) f) e p in
         record {
           same_length = p.same_length;
           moved =

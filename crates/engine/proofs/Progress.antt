@@ -97,6 +97,9 @@ module _ {cells : List ℕ} {word : Word} {budget room : ℕ} {bytes : List ℕ}
               subst (LeavesLetters T.size) (sym g) names;
         }
 
+    pub final_inside : (g : Gap) → TurnMeans cells now (budget - steps) after (Final g) → (T : Presentation) → Serves cells word T → g.left ≤ length after
+    final_inside g m T t = let d = m T (serves_now T t) in omega (arith, d.1.ordered, d.1.all)
+
     pub finishes : (g : Gap) (k : ℕ) → k ≡ length (forwards (letters (take g.left after))) → TurnMeans cells now (budget - steps) after (Final g)
         → (T : Presentation) → Serves cells word T → Reverses T word budget after (Finished k (g.left - k) steps relations)
     finishes g k e m T t =

@@ -114,12 +114,6 @@ module _ (cells : List ℕ) (from count : ℕ) (inside : from + count ≤ length
         pushed_as (sym (ap (λ j. letters (drop j (take count (drop from cells)))) e ∙ ap letters (drop-length (take count (drop from cells))))) refl
         (pushed_none bytes right)
 
-    pub word_all : (after : List ℕ) (i : ℕ) → i ≡ count → Pushed (letters (drop (count - i) (take count (drop from cells)))) bytes right i after
-        → Pushed (letters (take count (drop from cells))) bytes right count after
-    word_all after i e p =
-        let f : count - i ≡ 0 = omega arith in
-        pushed_as (ap (λ j. letters (drop j (take count (drop from cells)))) f) e p
-
     -- the same, told by how many letters are left
     pub word_down : (after : List ℕ) (j next : ℕ) → 1 ≤ j → j ≤ count → next + (count - j) ≡ right
         → Pushed (letters (drop j (take count (drop from cells)))) bytes right (count - j) after
@@ -147,10 +141,6 @@ module _ (cells : List ℕ) (from count : ℕ) (inside : from + count ≤ length
     pub inverse_none : Pushed (inverse (letters (take 0 (drop from cells)))) bytes right 0 bytes
     unfolding letters
     inverse_none = pushed_none bytes right
-
-    pub inverse_all : (after : List ℕ) (i : ℕ) → i ≡ count → Pushed (inverse (letters (take i (drop from cells)))) bytes right i after
-        → Pushed (inverse (letters (take count (drop from cells)))) bytes right count after
-    inverse_all after i e p = pushed_as (ap (λ j. inverse (letters (take j (drop from cells)))) e) e p
 
 -- what stands before the place where letters were pushed
 pub pushed_kept : {w : Word} {bytes after : List ℕ} {right count : ℕ} → Pushed w bytes right count after → (k : ℕ) → k ≤ right - count

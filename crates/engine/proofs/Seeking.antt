@@ -21,9 +21,6 @@ pub record Seeking (place : ℕ) (word : Word) (bytes : List ℕ) (left right : 
   pub word_kept : word_at bytes left right ≡ word
   pub same : site_from place word ≡ site_from (place_before left) (word_at bytes left right)
 
-pub begun : (bytes : List ℕ) (left right : ℕ) → left ≤ right → right ≤ length bytes → Seeking (place_before left) (word_at bytes left right) bytes left right
-begun bytes left right ordered inside = record { ordered = ordered; inside = inside; word_kept = refl; same = refl }
-
 -- the letters before the gap by the last of them
 abbrev front : List ℕ → ℕ → Word
 front bytes left = letters (take (left - 1) bytes)

@@ -1,10 +1,9 @@
 -- A word in the workspace with a gap: the bytes before `left`, then those from `right` on.
-use Rattle.std.specs.Prelude.{List, ◌++◌, map, ◌≡◌, ℕ, ◌+◌, ◌-◌, ◌≤◌, ◌<◌, length, take, drop, get_or}
+use Rattle.std.specs.Prelude.{List, ◌++◌, map, ◌≡◌, ℕ, ◌+◌, ◌-◌, ◌≤◌, ◌<◌, length, take, drop, get_or, Result, Ok, Err}
 use Rattle.model.specs.Word.{Word, letter}
 use Rattle.model.specs.Reversing.{Site, nowhere, at, site}
 use Rattle.engine.specs.Search.{site_from, NoneBefore}
-use Rattle.engine.specs.declared.gap.Sought.{Sought}
-use Rattle.engine.specs.declared.gap.Sought.TheVariants.{Found, Nowhere}
+use Rattle.engine.specs.declared.gap.Gap.{Gap}
 
 unfoldable pub letters : List ℕ → Word
 letters bytes = map letter bytes
@@ -45,6 +44,6 @@ pub record AtEnd (sought : Site) (word : Word) (bytes : List ℕ) (left right : 
   pub word_kept : word_at bytes left right ≡ word
 
 -- what a search finds: the first site of the word that begins at `place` or later, or that there is none
-abbrev pub SeekDone : ℕ → Word → List ℕ → Sought → Type 0
-SeekDone place word bytes (Found g) = AtSite (site_from place word) word bytes g.left g.right
-SeekDone place word bytes (Nowhere g) = AtEnd (site_from place word) word bytes g.left g.right
+abbrev pub SeekDone : ℕ → Word → List ℕ → Result Gap Gap → Type 0
+SeekDone place word bytes (Ok g) = AtSite (site_from place word) word bytes g.left g.right
+SeekDone place word bytes (Err g) = AtEnd (site_from place word) word bytes g.left g.right

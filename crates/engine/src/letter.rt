@@ -7,5 +7,5 @@ use model::plain::BACK;
 pub fn turned(x: u8) -> u8
     ensures { letter result ≡ flip (letter x) }
 {
-    ((x as u16 + BACK as u16) % 256) as u8
+    x.wrapping_add(BACK)
 }

@@ -1,4 +1,4 @@
-ghost use Rattle.std.specs.Prelude.{◌≡◌, ◌≤◌, ◌<◌, length, take};
+ghost use Rattle.std.specs.Prelude.{◌≡◌, ◌<◌, length};
 ghost use Rattle.model.specs.Word.{forwards};
 ghost use Rattle.engine.specs.Gap.{letters, word_at, Searched};
 ghost use Rattle.cells.specs.Stands.{Ready};
@@ -10,31 +10,21 @@ use crate::step::{Turn, advance};
 use model::answers::{Ending, Pair};
 use model::plain::BACK;
 
-// How many of the letters before `end` are forward.
-pub fn forward_letters(bytes: &[u8], end: usize) -> usize
-    requires { end ≤ length bytes.now }
-    ensures { result ≡ length (forwards (letters (take end bytes.now))) }
+// How many letters of a word are forward.
+pub fn forward_letters(word: &[u8]) -> usize
+    ensures { result ≡ length (forwards (letters word.now)) }
 {
-    let mut count: usize = 0;
-    let mut i: usize = 0;
-    while i < end {
-        if bytes[i] < BACK {
-            count += 1;
-        }
-        i += 1;
-    }
-    count
+    word.iter().filter(|x| **x < BACK).count()
 }
 
-// The ending of a word without a site, of which `end` letters stand at the workspace's start.
-pub fn finished(bytes: &[u8], end: usize, steps: u16, relations: u16) -> Ending
-    requires { end ≤ length bytes.now }
-    ensures { result ≡ finished_at bytes.now end steps relations }
+// The ending of a word without a site.
+pub fn finished(word: &[u8], steps: u16, relations: u16) -> Ending
+    ensures { result ≡ finished_at word.now (length word.now) steps relations }
 {
-    let numerator = forward_letters(bytes, end);
+    let numerator = forward_letters(word);
     Ending::Finished {
         numerator,
-        denominator: end - numerator,
+        denominator: word.len() - numerator,
         steps,
         relations,
     }
@@ -46,9 +36,10 @@ pub fn counted(relations: u16, pair: Pair) -> u16
     ensures { result ≡ count pair.a pair.b relations }
 {
     if pair.a == pair.b {
-        return relations;
+        relations
+    } else {
+        relations + 1
     }
-    relations + 1
 }
 
 // Reverses the word in the workspace until it ends. Where it finishes, the numerator and then the inverse of the denominator stand at the
@@ -66,7 +57,7 @@ pub fn reversing(cells: &[u8], bytes: &mut [u8], start: Gap, budget: u16) -> End
         let turn = advance(cells, bytes, gap, budget - steps);
         match turn {
             Turn::Final(end) => {
-                return finished(bytes, end.left, steps, relations);
+                return finished(&bytes[..end.left], steps, relations);
             }
             Turn::Undefined(pair) => {
                 return Ending::Undefined { pair, steps };

@@ -4,7 +4,7 @@ ghost use Rattle.engine.specs.Gap.{word_at, Searched, AtLeftmost};
 ghost use Rattle.cells.specs.Stands.{Ready};
 ghost use Rattle.engine.specs.Turn.{cell_letters, complements, complements_length, CellFits, CellsFit, PairAt, Pushed, TurnMeans};
 
-use crate::gap::{Gap, Sought, seek};
+use crate::gap::{Gap, seek};
 use crate::letter::turned;
 use cells::layout::{UNDEFINED_LENGTH, cell_at};
 use model::answers::{Pair, Stop};
@@ -19,8 +19,8 @@ pub enum Turn {
     Stepped { gap: Gap, pair: Pair },
 }
 
-// Writes the word of a cell just before `right`, from its last letter on; the place where it begins. The loop reads the word's length anew
-// each time: with a length that it knows, the compiler spreads the loop over code for long words, and most words have one or two letters.
+// Writes the word of a cell just before `right`, from its last letter on; the place where it begins.
+// Kept (3): (b) with a `for` over the slices here and in `push_inverse`, tried and proved, a step takes 1.16 to 1.25 times Rust's from 500 moves on (bar 1.1).
 pub fn push_word(bytes: &mut [u8], right: usize, cells: &[u8], at: usize) -> usize
     requires { CellFits cells.now at bytes.old right }
     ensures place { result ≡ right - get_or cells.now at 0 }
@@ -36,7 +36,8 @@ pub fn push_word(bytes: &mut [u8], right: usize, cells: &[u8], at: usize) -> usi
     next
 }
 
-// Writes the inverse of the word of a cell just before `right`; the place where it begins. The loop reads the length anew as in `push_word`.
+// Writes the inverse of the word of a cell just before `right`; the place where it begins.
+// Kept (3): (b) as `push_word`. The length is read anew each time: the compiler lays out for long words a loop whose length it knows, and most have one or two.
 pub fn push_inverse(bytes: &mut [u8], right: usize, cells: &[u8], at: usize) -> usize
     requires { CellFits cells.now at bytes.old right }
     ensures place { result ≡ right - get_or cells.now at 0 }
@@ -119,9 +120,8 @@ pub fn advance(cells: &[u8], bytes: &mut [u8], gap: Gap, remaining: u16) -> Turn
     ensures length { length bytes.new ≡ length bytes.old }
     ensures turn { TurnMeans cells.now (word_at bytes.old gap.left gap.right) remaining bytes.new result }
 {
-    let sought = seek(bytes, gap);
-    match sought {
-        Sought::Nowhere(end) => Turn::Final(end),
-        Sought::Found(site) => step(cells, bytes, site, remaining),
+    match seek(bytes, gap) {
+        Ok(site) => step(cells, bytes, site, remaining),
+        Err(end) => Turn::Final(end),
     }
 }

@@ -2,17 +2,16 @@
 use mathlib.Core.Path.{◌≡◌, sym, ap, ap₂, ◌∙◌}
 use mathlib.Core.List.{List, ◌++◌, append_assoc}
 use Prim.Native.Nat.{ℕ, ◌+◌, ◌-◌, ◌*◌, ◌%◌, ◌^◌, ◌≤◌, ◌<◌}
-use native.Mathlib.Nat.{mod-lt, mul-le-mul, mul-le-mul_left}
+use native.Mathlib.Nat.{mod-lt, mul-le-mul}
 use native.Mathlib.Omega.{arith}
 use lib.ListN.{length, take, drop, length-append}
 use lib.Seq.{take_at, drop_at, drop-drop}
 use lib.Pow.{pow_mono, pow_pos}
-use lib.Arith.{digits_lt}
 use Rattle.model.specs.Range.{EntryInRange}
 use Rattle.model.specs.Bits.{bits_of, digits, number, letter_width}
 use Rattle.model.specs.Equivalence.{Entry}
 use Rattle.model.specs.Images.{entry_bits, letter_bits, entry_width, entry_position, offset_width, most_size, size_width}
-use Rattle.bits.specs.Fields.{Inside, Writable, Written, Appended}
+use Rattle.bits.specs.Fields.{Inside, Written, Appended}
 use Rattle.bits.proofs.Appending.{appended_field, appended_as}
 use Rattle.bits.proofs.Digits.{length_digits, number_of_digits, digits_joined, digits_mod}
 use Rattle.bits.proofs.Fields.{field_fits}
@@ -25,9 +24,6 @@ use Rattle.entries.specs.Entry.{EntryInside, Same}
 product_small : (index width : ℕ) → index < 65536 → width ≤ size_width → index * (offset_width + 2 * width) ≤ 65536 * (offset_width + 2 * size_width)
 product_small index width h w = mul-le-mul {n₁ = index} {m₁ = offset_width + 2 * width} {n₂ = 65536} {m₂ = offset_width + 2 * size_width} (omega arith)
     (omega arith)
-
-pub position_small : (n index width : ℕ) → index < 65536 → width ≡ letter_width n → index * (offset_width + 2 * width) ≤ 2000000
-position_small n index width h e = omega (arith, product_small index width h (omega (arith, width_small n)))
 
 pub entry_small : (n index : ℕ) → index < 65536 → entry_position n index + entry_width n ≤ 2000000
 entry_small n index h = omega (arith, product_small index (letter_width n) h (width_small n), width_small n)
@@ -42,41 +38,11 @@ length_entry n e =
       length_digits (letter_width n) (e.b - 1),
     )
 
--- where the fields of an entry lie
-module _ {n index : ℕ} {answer : List ℕ} (h : EntryInside n index answer) where
-  pub first_inside : (at : ℕ) → at ≡ entry_position n index → Inside answer at offset_width
-  first_inside at e = record { narrow = omega arith; inside = omega (arith, h.inside); small = omega (arith, entry_small n index h.low) }
-
-  pub second_inside : (at width : ℕ) → at ≡ entry_position n index → width ≡ letter_width n → Inside answer (at + offset_width) width
-  second_inside at width e f =
-      record { narrow = omega (arith, width_small n); inside = omega (arith, h.inside); small = omega (arith, entry_small n index h.low) }
-
-  pub third_inside : (at width : ℕ) → at ≡ entry_position n index → width ≡ letter_width n → Inside answer (at + offset_width + width) width
-  third_inside at width e f =
-      record { narrow = omega (arith, width_small n); inside = omega (arith, h.inside); small = omega (arith, entry_small n index h.low) }
-
 -- the three fields of an entry gathered in one, as code computes it
 abbrev pub gathered : (offset x y span : ℕ) → ℕ
 gathered offset x y span = (offset * span + x % span) * span + y % span
 
 module _ (width offset x y span : ℕ) (narrow : width ≤ size_width) (span_is : span ≡ 2 ^ width) where
-  pub record GatherFits : Type 0 where
-    pub some_span : 0 < span
-    pub few : span ≤ most_size
-    pub first_fits : offset * span + x % span < 2 ^ 20
-    pub all_fit : gathered offset x y span < 2 ^ 24
-
-  pub gather_fits : offset < 2 ^ 16 → GatherFits
-  gather_fits h =
-      let most : 2 ^ width ≤ 2 ^ 4 = pow_mono {j = 4} narrow in
-      let some : 0 < span = omega (arith, pow_pos width) in
-      let first : offset * span + x % span < 2 ^ 16 * span = digits_lt h (mod-lt x some) in
-      let second : gathered offset x y span < 2 ^ 16 * span * span = digits_lt first (mod-lt y some) in
-      let one : 2 ^ 16 * span ≤ 2 ^ 16 * most_size = mul-le-mul_left {m = span} {n = most_size} (2 ^ 16) (omega arith) in
-      let two : 2 ^ 16 * span * span ≤ 2 ^ 16 * most_size * most_size = mul-le-mul {n₁ = 2 ^ 16 * span} {m₁ = span}
-      {n₂ = 2 ^ 16 * most_size} {m₂ = most_size} one (omega arith) in
-      record { some_span = some; few = omega arith; first_fits = omega arith; all_fit = omega arith }
-
   gathered_digits : digits (offset_width + 2 * width) (gathered offset x y span) ≡ digits offset_width offset ++ (digits width x ++ digits width y)
   gathered_digits =
       let some : 0 < 2 ^ width = pow_pos width in
@@ -88,10 +54,7 @@ module _ (width offset x y span : ℕ) (narrow : width ≤ size_width) (span_is 
       ∙ (ap (λ l. (digits offset_width offset ++ l) ++ digits width y) (digits_mod width x) ∙ append_assoc (digits offset_width offset) (digits width x)
       (digits width y))))
 
-module _ {n index : ℕ} {before : List ℕ} (h : EntryInside n index before) (at width : ℕ) (ea : at ≡ entry_position n index) (ew : width ≡ letter_width n) where
-  pub entry_writable : Writable before at (offset_width + 2 * width)
-  entry_writable = record { narrow = omega (arith, width_small n); inside = omega (arith, h.inside); small = omega (arith, entry_small n index h.low) }
-
+module _ {n index : ℕ} {before : List ℕ} (h : EntryInside n index before) {at width : ℕ} (ea : at ≡ entry_position n index) (ew : width ≡ letter_width n) where
   pub entry_placed : (e : Entry) (span : ℕ) → span ≡ 2 ^ width → (after : List ℕ)
       → Written before at (offset_width + 2 * width) (gathered e.offset (e.a - 1) (e.b - 1) span) after
       → Appended before (entry_position n index) (entry_bits n e) after
@@ -110,12 +73,22 @@ field_at : (bits : List ℕ) (at : ℕ) (p f r : List ℕ) (k w : ℕ) → drop 
 field_at bits at p f r k w e lp lf =
     ap (take w) (sym (drop-drop k at bits) ∙ (ap (drop k) e ∙ drop_at p (f ++ r) k lp)) ∙ take_at f r w lf
 
-module _ {n index : ℕ} {answer : List ℕ} (h : EntryInside n index answer) (at width : ℕ) (ea : at ≡ entry_position n index) (ew : width ≡ letter_width n) where
-  -- a letter's field is small
-  pub letter_small : (from value : ℕ) → Inside answer from width → value ≡ number 0 (take width (drop from (bits_of answer))) → value < most_size
-  letter_small from value i e =
+module _ {n index : ℕ} {answer : List ℕ} (h : EntryInside n index answer) {at width : ℕ} (ea : at ≡ entry_position n index) (ew : width ≡ letter_width n) where
+  -- a letter's field, at most `after` bits behind the entry's first, is small
+  letter_small : (after value : ℕ) → after + width ≤ entry_width n → value ≡ number 0 (take width (drop (at + after) (bits_of answer))) → value < most_size
+  letter_small after value l e =
       let m : 2 ^ width ≤ 2 ^ 4 = pow_mono {j = 4} (omega (arith, width_small n)) in
-      omega (arith, field_fits answer from width i width (omega arith))
+      let i : Inside answer (at + after) width =
+      record { narrow = omega (arith, width_small n); inside = omega (arith, h.inside); small = omega (arith, entry_small n index h.low) } in
+      omega (arith, field_fits answer (at + after) width i width (omega arith))
+
+  pub first_small : (value : ℕ) → value ≡ number 0 (take width (drop (at + offset_width) (bits_of answer))) → value < most_size
+  first_small value e = letter_small offset_width value (omega arith) e
+
+  pub second_small : (value : ℕ) → value ≡ number 0 (take width (drop (at + offset_width + width) (bits_of answer))) → value < most_size
+  second_small value e =
+      let place : at + offset_width + width ≡ at + (offset_width + width) = omega arith in
+      letter_small (offset_width + width) value (omega arith) (rw place at e)
 
   module _ (e : Entry) (rest : List ℕ) (fit : EntryInRange n e) (there : drop (entry_position n index) (bits_of answer) ≡ entry_bits n e ++ rest) where
     bits_there : drop at (bits_of answer) ≡ digits offset_width e.offset ++ (digits width (e.a - 1) ++ (digits width (e.b - 1) ++ rest))

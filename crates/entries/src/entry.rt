@@ -34,7 +34,7 @@ pub fn chain_bytes(size: u8, entries: u16) -> usize
     requires { (1 ≤ size) × (size ≤ most_size) }
     ensures { result ≡ chain_bytes size entries }
 {
-    (position(size, entries as usize) + 7) / 8
+    position(size, entries as usize).div_ceil(8)
 }
 
 // Writes the three fields of an entry, gathered in one, and changes no other bit.

@@ -14,20 +14,9 @@ use Rattle.model.specs.Images.{most_size}
 use Rattle.model.specs.Images.{size_width}
 use Rattle.bits.proofs.Digits.{AreBits}
 use Rattle.bits.proofs.Bytes.{bits_are_bits}
-use Rattle.bits.proofs.Width.{width_small}
-use Rattle.images.specs.Forms.{form_of, image_form, Narrow, number_in, weight_in, letter_in, word_in, words_in, pair_in, rows_in, parts_in, table_in}
-use Rattle.images.specs.declared.forms.Kind.{Kind}
-use Rattle.images.specs.declared.forms.Kind.TheVariants.{Image, Plain}
+use Rattle.images.specs.Forms.{image_form, number_in, weight_in, letter_in, word_in, words_in, pair_in, rows_in, parts_in, table_in}
+use Rattle.images.specs.declared.forms.Kind.TheVariants.{Image}
 use Rattle.images.proofs.Codec.{field_codec, input_rest, bits_suffix}
-
-pub form_narrow : (kind : Kind) (size : ℕ) → Narrow (form_of kind size)
-form_narrow Image size =
-    record { weights = omega arith; opens = omega arith; lengths = omega arith; letters = omega (arith, width_small size) }
-form_narrow Plain size = record { weights = omega arith; opens = omega arith; lengths = omega arith; letters = omega arith }
-
-pub sizes_narrow : (kind : Kind) → (form_of kind 1).sizes ≤ 8
-sizes_narrow Image = omega arith
-sizes_narrow Plain = omega arith
 
 -- the first reads the bits that the second's input is turned into; `Input` says what that input is made of
 module _ (turned : List ℕ → List ℕ) (Input : List ℕ → Type 0) where

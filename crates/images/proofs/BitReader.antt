@@ -4,7 +4,7 @@ use mathlib.Core.List.{List, ◌++◌}
 use Prim.Native.Nat.{ℕ, suc, ◌+◌, ◌-◌, ◌*◌, ◌/◌, ◌%◌, ◌^◌, ◌≤◌, ◌<◌}
 use native.Mathlib.Omega.{arith}
 use lib.Dec.{eqb}
-use lib.ListN.{length, take, drop, get_or, take-append-drop}
+use lib.ListN.{length, take, drop, get_or, take-append-drop, length-drop}
 use lib.Seq.{take_at, drop_at, take-append-add, length-take-le}
 use native.Mathlib.Nat.{one-mul, mod-lt, mod-eq_of_lt}
 use lib.Pow.{high, low, mod-pow-add, pow-lt, pow_pos}
@@ -12,11 +12,8 @@ use Rattle.model.specs.Bits.{bits_of, digits, number, filling}
 use Rattle.bits.proofs.Digits.{length_digits, number_append, number_after, number_digits}
 use Rattle.bits.proofs.Bytes.{bits_split, length_bits_take}
 use Rattle.images.specs.Fields.{from}
-use Rattle.images.specs.BitReader.{place, Holds, Reads, Splits, TakenDone}
-use Rattle.images.specs.declared.bit_reader.BitReader.{BitReader}
-use Rattle.images.specs.declared.bit_reader.Taken.{Taken}
-use Rattle.images.specs.declared.bit_reader.Taken.TheVariants.{Value, Ends}
-use Rattle.images.proofs.Reading.{length_from, from_from, field_small, filling_short}
+use Rattle.images.specs.BitReader.{left, Holds, Reads, TakenAt}
+use Rattle.images.proofs.Reading.{EachBit, length_from, from_from, from_bits, drop_bits, field_small, filling_short}
 
 -- two adjoining fields
 pub take_two : {A : Type 0} (a b : ℕ) (xs : List A) → a ≤ length xs → take (a + b) xs ≡ take a xs ++ take b (drop a xs)
@@ -33,21 +30,22 @@ byte_bits image next h =
     ∙ take_at (digits 8 (get_or image next 0)) (bits_of (drop (suc next) image)) 8 (length_digits 8 (get_or image next 0)))
 
 -- a number of binary digits by the first and the last ones
-module _ (image : List ℕ) (at a b : ℕ) (inside : at + (a + b) ≤ 8 * length image) where
-  parts : number 0 (take (a + b) (from image at)) ≡ number 0 (take a (from image at)) * 2 ^ b + number 0 (take b (from image (at + a)))
+module _ (bits : List ℕ) (each : EachBit bits) (a b : ℕ) (inside : a + b ≤ length bits) where
+  parts : number 0 (take (a + b) bits) ≡ number 0 (take a bits) * 2 ^ b + number 0 (take b (drop a bits))
   parts =
-      let l : length (take b (from image (at + a))) ≡ b = length-take-le b (from image (at + a)) (omega (arith, length_from image (at + a))) in
-      ap (number 0) (take_two a b (from image at) (omega (arith, length_from image at)))
-      ∙ (ap (λ bits. number 0 (take a (from image at) ++ take b bits)) (from_from image at a)
-      ∙ (number_append 0 (take a (from image at)) (take b (from image (at + a)))
-      ∙ (number_after (number 0 (take a (from image at))) (take b (from image (at + a)))
-      ∙ ap (λ n. number 0 (take a (from image at)) * 2 ^ n + number 0 (take b (from image (at + a)))) l)))
+      let l : length (take b (drop a bits)) ≡ b = length-take-le b (drop a bits) (omega (arith, length-drop a bits)) in
+      ap (number 0) (take_two a b bits (omega arith))
+      ∙ (number_append 0 (take a bits) (take b (drop a bits))
+      ∙ (number_after (number 0 (take a bits)) (take b (drop a bits)) ∙ ap (λ n. number 0 (take a bits) * 2 ^ n + number 0 (take b (drop a bits))) l))
 
-  pub first_part : number 0 (take (a + b) (from image at)) / 2 ^ b ≡ number 0 (take a (from image at))
-  first_part = ap (λ n. n / 2 ^ b) parts ∙ high (number 0 (take a (from image at))) b (field_small image (at + a) b (omega arith))
+  last_small : number 0 (take b (drop a bits)) < 2 ^ b
+  last_small = field_small (drop a bits) (drop_bits bits each a) b (omega (arith, length-drop a bits))
 
-  pub last_part : number 0 (take (a + b) (from image at)) % 2 ^ b ≡ number 0 (take b (from image (at + a)))
-  last_part = ap (λ n. n % 2 ^ b) parts ∙ low (number 0 (take a (from image at))) b (field_small image (at + a) b (omega arith))
+  pub first_part : number 0 (take (a + b) bits) / 2 ^ b ≡ number 0 (take a bits)
+  first_part = ap (λ n. n / 2 ^ b) parts ∙ high (number 0 (take a bits)) b last_small
+
+  pub last_part : number 0 (take (a + b) bits) % 2 ^ b ≡ number 0 (take b (drop a bits))
+  last_part = ap (λ n. n % 2 ^ b) parts ∙ low (number 0 (take a bits)) b last_small
 
 -- what `1 << n` is at 32 bits
 pub span : (n : ℕ) → n < 32 → (1 * 2 ^ n) % 4294967296 ≡ 2 ^ n
@@ -81,7 +79,7 @@ module _ (image : List ℕ) (next held bits : ℕ) (h : Holds image next held bi
       ap (λ n. number 0 (take 8 (from image n))) here
       ∙ (ap (number 0) (byte_bits image next some) ∙ (number_digits 0 8 (get_or image next 0) ∙ omega arith)) in
       let whole : number 0 (take (held + 8) (from image at)) ≡ number 0 (take held (from image at)) * 2 ^ 8 + number 0 (take 8 (from image (at + held))) =
-      parts image at held 8 (omega (arith, h.begun)) in
+      rw (← from_from image at held) (parts (from image at) (from_bits image at) held 8 (omega (arith, h.begun, length_from image at))) in
       record {
         read = omega arith;
         begun = omega (arith, h.begun);
@@ -96,8 +94,8 @@ module _ (image : List ℕ) (next held bits : ℕ) (h : Holds image next held bi
     all : width + (held - width) ≡ held
     all = omega arith
 
-    inside : 8 * next - held + (width + (held - width)) ≤ 8 * length image
-    inside = omega (arith, h.begun, h.read)
+    inside : width + (held - width) ≤ length (left image next held)
+    inside = omega (arith, h.begun, h.read, length_from image (8 * next - held))
 
     value : bits % 2 ^ (width + (held - width)) ≡ number 0 (take (width + (held - width)) (from image (8 * next - held)))
     value = ap (λ n. bits % 2 ^ n) all ∙ (h.value ∙ ap (λ n. number 0 (take n (from image (8 * next - held)))) (sym all))
@@ -105,7 +103,7 @@ module _ (image : List ℕ) (next held bits : ℕ) (h : Holds image next held bi
     pub split_first : bits / 2 ^ (held - width) % 2 ^ width ≡ number 0 (take width (from image (8 * next - held)))
     split_first =
         digits_first width (held - width) bits
-        ∙ (ap (λ n. n / 2 ^ (held - width)) value ∙ first_part image (8 * next - held) width (held - width) inside)
+        ∙ (ap (λ n. n / 2 ^ (held - width)) value ∙ first_part (left image next held) (from_bits image (8 * next - held)) width (held - width) inside)
 
     pub split_place : 8 * next - (held - width) ≡ 8 * next - held + width
     split_place = omega (arith, h.begun)
@@ -118,23 +116,20 @@ module _ (image : List ℕ) (next held bits : ℕ) (h : Holds image next held bi
           value =
               digits_last width (held - width) bits
               ∙ (ap (λ n. n % 2 ^ (held - width)) value
-              ∙ (last_part image (8 * next - held) width (held - width) inside ∙ ap (λ n. number 0 (take (held - width) (from image n))) (sym split_place)));
+              ∙ (last_part (left image next held) (from_bits image (8 * next - held)) width (held - width) inside
+              ∙ (ap (λ bits. number 0 (take (held - width) bits)) (from_from image (8 * next - held) width)
+              ∙ ap (λ n. number 0 (take (held - width) (from image n))) (sym split_place))));
         }
 
     -- so a field is taken
-    pub split_taken : (reader : BitReader) → place reader ≡ 8 * next - held → held < 8 + width → (r : Taken) → Splits next held bits width r
-        → TakenDone image reader width r
-    split_taken reader here few (Value v r) s =
+    pub split_taken : TakenAt (left image next held) width (bits / 2 ^ (held - width) % 2 ^ width) (left image next (held - width))
+    split_taken =
         record {
-          inside = omega (arith, here, h.begun, h.read);
-          value_is = s.0 ∙ (split_first ∙ ap (λ n. number 0 (take width (from image n))) (sym here));
-          after =
-              record {
-                reads = record { holds = rw (s.1, s.2, s.3) split_last; few = omega (arith, s.2) };
-                place_is = omega (arith, s.1, s.2, here, h.begun);
-              };
+          inside = omega (arith, h.begun, h.read, length_from image (8 * next - held));
+          bits = from_bits image (8 * next - held);
+          value_is = split_first;
+          after_is = ap (from image) split_place ∙ sym (from_from image (8 * next - held) width);
         }
-    split_taken reader here few Ends s = absurd s
 
 -- at a position: nothing is held at the beginning of a byte, else the byte's other bits
 pub held_none : (image : List ℕ) (next : ℕ) → next ≤ length image → Holds image next 0 0
@@ -144,13 +139,30 @@ pub held_byte : (image : List ℕ) (next : ℕ) → next < length image → get_
 held_byte image next h byte = subst (Holds image (next + 1) 8) {x = 0 + get_or image next 0} (omega arith)
     (held_more image next 0 0 (held_none image next (omega arith)) (omega arith) h byte)
 
--- a reader's place lies inside the image, and fewer than eight bits follow where every byte was read
-pub place_inside : (image : List ℕ) (r : BitReader) → Reads image r → place r ≤ 8 * length image
-place_inside image r h = omega (arith, h.holds.read)
+-- a field that reaches into the next byte
+module _ (image : List ℕ) (next held bits width : ℕ) (h : Reads image next held bits) (narrow : width ≤ 8) (short : held < width)
+    (some : next < length image) (byte : get_or image next 0 < 256) where
+  abbrev more : ℕ
+  more = bits % 256 * 256 + get_or image next 0
 
-pub end_read : (image : List ℕ) (r : BitReader) → Reads image r → length image ≤ r.next → eqb (r.bits % 2 ^ r.held) 0 ≡ filling (from image (place r))
-end_read image r h all =
+  wide : Holds image (next + 1) (held + 8) more
+  wide = held_more image next held bits h.holds (omega (arith, h.few)) some byte
+
+  pub more_reads : Reads image (next + 1) (held + 8 - width) (bits % 256 * 256 + get_or image next 0)
+  more_reads = record { holds = split_last image (next + 1) (held + 8) more wide width (omega arith); few = omega arith }
+
+  pub more_taken : TakenAt (left image next held) width ((bits % 256 * 256 + get_or image next 0) / 2 ^ (held + 8 - width) % 2 ^ width)
+      (left image (next + 1) (held + 8 - width))
+  more_taken =
+      let here : 8 * (next + 1) - (held + 8) ≡ 8 * next - held = omega (arith, h.holds.begun) in
+      subst (λ at. TakenAt (from image at) width (more / 2 ^ (held + 8 - width) % 2 ^ width) (left image (next + 1) (held + 8 - width))) here
+      (split_taken image (next + 1) (held + 8) more wide width (omega arith))
+
+-- fewer than eight bits follow where every byte was read
+pub end_read : (image : List ℕ) (next held bits : ℕ) → Reads image next held bits → length image ≤ next
+    → eqb (bits % 2 ^ held) 0 ≡ filling (left image next held)
+end_read image next held bits h all =
     ap (λ n. eqb n 0)
-    (h.holds.value ∙ ap (λ n. number 0 (take n (from image (place r)))) {x = r.held} {y = 8 * length image - place r}
+    (h.holds.value ∙ ap (λ n. number 0 (take n (left image next held))) {x = held} {y = 8 * length image - (8 * next - held)}
     (omega (arith, h.holds.read, h.holds.begun)))
-    ∙ filling_short image (place r) (place_inside image r h) (omega (arith, h.few, h.holds.read, h.holds.begun))
+    ∙ filling_short image (8 * next - held) (omega (arith, h.holds.read)) (omega (arith, h.few, h.holds.read, h.holds.begun))

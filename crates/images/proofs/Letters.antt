@@ -1,20 +1,32 @@
 -- The letters of an accepted program, one by one. What the forward test and the unpacking of a program make of them.
-use mathlib.Core.Path.{◌≡◌, sym, ap, subst, ◌∙◌}
+use mathlib.Core.Path.{◌≡◌, refl, sym, ap, subst, ◌∙◌}
 use mathlib.Core.List.{List, ◌++◌, append_assoc}
-use Prim.Native.Nat.{ℕ, ◌^◌, ◌+◌, ◌*◌, ◌≤◌, ◌<◌}
+use Prim.Native.Nat.{ℕ, ◌^◌, ◌+◌, ◌*◌, ◌/◌, ◌%◌, ◌≤◌, ◌<◌}
 use native.Mathlib.Omega.{arith}
 use native.Mathlib.Numerals.{add-one}
-use native.Mathlib.Nat.{mul-le-mul_left}
+use native.Mathlib.Nat.{mul-le-mul_left, add-mul, one-mul}
 use lib.ListN.{length, take, drop, set, get_or, length-map, get_or-map}
 use lib.Seq.{paste, paste-suc, take_all}
 use Rattle.model.specs.Word.{forward, Word, byte}
 use Rattle.model.specs.Outcome.{unplaced, answered, refused}
 use Rattle.model.specs.Bits.{letter_width}
-use Rattle.model.specs.Images.{signed_field, read_program, count_width, size_width}
+use Rattle.model.specs.Images.{signed_field, read_program, count_width, most_size, size_width}
 use Rattle.model.specs.Plain.{plain_program}
 use Rattle.bits.proofs.Width.{width_small}
-use Rattle.images.specs.Fields.{from}
-use Rattle.images.specs.Programs.{SignedAt, Accepted, HasLetter}
+use Rattle.std.specs.Prelude.{Ok, Err}
+use Rattle.std.specs.Result.{IsOk}
+use Rattle.std.specs.declared.result.Result.{Result}
+use Rattle.images.specs.Fields.{from, fault_code}
+use Rattle.images.specs.Programs.{SignedAt, SignedDone, Accepted, HasLetter}
+use Rattle.std.specs.Prelude.{Some, None}
+use Rattle.std.specs.Option.{IsSome}
+use Rattle.std.specs.declared.option.Option.{Option}
+use Rattle.images.specs.BitReader.{TakenAt, TakenDone}
+use Rattle.images.specs.Widths.{WidthOf}
+use Rattle.images.proofs.Reading.{from_from}
+use Rattle.images.proofs.Signed.{signed_short, sign_small, number_small, signed_taken, signed_known}
+use Rattle.images.specs.declared.fields.FieldFault.{FieldFault}
+use Rattle.images.specs.declared.programs.SignedLetter.{SignedLetter}
 use Rattle.model.specs.Areas.{written}
 use Rattle.model.proofs.Impossible.{same_answer}
 use Rattle.images.proofs.RoundTrip.{program_in_range}
@@ -44,9 +56,9 @@ module _ (image : List ℕ) (size width i : ℕ) (p : HasLetter image size width
       subst (λ k. count_width + i * (1 + k) + (1 + k) ≤ 8 * length image) (sym p.width_is)
       (letter_inside size p.few image p.word p.read i p.inside)
 
-  pub letter_answer : (x : ℕ) → SignedAt image (count_width + i * (1 + width)) size width x → (w : Word) → read_program size image ≡ answered w
-      → x ≡ byte (get_or w i (forward 0))
-  letter_answer x s w e =
+  pub letter_answer : (sign number : ℕ) (next : List ℕ) → SignedAt (from image (count_width + i * (1 + width))) size sign number next
+      → (w : Word) → read_program size image ≡ answered w → sign * 128 + number ≡ byte (get_or w i (forward 0))
+  letter_answer sign number next s w e =
       sym s.written ∙ ap (λ r. byte r.value)
       (same_answer _ (record { value = get_or w i (forward 0); rest = from image (count_width + i * (1 + width) + (1 + width)) }) (sym s.read ∙ stands w e))
 
@@ -54,6 +66,42 @@ module _ (image : List ℕ) (size width i : ℕ) (p : HasLetter image size width
   letter_stands n e =
       let a = stands p.word p.read in
       let z : ◌≡◌ {A = ℕ} 0 1 = cc in omega arith
+
+  -- so that reading there gives a letter
+  pub letter_there : (r : Result SignedLetter FieldFault) (next : List ℕ) → SignedDone (from image (count_width + i * (1 + width))) size r next → IsOk r
+  letter_there (Ok x) next s = refl
+  letter_there (Err f) next s = absurd (letter_stands (fault_code 4 5 f) s.0)
+
+  -- .. and a field taken there has its sign and its number
+  wide : WidthOf size width
+  wide = record { few = p.few; narrow = p.narrow; width_is = p.width_is }
+
+  pub field_there : (o : Option ℕ) (next : List ℕ) → TakenDone (from image (count_width + i * (1 + width))) (1 + width) o next → IsSome o
+  field_there (Some v) next t = refl
+  field_there None next short = absurd (letter_stands 4 (signed_short size width wide (from image (count_width + i * (1 + width))) short.0))
+
+  module _ (v : ℕ) (next : List ℕ) (t : TakenAt (from image (count_width + i * (1 + width))) (1 + width) v next) where
+    pub sign_below : v / 2 ^ width < 2
+    sign_below = sign_small size width wide (from image (count_width + i * (1 + width))) v next t
+
+    pub number_below : v % 2 ^ width < most_size
+    number_below = number_small size width wide (from image (count_width + i * (1 + width))) v next t
+
+    pub field_answer : (w : Word) → read_program size image ≡ answered w → v / 2 ^ width * 128 + v % 2 ^ width + 1 ≡ byte (get_or w i (forward 0))
+    field_answer w e =
+        omega (
+          arith,
+          letter_answer (v / 2 ^ width) (v % 2 ^ width + 1) next
+              (signed_taken size width wide (from image (count_width + i * (1 + width))) v next t
+              (signed_known size width wide (from image (count_width + i * (1 + width))) v next t (letter_stands 5))) w e,
+        )
+
+-- the bits behind a letter are those of the next
+pub next_letter_bits : (image : List ℕ) (width i : ℕ) (v : ℕ) (next : List ℕ) → TakenAt (from image (count_width + i * (1 + width))) (1 + width) v next
+    → next ≡ from image (count_width + (i + 1) * (1 + width))
+next_letter_bits image width i v next t =
+    t.after_is
+    ∙ (from_from image (count_width + i * (1 + width)) (1 + width) ∙ ap (from image) (omega (arith, add-mul i 1 (1 + width), one-mul (1 + width))))
 
 -- the letter numbered i of an accepted program
 pub has_letter : (image : List ℕ) (size count width i : ℕ) → Accepted image size count → width ≡ letter_width size → i < count → HasLetter image size width i

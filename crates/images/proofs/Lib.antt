@@ -1,3 +1,4 @@
+pub mod Failing
 pub mod Reading
 pub mod BitReader
 pub mod Numbers

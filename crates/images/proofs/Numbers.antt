@@ -2,28 +2,43 @@
 use mathlib.Core.Path.{◌≡◌, sym, ap, ◌∙◌}
 use mathlib.Core.List.{List}
 use mathlib.Core.Bool.{◌||◌}
-use Prim.Native.Nat.{ℕ, ◌+◌, ◌-◌, ◌*◌, ◌≤◌, ◌<◌}
+use Prim.Native.Nat.{ℕ, ◌-◌, ◌≤◌, ◌<◌}
 use borrow.Author.Tests.{lt-ltb, le-ltb, le-leb, lt-leb}
 use lib.Dec.{ltb, leb}
-use lib.ListN.{length}
+use lib.ListN.{length, take, drop}
 use Rattle.model.specs.Outcome.{unplaced, Outcome, answered, refused, ◌>>=◌, unless}
-use Rattle.model.specs.Bits.{Read, field}
-use Rattle.images.specs.Fields.{from}
+use Rattle.model.specs.Bits.{Read, field, number}
 use Rattle.images.specs.Forms.{number_in}
-use Rattle.images.specs.BitReader.{place, Reads, TakenAt}
-use Rattle.images.specs.declared.bit_reader.BitReader.{BitReader}
-use Rattle.images.proofs.Reading.{field_answered, field_ends}
-use Rattle.images.proofs.BitReader.{place_inside}
+use Rattle.images.specs.BitReader.{TakenAt, TakenDone}
+use Rattle.images.specs.declared.fields.FieldFault.{FieldFault}
+use Rattle.images.specs.declared.fields.FieldFault.TheVariants.{Ends}
+use Rattle.images.proofs.Failing.{or_ok, or_err}
+use Rattle.std.specs.Prelude.{Ok, Err}
+use Rattle.std.specs.declared.option.Option.{Option}
+use Rattle.std.specs.Option.{ok_or}
 
-module _ (input : List ℕ) (reader : BitReader) (width : ℕ) where
-  pub taken_read : (v : ℕ) (r : BitReader) → TakenAt input (place reader) width v r
-      → field 1 width (from input (place reader)) ≡ answered (record { value = v; rest = from input (place r) })
-  taken_read v r t =
-      (field_answered input (place reader) width t.inside v t.value_is).read 1
-      ∙ ap (λ n. answered (record { value = v; rest = from input n })) (sym t.after.place_is)
+module _ (early width : ℕ) (before : List ℕ) where
+  pub field_taken : (v : ℕ) (after : List ℕ) → TakenAt before width v after → field early width before ≡ answered (record { value = v; rest = after })
+  unfolding field
+  field_taken v after t =
+      ap (λ t. unless t early (record { value = number 0 (take width before); rest = drop width before })) (le-ltb (length before) width t.inside)
+      ∙ (ap (λ v. answered (record { value = v; rest = drop width before })) (sym t.value_is)
+      ∙ ap (λ r. answered (record { value = v; rest = r })) (sym t.after_is))
 
-  pub taken_ends : Reads input reader → 8 * length input < place reader + width → field 1 width (from input (place reader)) ≡ refused 1 unplaced
-  taken_ends reads short = field_ends input (place reader) width (place_inside input reader reads) short 1
+  pub field_short : length before < width → field early width before ≡ refused early unplaced
+  unfolding field
+  field_short h = ap (λ t. unless t early (record { value = number 0 (take width before); rest = drop width before })) (lt-ltb (length before) width h)
+
+-- what a reader took, told of the result that is made of its answer
+module _ (width : ℕ) (before after : List ℕ) (o : Option ℕ) (t : TakenDone before width o after) where
+  pub was_taken : (v : ℕ) → ok_or o Ends ≡ Ok v → TakenAt before width v after
+  was_taken v e = or_ok Ends (λ o. TakenDone before width o after) o t v e
+
+  pub was_short : (f : FieldFault) → ok_or o Ends ≡ Err f → ((length before < width) × (after ≡ before)) × (f ≡ Ends)
+  was_short f e = or_err Ends (λ o. TakenDone before width o after) o t f e
+
+  pub field_read : (early v : ℕ) → ok_or o Ends ≡ Ok v → field early width before ≡ answered (record { value = v; rest = after })
+  field_read early v e = field_taken early width before v after (was_taken v e)
 
 module _ (width low many : ℕ) (bits : List ℕ) where
   number_of : Outcome (Read ℕ) → Outcome (Read ℕ)

@@ -27,8 +27,9 @@ use Rattle.cells.proofs.Rules.{of_some, of_few}
 use Rattle.images.specs.Tables.{HoldsRow, PairFrom, RowFrom, RowsHeld, Loaded, LoadedAs, TableDone, SizeDone}
 use Rattle.images.specs.declared.forms.Form.{Form}
 use Rattle.images.specs.declared.forms.Kind.{Kind}
-use Rattle.images.specs.declared.tables.TableRead.{TableRead}
-use Rattle.images.specs.declared.tables.TableRead.TheVariants.{Table, Refused}
+use Rattle.std.specs.Prelude.{Ok, Err}
+use Rattle.std.specs.declared.result.Result.{Result}
+use Rattle.model.specs.declared.answers.Refusal.{Refusal}
 use Rattle.images.proofs.Several.{after, after_none, several_step, several_refused, several_done, several_length, rows_step, rows_refused, rows_done}
 
 -- what holds of each index before the last and of the last holds of each
@@ -79,9 +80,6 @@ module _ (reader : List ℕ → Outcome (Read Complement)) (begin : List ℕ) (s
   module _ (cells rest : List ℕ) (b : ℕ) (f : RowFilled reader begin size before a cells rest b) where
     left : b ≤ size → size + 1 - b ≡ suc (size + 1 - (b + 1))
     left h = omega arith
-
-    pub pair_letters : b ≤ size → Letters a b
-    pair_letters h = (record { low = positive; high = omega arith }, record { low = omega (arith, f.above); high = omega arith })
 
     pub row_more : b ≤ size → (cells' rest' : List ℕ) → length cells' ≡ length cells → PairFrom reader size cells a b cells' rest rest'
         → RowFilled reader begin size before a cells' rest' (b + 1)
@@ -359,12 +357,12 @@ module _ (kind : Kind) (input : List ℕ) where
     rows_next excess rest e = sym (weights_next ∙ ap weighed e)
 
 -- an answer about one reading is one about another with the same outcome
-pub loaded_as : {o o' : Outcome Presentation} → o ≡ o' → (cells : List ℕ) (r : TableRead) → LoadedAs o cells r → LoadedAs o' cells r
+pub loaded_as : {o o' : Outcome Presentation} → o ≡ o' → (cells : List ℕ) (r : Result ℕ Refusal) → LoadedAs o cells r → LoadedAs o' cells r
 loaded_as e cells r h = subst (λ o. LoadedAs o cells r) e h
 
 -- what the cells stand for has the number of letters
-pub size_done : (image cells : List ℕ) (r : TableRead) → TableDone image cells r → SizeDone image r
-size_done image cells (Table size) t =
+pub size_done : (image cells : List ℕ) (r : Result ℕ Refusal) → TableDone image cells r → SizeDone image r
+size_done image cells (Ok size) t =
     record {
       table = t.table;
       read = t.read;
@@ -372,4 +370,4 @@ size_done image cells (Table size) t =
       some = of_some t.of;
       few = of_few t.of;
     }
-size_done image cells (Refused r) e = e
+size_done image cells (Err r) e = e

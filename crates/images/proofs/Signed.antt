@@ -1,27 +1,28 @@
 -- A program's next letter: its sign, then its number. The byte that the code makes of them is the letter's.
-use mathlib.Core.Path.{◌≡◌, refl, ap, subst, ◌∙◌}
+use mathlib.Core.Path.{◌≡◌, refl, sym, ap, subst, ◌∙◌}
 use mathlib.Core.Logic.{⊎_elim}
 use mathlib.Core.List.{List}
-use mathlib.Core.Bool.{cond}
-use Prim.Native.Nat.{ℕ, ◌+◌, ◌*◌, ◌/◌, ◌%◌, ◌^◌, ◌≤◌, ◌<◌}
+use Prim.Native.Nat.{ℕ, zero, suc, ◌+◌, ◌*◌, ◌/◌, ◌%◌, ◌^◌, ◌≤◌, ◌<◌}
 use native.Mathlib.Omega.{arith}
-use lib.ListN.{length, take}
+use lib.ListN.{length, take, drop, length-drop}
+use lib.Seq.{drop-drop}
 use lib.Pow.{pow_mono}
-use borrow.Author.Tests.{eq-eqb, ne_eqb}
-use Rattle.model.specs.Word.{Letter, forward, back}
-use Rattle.model.specs.Outcome.{unplaced, Outcome, answered, refused, ◌>>=◌}
-use Rattle.model.specs.Bits.{Read, field, number}
+use borrow.Author.Tests.{lt-leb, le-leb, le-ltb}
+use lib.Dec.{leb}
+use Rattle.model.specs.Word.{Letter, byte}
+use Rattle.model.specs.Outcome.{unplaced, Outcome, answered, refused, ◌>>=◌, unless}
+use Rattle.model.specs.Bits.{Read, field, number, letter_width}
 use Rattle.model.specs.Images.{letter_field, signed_field, signed, most_size}
-use Rattle.images.specs.Fields.{FieldAt, LetterAt, from}
-use Rattle.images.specs.BitReader.{ReadsFrom, TakenAt}
-use Rattle.images.specs.declared.bit_reader.BitReader.{BitReader}
-use Rattle.images.specs.Widths.{WidthOf}
-use Rattle.images.specs.Programs.{SignedAt, SignedTaken}
+use Rattle.model.specs.Range.{LetterInRange}
 use Rattle.model.proofs.Numbers.{below_or}
-use Rattle.images.proofs.Reading.{field_answered, field_ends, letter_answered, letter_wrong, letter_ends}
+use Rattle.images.specs.BitReader.{TakenAt}
+use Rattle.images.specs.Widths.{WidthOf}
+use Rattle.images.specs.Programs.{SignedAt}
+use Rattle.images.proofs.Reading.{drop_bits, field_small}
+use Rattle.images.proofs.Numbers.{field_taken, field_short}
 use Rattle.images.proofs.BitReader.{first_part, last_part}
 
-module _ (image : List ℕ) (at size width : ℕ) where
+module _ (size : ℕ) (bits : List ℕ) where
   after_number : ℕ → Outcome (Read ℕ) → Outcome (Read Letter)
   after_number sign o = o >>= λ a. answered (record { value = signed sign a.value; rest = a.rest })
 
@@ -29,96 +30,117 @@ module _ (image : List ℕ) (at size width : ℕ) where
   unfolding after_number
   after_sign o = o >>= λ s. after_number s.value (letter_field 4 5 size s.rest)
 
-  pub sign_ends : ((early : ℕ) → field early 1 (from image at) ≡ refused early unplaced) → signed_field size (from image at) ≡ refused 4 unplaced
+  sign_short : field 4 1 bits ≡ refused 4 unplaced → signed_field size bits ≡ refused 4 unplaced
   unfolding after_sign after_number
-  sign_ends e = ap after_sign (e 4)
+  sign_short e = ap after_sign e
 
-  module _ (sign : ℕ) (s : FieldAt image at 1 sign) where
-    signed_is : signed_field size (from image at) ≡ after_number sign (letter_field 4 5 size (from image (at + 1)))
+  -- the number behind the sign
+  module _ (sign : ℕ) (rest : List ℕ) (s : field 4 1 bits ≡ answered (record { value = sign; rest = rest })) where
+    number_next : signed_field size bits ≡ after_number sign (letter_field 4 5 size rest)
     unfolding after_sign after_number
-    signed_is = ap after_sign (s.read 4)
+    number_next = ap after_sign s
 
-    pub number_refused : (n : ℕ) → letter_field 4 5 size (from image (at + 1)) ≡ refused n unplaced → signed_field size (from image at) ≡ refused n unplaced
+    letter_of : Outcome (Read ℕ) → Outcome (Read Letter)
     unfolding after_number
-    number_refused n e = signed_is ∙ ap (after_number sign) e
+    letter_of o = after_number sign (o >>= λ r. unless (leb size r.value) 5 (record { value = r.value + 1; rest = r.rest }))
 
-    module _ (a : ℕ) (l : LetterAt image (at + 1) size width a) where
-      signed_read : (x : Letter) → signed sign a ≡ x → signed_field size (from image at) ≡ answered (record { value = x; rest = from image (at + 1 + width) })
-      unfolding after_number
-      signed_read x e =
-          signed_is ∙ (ap (after_number sign) (l.read 4 5) ∙ ap (λ x. answered (record { value = x; rest = from image (at + 1 + width) })) e)
+    number_short : field 4 (letter_width size) rest ≡ refused 4 unplaced → signed_field size bits ≡ refused 4 unplaced
+    unfolding letter_of after_number
+    number_short e = number_next ∙ ap letter_of e
 
-      pub signed_forward : sign ≡ 0 → SignedAt image at size width a
-      signed_forward z =
-          record {
-            inside = l.inside;
-            letter = forward a;
-            named = record { low = l.positive; high = l.small };
-            written = refl;
-            read = signed_read (forward a) (ap (λ t. cond t (forward a) (back a)) (eq-eqb sign 0 z));
-          }
+    module _ (n : ℕ) (after : List ℕ) (e : field 4 (letter_width size) rest ≡ answered (record { value = n; rest = after })) where
+      letter_wrong : size ≤ n → signed_field size bits ≡ refused 5 unplaced
+      unfolding letter_of after_number
+      letter_wrong h =
+          number_next
+          ∙ (ap letter_of e ∙ ap (λ t. after_number sign (unless t 5 (record { value = n + 1; rest = after }))) (le-leb size n h))
 
-      pub signed_back : (sign ≡ 0 → ⊥) → SignedAt image at size width (128 + a)
-      signed_back z =
-          record {
-            inside = l.inside;
-            letter = back a;
-            named = record { low = l.positive; high = l.small };
-            written = refl;
-            read = signed_read (back a) (ap (λ t. cond t (forward a) (back a)) (ne_eqb sign 0 z));
-          }
+      letter_read : n < size → signed_field size bits ≡ answered (record { value = signed sign (n + 1); rest = after })
+      unfolding letter_of after_number
+      letter_read h =
+          number_next
+          ∙ (ap letter_of e ∙ ap (λ t. after_number sign (unless t 5 (record { value = n + 1; rest = after }))) (lt-leb size n h))
+
+-- the letter of a sign and a number
+sign_letter : (sign number size : ℕ) → sign < 2 → 1 ≤ number → number ≤ size
+    → LetterInRange size (signed sign number) × (byte (signed sign number) ≡ sign * 128 + number)
+sign_letter zero number size h low high = (record { low = low; high = high }, omega arith)
+sign_letter (suc zero) number size h low high = (record { low = low; high = high }, omega arith)
+sign_letter (suc (suc sign)) number size h low high = absurd (omega arith)
 
 -- the sign and the number of a letter, taken as one field
-module _ (image : List ℕ) (at size width : ℕ) (of : WidthOf size width) where
-  pub signed_ends : at ≤ 8 * length image → 8 * length image < at + (1 + width) → signed_field size (from image at) ≡ refused 4 unplaced
-  signed_ends inside short =
+module _ (size width : ℕ) (of : WidthOf size width) (before : List ℕ) where
+  -- the sign, where there is a bit
+  sign_there : 1 ≤ length before → field 4 1 before ≡ answered (record { value = number 0 (take 1 before); rest = drop 1 before })
+  unfolding field
+  sign_there h = ap (λ t. unless t 4 (record { value = number 0 (take 1 before); rest = drop 1 before })) (le-ltb (length before) 1 h)
+
+  pub signed_short : length before < 1 + width → signed_field size before ≡ refused 4 unplaced
+  signed_short short =
       ⊎_elim
-      (λ (none : 8 * length image < at + 1). sign_ends image at size width (field_ends image at 1 inside none))
-      (λ (some : at + 1 ≤ 8 * length image).
-      number_refused image at size width (number 0 (take 1 (from image at))) (field_answered image at 1 some (number 0 (take 1 (from image at))) refl) 4
-      (letter_ends image (at + 1) size width of.width_is (field_ends image (at + 1) width some (omega arith)) 4 5))
-      (below_or (8 * length image) (at + 1))
+      (λ (none : length before < 1). sign_short size before (field_short 4 1 before none))
+      (λ (some : 1 ≤ length before).
+      number_short size before (number 0 (take 1 before)) (drop 1 before) (sign_there some)
+      (subst (λ w. field 4 w (drop 1 before) ≡ refused 4 unplaced) of.width_is
+      (field_short 4 width (drop 1 before) (omega (arith, length-drop 1 before)))))
+      (below_or (length before) 1)
 
-  module _ (v : ℕ) (r : BitReader) (t : TakenAt image at (1 + width) v r) where
-    sign_at : FieldAt image at 1 (v / 2 ^ width)
-    sign_at =
-        field_answered image at 1 (omega (arith, t.inside)) (v / 2 ^ width)
-        (ap (λ n. n / 2 ^ width) t.value_is ∙ first_part image at 1 width t.inside)
+  module _ (v : ℕ) (after : List ℕ) (t : TakenAt before (1 + width) v after) where
+    sign_read : field 4 1 before ≡ answered (record { value = v / 2 ^ width; rest = drop 1 before })
+    sign_read =
+        field_taken 4 1 before (v / 2 ^ width) (drop 1 before)
+        (record {
+          inside = omega (arith, t.inside);
+          bits = t.bits;
+          value_is = ap (λ n. n / 2 ^ width) t.value_is ∙ first_part before t.bits 1 width t.inside;
+          after_is = refl;
+        })
 
-    number_at : FieldAt image (at + 1) width (v % 2 ^ width)
-    number_at =
-        field_answered image (at + 1) width (omega (arith, t.inside)) (v % 2 ^ width)
-        (ap (λ n. n % 2 ^ width) t.value_is ∙ last_part image at 1 width t.inside)
+    number_is : v % 2 ^ width ≡ number 0 (take width (drop 1 before))
+    number_is = ap (λ n. n % 2 ^ width) t.value_is ∙ last_part before t.bits 1 width t.inside
+
+    number_inside : width ≤ length (drop 1 before)
+    number_inside = omega (arith, t.inside, length-drop 1 before)
+
+    number_read : field 4 (letter_width size) (drop 1 before) ≡ answered (record { value = v % 2 ^ width; rest = after })
+    number_read =
+        subst (λ w. field 4 w (drop 1 before) ≡ answered (record { value = v % 2 ^ width; rest = after })) of.width_is
+        (field_taken 4 width (drop 1 before) (v % 2 ^ width) after
+        (record {
+          inside = number_inside;
+          bits = drop_bits before t.bits 1;
+          value_is = number_is;
+          after_is = t.after_is ∙ (ap (λ n. drop n before) {x = 1 + width} {y = 1 + width} refl ∙ sym (drop-drop width 1 before));
+        }))
 
     pub sign_small : v / 2 ^ width < 2
-    sign_small = omega (arith, sign_at.small)
+    sign_small = omega (
+      arith,
+      ap (λ n. n / 2 ^ width) t.value_is ∙ first_part before t.bits 1 width t.inside,
+      field_small before t.bits 1 (omega (arith, t.inside)),
+    )
 
     pub number_small : v % 2 ^ width < most_size
     number_small =
         let most : 2 ^ width ≤ 2 ^ 4 = pow_mono {i = width} {j = 4} of.narrow in
-        omega (arith, number_at.small)
+        omega (arith, number_is, field_small (drop 1 before) (drop_bits before t.bits 1) width number_inside)
 
-    pub signed_wrong : size ≤ v % 2 ^ width → signed_field size (from image at) ≡ refused 5 unplaced
-    signed_wrong h =
-        number_refused image at size width (v / 2 ^ width) sign_at 5 (letter_wrong image (at + 1) size width (v % 2 ^ width) of.width_is number_at h 4 5)
+    pub signed_wrong : size ≤ v % 2 ^ width → signed_field size before ≡ refused 5 unplaced
+    signed_wrong h = letter_wrong size before (v / 2 ^ width) (drop 1 before) sign_read (v % 2 ^ width) after number_read h
 
-    pub signed_taken : v % 2 ^ width < size → SignedTaken image at size width (v / 2 ^ width * 128 + v % 2 ^ width + 1) r
+    pub signed_taken : v % 2 ^ width < size → SignedAt before size (v / 2 ^ width) (v % 2 ^ width + 1) after
     signed_taken h =
-        let l : LetterAt image (at + 1) size width (v % 2 ^ width + 1) = letter_answered image (at + 1) size width (v % 2 ^ width) of.width_is number_at h in
+        let l = sign_letter (v / 2 ^ width) (v % 2 ^ width + 1) size sign_small (omega arith) (omega arith) in
         record {
-          signed =
-              ⊎_elim
-              (λ (none : v / 2 ^ width < 1).
-              subst (SignedAt image at size width) (omega arith)
-              (signed_forward image at size width (v / 2 ^ width) sign_at (v % 2 ^ width + 1) l (omega arith)))
-              (λ (some : 1 ≤ v / 2 ^ width).
-              subst (SignedAt image at size width) (omega (arith, sign_small))
-              (signed_back image at size width (v / 2 ^ width) sign_at (v % 2 ^ width + 1) l (λ z. omega arith)))
-              (below_or (v / 2 ^ width) 1);
-          after = subst (λ n. ReadsFrom image n r) (omega arith) t.after;
+          letter = signed (v / 2 ^ width) (v % 2 ^ width + 1);
+          named = l.0;
+          written = l.1;
+          read = letter_read size before (v / 2 ^ width) (drop 1 before) sign_read (v % 2 ^ width) after number_read h;
+          sign_small = omega (arith, sign_small);
+          number_small = omega (arith, number_small);
         }
 
     -- where no field of a wrong letter can stand
-    pub signed_known : (signed_field size (from image at) ≡ refused 5 unplaced → ⊥) → v % 2 ^ width < size
+    pub signed_known : (signed_field size before ≡ refused 5 unplaced → ⊥) → v % 2 ^ width < size
     signed_known never = ⊎_elim (λ (below : v % 2 ^ width < size). below) (λ (above : size ≤ v % 2 ^ width). absurd (never (signed_wrong above)))
         (below_or (v % 2 ^ width) size)

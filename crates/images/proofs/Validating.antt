@@ -2,7 +2,7 @@
 use mathlib.Core.Path.{◌≡◌, refl, sym, ap, ◌∙◌}
 use mathlib.Core.List.{List, [], ◌∷◌, ◌++◌}
 use mathlib.Core.Bool.{true, false, cond}
-use Prim.Native.Nat.{ℕ, suc, ◌+◌, ◌-◌, ◌*◌, ◌≤◌, ◌<◌}
+use Prim.Native.Nat.{ℕ, suc, ◌+◌, ◌-◌, ◌≤◌, ◌<◌}
 use native.Mathlib.Omega.{arith}
 use lib.ListN.{length, length-append}
 use Rattle.model.specs.Word.{Letter}
@@ -37,14 +37,13 @@ chain_is size image = refl
 abbrev pub chain : ℕ → Counted Entry
 chain size = record { reads = read_chain size; one = entry_field size; head = chain_count_width; is = chain_is size }
 
--- a value has at most 23 bits
-pub record Validated {A : Type 0} (c : Counted A) (image : List ℕ) (count at i : ℕ) : Type 0 where
+-- the count and so many values were read, and `rest` is left
+pub record Validated {A : Type 0} (c : Counted A) (image : List ℕ) (count : ℕ) (rest : List ℕ) (i : ℕ) : Type 0 where
+  pub first : FieldAt image 0 c.head count
   pub some_left : i ≤ count
-  pub inside : at ≤ 8 * length image
-  pub near : at ≤ c.head + 23 * i
   pub done : List A
   pub done_length : length done ≡ i
-  pub resumed : several c.one count (from image c.head) ≡ after done (several c.one (count - i) (from image at))
+  pub resumed : several c.one count (from image c.head) ≡ after done (several c.one (count - i) rest)
 
 -- the image is accepted: its values, as many as it says
 pub record Holds {A : Type 0} (c : Counted A) (image : List ℕ) (count : ℕ) (values : List A) : Type 0 where
@@ -71,12 +70,11 @@ module _ {A : Type 0} (c : Counted A) (image : List ℕ) where
         ∙ (ap after_count (first.read 4)
         ∙ ap (λ n. after_values (several c.one count (from image n))) {x = 0 + c.head} {y = c.head} (omega arith))
 
-    unfoldable pub validated_none : Validated c image count c.head 0
+    unfoldable pub validated_none : Validated c image count (from image c.head) 0
     validated_none =
         record {
+          first = first;
           some_left = omega arith;
-          inside = omega (arith, first.inside);
-          near = omega arith;
           done = [];
           done_length = refl;
           resumed =
@@ -84,51 +82,50 @@ module _ {A : Type 0} (c : Counted A) (image : List ℕ) where
               ∙ ap (λ k. several c.one k (from image c.head)) {x = count - 0} {y = count} (omega arith));
         }
 
-    module _ (at i : ℕ) (v : Validated c image count at i) where
-      pub left : i < count → count - i ≡ suc (count - (i + 1))
-      left h = omega arith
+  module _ (count : ℕ) (rest : List ℕ) (i : ℕ) (v : Validated c image count rest i) where
+    pub left : i < count → count - i ≡ suc (count - (i + 1))
+    left h = omega arith
 
-      unfoldable pub validated_more : (x : A) (next : ℕ) → next ≤ at + 23 → next ≤ 8 * length image → i < count
-          → c.one (from image at) ≡ answered (record { value = x; rest = from image next }) → Validated c image count next (i + 1)
-      validated_more x next short inside h e =
-          record {
-            some_left = omega arith;
-            inside = inside;
-            near = omega (arith, v.near);
-            done = v.done ++ (x ∷ []);
-            done_length = length-append v.done (x ∷ []) ∙ omega (arith, v.done_length);
-            resumed =
-                v.resumed
-                ∙ (ap (λ k. after v.done (several c.one k (from image at))) (left h)
-                ∙ several_step c.one v.done (count - (i + 1)) (from image at) (record { value = x; rest = from image next }) e);
-          }
+    unfoldable pub validated_more : (x : A) (next : List ℕ) → i < count → c.one rest ≡ answered (record { value = x; rest = next })
+        → Validated c image count next (i + 1)
+    validated_more x next h e =
+        record {
+          first = v.first;
+          some_left = omega arith;
+          done = v.done ++ (x ∷ []);
+          done_length = length-append v.done (x ∷ []) ∙ omega (arith, v.done_length);
+          resumed =
+              v.resumed
+              ∙ (ap (λ k. after v.done (several c.one k rest)) (left h)
+              ∙ several_step c.one v.done (count - (i + 1)) rest (record { value = x; rest = next }) e);
+        }
 
-      pub value_refused : (n : ℕ) → i < count → c.one (from image at) ≡ refused n unplaced → c.reads image ≡ refused n unplaced
-      unfolding after_values
-      value_refused n h e =
-          whole_is
-          ∙ ap after_values
-          (v.resumed
-          ∙ (ap (λ k. after v.done (several c.one k (from image at))) (left h)
-          ∙ several_refused c.one v.done (count - (i + 1)) (from image at) n unplaced e))
+    pub value_refused : (n : ℕ) → i < count → c.one rest ≡ refused n unplaced → c.reads image ≡ refused n unplaced
+    unfolding after_values
+    value_refused n h e =
+        whole_is count v.first
+        ∙ ap after_values
+        (v.resumed
+        ∙ (ap (λ k. after v.done (several c.one k rest)) (left h)
+        ∙ several_refused c.one v.done (count - (i + 1)) rest n unplaced e))
 
-      ended : count ≤ i → c.reads image ≡ finish 6 (record { value = v.done; rest = from image at })
-      unfolding after_values
-      ended h =
-          whole_is
-          ∙ ap after_values
-          (v.resumed
-          ∙ (ap (λ k. after v.done (several c.one k (from image at))) {x = count - i} {y = 0} (omega arith)
-          ∙ several_done c.one v.done (from image at)))
+    ended : count ≤ i → c.reads image ≡ finish 6 (record { value = v.done; rest = rest })
+    unfolding after_values
+    ended h =
+        whole_is count v.first
+        ∙ ap after_values
+        (v.resumed
+        ∙ (ap (λ k. after v.done (several c.one k rest)) {x = count - i} {y = 0} (omega arith)
+        ∙ several_done c.one v.done rest))
 
-      pub whole_held : count ≤ i → filling (from image at) ≡ true → Holds c image count v.done
-      unfolding finish
-      whole_held h f =
-          record {
-            read = ended h ∙ ap (λ t. cond t (answered v.done) (refused 6 unplaced)) f;
-            count_is = v.done_length ∙ omega (arith, v.some_left);
-          }
+    pub whole_held : count ≤ i → filling rest ≡ true → Holds c image count v.done
+    unfolding finish
+    whole_held h f =
+        record {
+          read = ended h ∙ ap (λ t. cond t (answered v.done) (refused 6 unplaced)) f;
+          count_is = v.done_length ∙ omega (arith, v.some_left);
+        }
 
-      pub whole_tail : count ≤ i → filling (from image at) ≡ false → c.reads image ≡ refused 6 unplaced
-      unfolding finish
-      whole_tail h f = ended h ∙ ap (λ t. cond t (answered v.done) (refused 6 unplaced)) f
+    pub whole_tail : count ≤ i → filling rest ≡ false → c.reads image ≡ refused 6 unplaced
+    unfolding finish
+    whole_tail h f = ended h ∙ ap (λ t. cond t (answered v.done) (refused 6 unplaced)) f

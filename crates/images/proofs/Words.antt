@@ -8,7 +8,7 @@ use native.Mathlib.Omega.{arith}
 use lib.ListN.{length, set, get_or, length-append, length-set, get_or-append}
 use lib.Seq.{get_or-set_same, get_or-set_other, get_or_at}
 use Rattle.model.specs.Word.{Positive}
-use Rattle.model.specs.Outcome.{unplaced, Outcome, answered, refused}
+use Rattle.model.specs.Outcome.{unplaced, Outcome, answered, refused, ◌>>=◌}
 use Rattle.model.specs.Bits.{Read}
 use Rattle.model.specs.Images.{several, word_lengths}
 use Rattle.model.proofs.Numbers.{below_or}
@@ -17,7 +17,9 @@ use Rattle.model.specs.Range.{All, InRange}
 use Rattle.cells.specs.Kept.{KeptOutside}
 use Rattle.cells.proofs.Kept.{kept_store}
 use Rattle.cells.specs.Layout.{cell_length}
+use Rattle.images.specs.Forms.{number_in, letter_in, word_in}
 use Rattle.images.specs.Tables.{WordFrom}
+use Rattle.images.specs.declared.forms.Form.{Form}
 use Rattle.images.proofs.Several.{after, after_none, several_step, several_refused, several_done}
 
 -- the letters of a word whose length was read and stored; `begin` is what was left to read then, and `rest` is left now
@@ -115,3 +117,25 @@ module _ (reader : List ℕ → Outcome (Read ℕ)) (begin : List ℕ) (size : �
               };
           kept = λ i o. f.kept i o ∙ kept_store before cell before cell count (λ i o. refl) (omega arith) (omega arith) i o;
         }
+
+-- the word of a form: its length is read, then its letters
+module _ (f : Form) (size : ℕ) (bits : List ℕ) where
+  unfoldable of_length : Outcome (Read ℕ) → Outcome (Read Positive)
+  of_length o = o >>= λ k. several (letter_in f size) k.value k.rest
+
+  pub word_letters : (k : ℕ) (rest : List ℕ) → number_in f.lengths 0 word_lengths bits ≡ answered (record { value = k; rest = rest })
+      → word_in f size bits ≡ several (letter_in f size) k rest
+  unfolding of_length
+  word_letters k rest e = ap of_length e
+
+  unfoldable of_number : Outcome (Read ℕ) → Outcome (Read ℕ)
+  of_number o = o >>= λ r. answered (record { value = r.value + 1; rest = r.rest })
+
+  pub letter_unread : (n : ℕ) → number_in f.letters f.low size bits ≡ refused n unplaced → letter_in f size bits ≡ refused n unplaced
+  unfolding of_number
+  letter_unread n e = ap of_number e
+
+  pub letter_said : (k : ℕ) (rest : List ℕ) → number_in f.letters f.low size bits ≡ answered (record { value = k; rest = rest })
+      → letter_in f size bits ≡ answered (record { value = k + 1; rest = rest })
+  unfolding of_number
+  letter_said k rest e = ap of_number e

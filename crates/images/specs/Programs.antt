@@ -1,5 +1,6 @@
 -- What reading a program image gives.
-use Rattle.std.specs.Prelude.{List, [], ◌∷◌, Bool, true, false, ◌≡◌, ℕ, suc, ◌+◌, ◌*◌, ◌≤◌, ◌<◌, eqb, length, get_or}
+use Rattle.std.specs.Prelude.{List, [], ◌∷◌, Bool, true, false, ◌≡◌, ℕ, suc, ◌+◌, ◌*◌, ◌≤◌, ◌<◌, eqb, length, get_or, Ok, Err}
+use Rattle.std.specs.declared.result.Result.{Result}
 use Rattle.model.specs.Word.{Letter, Word, byte, Positive, positive}
 use Rattle.model.specs.Outcome.{unplaced, Outcome, answered, refused}
 use Rattle.model.specs.Bits.{letter_width}
@@ -7,42 +8,31 @@ use Rattle.model.specs.Images.{signed_field, read_program, most_size, size_width
 use Rattle.model.specs.Services.{is_forward, read_forward}
 use Rattle.model.specs.Range.{InRange, number_of, LetterInRange}
 use Rattle.model.specs.Stated.{refusal}
+use Rattle.model.specs.declared.answers.Refusal.{Refusal}
 use Rattle.model.specs.declared.answers.Refusal.TheVariants.{ImageTail}
 use Rattle.cells.specs.Layout.{cell_bytes, weight_at}
-use Rattle.images.specs.Fields.{from}
-use Rattle.images.specs.BitReader.{ReadsFrom}
-use Rattle.images.specs.declared.bit_reader.BitReader.{BitReader}
-use Rattle.images.specs.declared.programs.SignedField.{SignedField}
-use Rattle.images.specs.declared.programs.SignedField.TheVariants.{Letter as SignedLetter, Ends, Wrong}
+use Rattle.images.specs.Fields.{fault_code}
+use Rattle.images.specs.BitReader.{LeftAfter}
+use Rattle.images.specs.declared.fields.FieldFault.{FieldFault}
+use Rattle.images.specs.declared.programs.SignedLetter.{SignedLetter}
 use Rattle.images.specs.declared.programs.Tally.{Tally}
 use Rattle.images.specs.declared.programs.Signs.{Signs}
 use Rattle.images.specs.declared.programs.Signs.TheVariants.{Any, Forward}
 use Rattle.images.specs.declared.programs.ProgramRead.{ProgramRead}
-use Rattle.images.specs.declared.programs.ProgramRead.TheVariants.{Program, Refused}
 
--- the byte is that of the letter that was read
-pub record SignedAt (image : List ℕ) (at size width x : ℕ) : Type 0 where
-  pub inside : at + 1 + width ≤ 8 * length image
+-- a letter was read, told by its sign and its number, and the bits after it are left
+pub record SignedAt (before : List ℕ) (size sign number : ℕ) (after : List ℕ) : Type 0 where
   pub letter : Letter
   pub named : LetterInRange size letter
-  pub written : byte letter ≡ x
-  pub read : signed_field size (from image at) ≡ answered (record { value = letter; rest = from image (at + 1 + width) })
-
--- .. and the reader stands behind it
-pub record SignedTaken (image : List ℕ) (at size width x : ℕ) (r : BitReader) : Type 0 where
-  pub signed : SignedAt image at size width x
-  pub after : ReadsFrom image (at + 1 + width) r
-
--- .. told by its sign and its number
-pub record LetterTaken (image : List ℕ) (at size width sign number : ℕ) (r : BitReader) : Type 0 where
-  pub taken : SignedTaken image at size width (sign * 128 + number) r
+  pub written : byte letter ≡ sign * 128 + number
+  pub read : signed_field size before ≡ answered (record { value = letter; rest = after })
   pub sign_small : sign ≤ 1
   pub number_small : number ≤ most_size
 
-abbrev pub SignedDone : List ℕ → ℕ → ℕ → ℕ → SignedField → Type 0
-SignedDone image at size width (SignedLetter sign number r) = LetterTaken image at size width sign number r
-SignedDone image at size width Ends = signed_field size (from image at) ≡ refused 4 unplaced
-SignedDone image at size width Wrong = signed_field size (from image at) ≡ refused 5 unplaced
+abbrev pub SignedDone : List ℕ → ℕ → Result SignedLetter FieldFault → List ℕ → Type 0
+SignedDone before size (Ok x) after = SignedAt before size x.sign x.number after
+SignedDone before size (Err f) after =
+    (signed_field size before ≡ refused (fault_code 4 5 f) unplaced) × LeftAfter before (1 + letter_width size) f after
 
 -- the tally with one letter more
 abbrev pub with_letter : List ℕ → Tally → ℕ → ℕ → Tally
@@ -57,9 +47,9 @@ pub record Tallies (cells : List ℕ) (tally : Tally) (sign number : ℕ) : Type
   pub weight_fits : tally.weight + suc (get_or cells (weight_at number) 0) < 65536
 
 -- what is read of a program whose letters were passed, where a filling follows, and where something else does
-abbrev pub ended_by : Bool → ℕ → Tally → ProgramRead
-ended_by true count tally = Program count (eqb tally.backs 0) tally.weight
-ended_by false count tally = Refused ImageTail
+abbrev pub ended_by : Bool → ℕ → Tally → Result ProgramRead Refusal
+ended_by true count tally = Ok (record { count = count; forward = eqb tally.backs 0; weight = tally.weight })
+ended_by false count tally = Err ImageTail
 
 -- the image of a program of so many letters
 pub record ProgramOf (image : List ℕ) (size count : ℕ) : Type 0 where
@@ -78,9 +68,9 @@ pub record Measured (image cells : List ℕ) (size count : ℕ) (forward : Bool)
   pub forward_is : forward ≡ is_forward program.word
   pub weight_is : weight ≡ cells_weigh cells program.word
 
-abbrev pub ProgramDone : List ℕ → List ℕ → ℕ → ProgramRead → Type 0
-ProgramDone image cells size (Program count forward weight) = Measured image cells size count forward weight
-ProgramDone image cells size (Refused r) = read_program size image ≡ refusal r
+abbrev pub ProgramDone : List ℕ → List ℕ → ℕ → Result ProgramRead Refusal → Type 0
+ProgramDone image cells size (Ok p) = Measured image cells size p.count p.forward p.weight
+ProgramDone image cells size (Err r) = read_program size image ≡ refusal r
 
 -- an image of a program of so many letters, under a number of letters that a table can have
 pub record Accepted (image : List ℕ) (size count : ℕ) : Type 0 where
@@ -124,6 +114,6 @@ abbrev pub MeasuredAs : Signs → List ℕ → List ℕ → ℕ → ℕ → Bool
 MeasuredAs Any image cells size count forward weight = Measured image cells size count forward weight
 MeasuredAs Forward image cells size count forward weight = ForwardMeasured image cells size count weight
 
-abbrev pub ReadDone : List ℕ → List ℕ → ℕ → Signs → ProgramRead → Type 0
-ReadDone image cells size s (Program count forward weight) = MeasuredAs s image cells size count forward weight
-ReadDone image cells size s (Refused r) = read_as s size image ≡ refusal r
+abbrev pub ReadDone : List ℕ → List ℕ → ℕ → Signs → Result ProgramRead Refusal → Type 0
+ReadDone image cells size s (Ok p) = MeasuredAs s image cells size p.count p.forward p.weight
+ReadDone image cells size s (Err r) = read_as s size image ≡ refusal r

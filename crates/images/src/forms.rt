@@ -1,7 +1,7 @@
 // The forms of a table: its image (specification 5.4) and its plain form (5.7). Both are read and written by one driver.
 
 ghost use Rattle.std.specs.Prelude.{◌≡◌, ◌≤◌};
-ghost use Rattle.images.specs.Forms.{image_form, plain_form, form_of};
+ghost use Rattle.images.specs.Forms.{image_form, plain_form, form_of, Narrow};
 ghost use Rattle.model.specs.Images.{most_size};
 
 use cells::layout::UNDEFINED;
@@ -38,6 +38,15 @@ pub struct Form {
     pub low: u8,
     pub mark: u8,
     pub head: u8,
+}
+
+// A form with the number of letters of the table that is in it. No field is wider than a byte.
+#[derive(Clone, Copy)]
+pub struct TableForm {
+    pub fields: Form,
+    pub size: u8,
+    ghost narrow: { Narrow fields },
+    ghost few: { size ≤ most_size },
 }
 
 // The image of a table of so many letters.

@@ -3,13 +3,12 @@
 ghost use Rattle.std.specs.Prelude.{◌≡◌, ◌+◌, ◌≤◌, ◌<◌, length};
 ghost use Rattle.cells.specs.Layout.{Letters, cell_length, cell_bytes};
 ghost use Rattle.cells.specs.Stands.{Blank};
-ghost use Rattle.images.specs.BitReader.{place, Reads};
 ghost use Rattle.images.specs.Forms.{Narrow, table_in};
 ghost use Rattle.images.specs.Tables.{WordDone, HeadDone, PairDone, RowDone, WeightsDone, RowsDone, LoadedAs, TableDone, SizeDone};
-ghost use Rattle.model.specs.Images.{most_size};
 
-use crate::bit_reader::{BitReader, Taken, TakenNumber, is_end, reader_at, take, take_number};
-use crate::forms::{Form, Kind, form_of};
+use crate::bit_reader::BitReader;
+use crate::fields::FieldFault;
+use crate::forms::{Form, Kind, TableForm, form_of};
 use cells::layout::{CELLS, UNDEFINED, cell_at, weight_at};
 use model::answers::Refusal;
 use model::plain::MOST_WEIGHT;
@@ -19,250 +18,149 @@ pub const MOST_SIZE: u8 = 16;
 
 pub const WORD_LENGTHS: u8 = 16;
 
-// The reader behind a part of a table, or why there is none.
-#[derive(Clone, Copy)]
-pub enum TablePart {
-    Next(BitReader),
-    Ends,
-    Wrong,
-}
-
-#[derive(Clone, Copy)]
-pub enum TableRead {
-    Table { size: u8 },
-    Refused(Refusal),
-}
-
 // A word, into a cell.
 pub fn read_word(
-    input: &[u8],
-    begin: BitReader,
-    form: Form,
-    size: u8,
+    reader: &mut BitReader,
+    form: TableForm,
     cells: &mut [u8],
     cell: usize,
-) -> TablePart
-    requires { Reads input.now begin × Narrow form × (size ≤ most_size) × (cell + cell_length ≤ length cells.old) }
+) -> Result<(), FieldFault>
+    requires { cell + cell_length ≤ length cells.old }
     ensures length { length cells.new ≡ length cells.old }
-    ensures word { WordDone input.now (place begin) form size cells.old cell cells.new result }
+    ensures word { WordDone reader.old form.fields form.size cells.old cell cells.new result reader.new }
 {
-    match take_number(input, begin, form.lengths, 0, WORD_LENGTHS) {
-        TakenNumber::Ends => TablePart::Ends,
-        TakenNumber::Wrong => TablePart::Wrong,
-        TakenNumber::Number {
-            number: first,
-            reader: behind,
-        } => {
-            cells[cell] = first;
-            let count = first as usize;
-            let mut reader = behind;
-            let mut k: usize = 0;
-            while k < count {
-                match take_number(input, reader, form.letters, form.low, size) {
-                    TakenNumber::Ends => return TablePart::Ends,
-                    TakenNumber::Wrong => return TablePart::Wrong,
-                    TakenNumber::Number {
-                        number,
-                        reader: after,
-                    } => {
-                        cells[cell + 1 + k] = number + 1;
-                        reader = after;
-                        k += 1;
-                    }
-                }
-            }
-            TablePart::Next(reader)
-        }
+    let count = reader.take_number(form.fields.lengths, 0, WORD_LENGTHS)?;
+    cells[cell] = count;
+    for k in 0..count as usize {
+        let number = reader.take_number(form.fields.letters, form.fields.low, form.size)?;
+        cells[cell + 1 + k] = number + 1;
     }
+    Ok(())
 }
 
-// What a pair begins with: the mark of an undefined one, or what stands before the words of any other; with the reader behind it.
+// What a pair begins with: the mark of an undefined one, or what stands before the words of any other.
 #[derive(Clone, Copy)]
 pub enum Head {
-    Undefined(BitReader),
-    Words(BitReader),
-    Ends,
+    Undefined,
+    Words,
 }
 
 // A plain form has nothing before the words: the length of the first is read as the mark, and then again as a length.
-pub fn read_head(input: &[u8], begin: BitReader, form: Form) -> Head
-    requires { Reads input.now begin × Narrow form }
-    ensures { HeadDone input.now (place begin) form result }
+pub fn read_head(reader: &mut BitReader, form: Form) -> Option<Head>
+    requires { Narrow form }
+    ensures { HeadDone reader.old form result reader.new }
 {
-    match take(input, begin, form.opens) {
-        Taken::Ends => Head::Ends,
-        Taken::Value {
-            value,
-            reader: behind,
-        } => {
-            if value == form.mark as u32 {
-                return Head::Undefined(behind);
-            }
-            if form.heads == 0 {
-                return Head::Words(begin);
-            }
-            Head::Words(behind)
-        }
+    let begin = reader.twin();
+    let value = reader.take(form.opens)?;
+    if value == form.mark as u32 {
+        return Some(Head::Undefined);
     }
+    if form.heads == 0 {
+        *reader = begin;
+    }
+    Some(Head::Words)
 }
 
 // A pair, into the cells of a, b and of b, a.
 pub fn read_pair(
-    input: &[u8],
-    begin: BitReader,
-    form: Form,
-    size: u8,
+    reader: &mut BitReader,
+    form: TableForm,
     cells: &mut [u8],
     a: u8,
     b: u8,
-) -> TablePart
-    requires { Reads input.now begin × Narrow form × (size ≤ most_size) × Letters a b × (a < b) × (length cells.old ≡ cell_bytes) }
+) -> Result<(), FieldFault>
+    requires { Letters a b × (a < b) × (length cells.old ≡ cell_bytes) }
     ensures length { length cells.new ≡ length cells.old }
-    ensures pair { PairDone input.now (place begin) form size cells.old a b cells.new result }
+    ensures pair { PairDone reader.old form.fields form.size cells.old a b cells.new result reader.new }
 {
     let there = cell_at(a, b);
     let back = cell_at(b, a);
-    match read_head(input, begin, form) {
-        Head::Ends => TablePart::Ends,
-        Head::Undefined(behind) => {
+    match read_head(reader, form.fields).ok_or(FieldFault::Ends)? {
+        Head::Undefined => {
             cells[there] = UNDEFINED;
             cells[back] = UNDEFINED;
-            TablePart::Next(behind)
+            Ok(())
         }
-        Head::Words(words) => {
-            match read_word(input, words, form, size, cells, there) {
-                TablePart::Ends => TablePart::Ends,
-                TablePart::Wrong => TablePart::Wrong,
-                TablePart::Next(next) => read_word(input, next, form, size, cells, back),
-            }
+        Head::Words => {
+            read_word(reader, form, cells, there)?;
+            read_word(reader, form, cells, back)
         }
     }
 }
 
 // The pairs of a letter with those after it, into their cells.
 pub fn read_row(
-    input: &[u8],
-    begin: BitReader,
-    form: Form,
-    size: u8,
+    reader: &mut BitReader,
+    form: TableForm,
     cells: &mut [u8],
     a: u8,
-) -> TablePart
-    requires { Reads input.now begin × Narrow form × (1 ≤ a) × (a ≤ size) × (size ≤ most_size) × (length cells.old ≡ cell_bytes) }
+) -> Result<(), FieldFault>
+    requires { (1 ≤ a) × (a ≤ form.size) × (length cells.old ≡ cell_bytes) }
     ensures length { length cells.new ≡ length cells.old }
-    ensures row { RowDone input.now (place begin) form size cells.old a cells.new result }
+    ensures row { RowDone reader.old form.fields form.size cells.old a cells.new result reader.new }
 {
-    let mut reader = begin;
-    let mut b = a + 1;
-    while b <= size {
-        match read_pair(input, reader, form, size, cells, a, b) {
-            TablePart::Ends => return TablePart::Ends,
-            TablePart::Wrong => return TablePart::Wrong,
-            TablePart::Next(after) => {
-                reader = after;
-                b += 1;
-            }
-        }
+    for b in a + 1..form.size + 1 {
+        read_pair(reader, form, cells, a, b)?;
     }
-    TablePart::Next(reader)
+    Ok(())
 }
 
 // The weights of the letters, each less 1, into their places.
 pub fn read_weights(
-    input: &[u8],
-    begin: BitReader,
-    form: Form,
-    size: u8,
+    reader: &mut BitReader,
+    form: TableForm,
     cells: &mut [u8],
-) -> TablePart
-    requires { Reads input.now begin × Narrow form × (size ≤ most_size) × (length cells.old ≡ cell_bytes) }
+) -> Result<(), FieldFault>
+    requires { length cells.old ≡ cell_bytes }
     ensures length { length cells.new ≡ length cells.old }
-    ensures weights { WeightsDone input.now (place begin) form size cells.old cells.new result }
+    ensures weights { WeightsDone reader.old form.fields form.size cells.old cells.new result reader.new }
 {
-    let mut reader = begin;
-    let mut a: u8 = 1;
-    while a <= size {
-        match take_number(input, reader, form.weights, form.low, MOST_WEIGHT) {
-            TakenNumber::Ends => return TablePart::Ends,
-            TakenNumber::Wrong => return TablePart::Wrong,
-            TakenNumber::Number {
-                number,
-                reader: after,
-            } => {
-                let place = weight_at(a);
-                cells[place] = number;
-                reader = after;
-                a += 1;
-            }
-        }
+    for a in 1..form.size + 1 {
+        let excess = reader.take_number(form.fields.weights, form.fields.low, MOST_WEIGHT)?;
+        let place = weight_at(a);
+        cells[place] = excess;
     }
-    TablePart::Next(reader)
+    Ok(())
 }
 
 // The pairs of a table whose weights were read, into their cells, and the end.
-pub fn read_rows(
-    input: &[u8],
-    begin: BitReader,
-    form: Form,
-    size: u8,
-    cells: &mut [u8],
-) -> TableRead
-    requires { Reads input.now begin × Narrow form × (1 ≤ size) × (size ≤ most_size) × Blank cells.old }
+pub fn read_rows(reader: &mut BitReader, form: TableForm, cells: &mut [u8]) -> Result<u8, Refusal>
+    requires { (1 ≤ form.size) × Blank cells.old }
     ensures length { length cells.new ≡ length cells.old }
-    ensures rows { RowsDone input.now (place begin) form size cells.old cells.new result }
+    ensures rows { RowsDone reader.old form.fields form.size cells.old cells.new result }
 {
-    let mut reader = begin;
-    let mut a: u8 = 1;
-    while a <= size {
-        match read_row(input, reader, form, size, cells, a) {
-            TablePart::Ends => return TableRead::Refused(Refusal::TableEnds),
-            TablePart::Wrong => return TableRead::Refused(Refusal::TableField),
-            TablePart::Next(after) => {
-                reader = after;
-                a += 1;
-            }
-        }
+    for a in 1..form.size + 1 {
+        read_row(reader, form, cells, a).map_err(FieldFault::table_refusal)?;
     }
-    if is_end(input, reader) {
-        TableRead::Table { size }
+    if reader.is_end() {
+        Ok(form.size)
     } else {
-        TableRead::Refused(Refusal::TableTail)
+        Err(Refusal::TableTail)
     }
 }
 
 // Refusal 1 or 2, whichever is come to first, then 3 (specification 5.3). After an answer the cells stand for the table.
-pub fn read_form(input: &[u8], kind: Kind, cells: &mut [u8]) -> TableRead
+pub fn read_form(input: &[u8], kind: Kind, cells: &mut [u8]) -> Result<u8, Refusal>
     requires { Blank cells.old }
     ensures length { length cells.new ≡ length cells.old }
     ensures table { LoadedAs (table_in kind input.now) cells.new result }
 {
     let least = form_of(kind, 1);
-    match take_number(
-        input,
-        reader_at(input, 0),
-        least.sizes,
-        least.low,
-        MOST_SIZE,
-    ) {
-        TakenNumber::Ends => TableRead::Refused(Refusal::TableEnds),
-        TakenNumber::Wrong => TableRead::Refused(Refusal::TableField),
-        TakenNumber::Number {
-            number,
-            reader: behind,
-        } => {
-            let size = number + 1;
-            let form = form_of(kind, size);
-            match read_weights(input, behind, form, size, cells) {
-                TablePart::Ends => TableRead::Refused(Refusal::TableEnds),
-                TablePart::Wrong => TableRead::Refused(Refusal::TableField),
-                TablePart::Next(next) => read_rows(input, next, form, size, cells),
-            }
-        }
-    }
+    let mut reader = BitReader::at(input, 0);
+    let number = reader
+        .take_number(least.sizes, least.low, MOST_SIZE)
+        .map_err(FieldFault::table_refusal)?;
+    let size = number + 1;
+    let form = TableForm {
+        fields: form_of(kind, size),
+        size,
+    };
+    read_weights(&mut reader, form, cells).map_err(FieldFault::table_refusal)?;
+    read_rows(&mut reader, form, cells)
 }
 
 // A table image.
-pub fn read_table(image: &[u8], cells: &mut [u8]) -> TableRead
+pub fn read_table(image: &[u8], cells: &mut [u8]) -> Result<u8, Refusal>
     requires { Blank cells.old }
     ensures length { length cells.new ≡ length cells.old }
     ensures table { TableDone image.now cells.new result }
@@ -271,7 +169,7 @@ pub fn read_table(image: &[u8], cells: &mut [u8]) -> TableRead
 }
 
 // The number of letters of a table image, or its refusal.
-pub fn table_size(image: &[u8]) -> TableRead
+pub fn table_size(image: &[u8]) -> Result<u8, Refusal>
     ensures { SizeDone image.now result }
 {
     let mut cells = [0u8; CELLS];

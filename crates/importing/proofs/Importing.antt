@@ -10,8 +10,8 @@ use lib.Seq.{take_at}
 use borrow.Author.Tests.{lt-ltb, le-ltb}
 use Rattle.model.specs.declared.answers.Refusal.{Refusal}
 use Rattle.model.specs.declared.answers.Refusal.TheVariants.{ImageField, AnswerShort, TooManyMoves}
-use Rattle.model.specs.declared.answers.Packed.TheVariants.{Written, Refused}
-use Rattle.model.specs.declared.answers.Packed.{Packed}
+use Rattle.std.specs.Prelude.{Ok, Err}
+use Rattle.std.specs.declared.result.Result.{Result}
 use Rattle.model.specs.Word.{Word, byte, letter}
 use Rattle.model.specs.Presentation.{Presentation}
 use Rattle.model.specs.Outcome.{Place, unplaced, Outcome, answered, refused, ◌>>=◌, unless, mapped}
@@ -23,12 +23,13 @@ use Rattle.model.specs.Stated.{refusal, packed_as}
 use Rattle.model.specs.Notation.{Pattern, most_nested, meaning, moves, highest, no_pattern, read_pattern, read_text, imported, import}
 use Rattle.model.proofs.Outcomes.{still_refused}
 use Rattle.theory.proofs.Notation.{notation_meaning}
+use Rattle.images.specs.Tables.{SizeOf}
 use Rattle.loading.proofs.Early.{Early, table_early}
 use Rattle.engine.specs.Gap.{letters}
 use Rattle.engine.proofs.Letters.{letter_forward, letter_back}
 use Rattle.importing.specs.declared.reading.Span.{Span}
 use Rattle.importing.specs.Reading.{capped, kept_pattern}
-use Rattle.importing.specs.Laying.{WordPut, PatternFits, PatternLaid}
+use Rattle.importing.specs.Laying.{WordPut, PatternLaid}
 use Rattle.importing.specs.Import.{TextOf, text_outcome, Answers, TextIs, Comes, ImportPromise}
 use Rattle.importing.proofs.Keeping.{Answered, kept_answered, kept_refused, capped_low, capped_high}
 
@@ -122,35 +123,50 @@ laid_begins a w b l =
     ∙ ap (λ x. begins x a) (sym (bytes_of l.bytes) ∙ ap (map byte) l.mean)
 
 module _ (text : List ℕ) (n : ℕ) (before : List ℕ) where
-  pub refused_text : (r : Refusal) → read_text text ≡ refusal r → Answers (text_outcome text n (length before)) before before (Refused r)
-  refused_text r e = refusing (ap (λ o. o >>= λ p. imported n p (length before)) e)
-    where
-      refusing : text_outcome text n (length before) ≡ refusal r → Answers (text_outcome text n (length before)) before before (Refused r)
-      refusing o = (ap (mapped length) (sym o), ap (λ o. output_after plain_program o before) (sym o))
-
   module _ (p : Pattern) (read : read_text text ≡ answered p) where
     outcome_is : (o : Outcome Word) → imported n p (length before) ≡ o → text_outcome text n (length before) ≡ o
     outcome_is o e = ap (λ q. q >>= λ p. imported n p (length before)) read ∙ e
 
-    pub refused_pattern : (r : Refusal) → imported n p (length before) ≡ refusal r → Answers (text_outcome text n (length before)) before before (Refused r)
+    pub refused_pattern : (r : Refusal) → imported n p (length before) ≡ refusal r → Answers (text_outcome text n (length before)) before before (Err r)
     refused_pattern r e = (ap (mapped length) (sym (outcome_is (refusal r) e)), ap (λ o. output_after plain_program o before) (sym (outcome_is (refusal r) e)))
 
     pub written_pattern : (after : List ℕ) (k : ℕ) → imported n p (length before) ≡ answered (meaning p) → k ≡ moves p → WordPut before 0 (meaning p) after
-        → Answers (text_outcome text n (length before)) before after (Written k)
+        → Answers (text_outcome text n (length before)) before after (Ok k)
     written_pattern after k e c lays = (
       ap answered (c ∙ sym (notation_meaning.counted p)) ∙ ap (mapped length) (sym (outcome_is (answered (meaning p)) e)),
       laid_begins before (meaning p) after lays ∙ ap (λ o. output_after plain_program o before) (sym (outcome_is (answered (meaning p)) e)),
     )
 
--- the pattern's moves have room, and are laid out
-pub text_fits : (text : List ℕ) (s : Span) (t : TextOf text s) (room : ℕ) → moves t.pattern ≤ most_letters → moves t.pattern ≤ room
-    → PatternFits (read_pattern most_nested text) 0 room
-text_fits text s t room few inside = subst (λ o. PatternFits o 0 room) (sym t.pattern_read) (few, omega (arith, inside))
+-- a text that was read, by the three tests of its numbers in their order
+module _ (text : List ℕ) (n : ℕ) (before : List ℕ) (s : Span) (t : TextOf text s) where
+  abbrev p : Pattern
+  p = t.pattern
 
-pub text_laid : (text : List ℕ) (s : Span) (t : TextOf text s) (before after : List ℕ) (end : ℕ)
-    → PatternLaid (read_pattern most_nested text) before 0 after end
-    → WordPut before 0 (meaning t.pattern) after
-text_laid text s t before after end laid = (subst (λ o. PatternLaid o before 0 after end) t.pattern_read laid).0
+  answers_refused : (r : Refusal) → imported n p (length before) ≡ refusal r → Answers (text_outcome text n (length before)) before before (Err r)
+  answers_refused = refused_pattern text n before p t.read
+
+  pub answers_above : n < s.highest → Answers (text_outcome text n (length before)) before before (Err ImageField)
+  answers_above h = answers_refused ImageField (move_above n p (length before) (omega (arith, h, t.highest_is)))
+
+  module _ (low : s.highest ≤ n) where
+    low_highest : highest p ≤ n
+    low_highest = omega (arith, low, t.highest_is)
+
+    pub answers_too_many : most_letters < s.moves → Answers (text_outcome text n (length before)) before before (Err TooManyMoves)
+    answers_too_many h = answers_refused TooManyMoves (too_many n p (length before) low_highest (capped_above (moves p) (omega (arith, h, t.moves_is))))
+
+    module _ (few : s.moves ≤ most_letters) where
+      exact : s.moves ≡ moves p
+      exact = t.moves_is ∙ capped_exact (moves p) (omega (arith, few, t.moves_is))
+
+      pub answers_short : length before < s.moves → Answers (text_outcome text n (length before)) before before (Err AnswerShort)
+      answers_short h = answers_refused AnswerShort (too_short n p (length before) low_highest (omega (arith, few, exact)) (omega (arith, h, exact)))
+
+      pub answers_laid : s.moves ≤ length before → (after : List ℕ) (end : ℕ) → PatternLaid (read_pattern most_nested text) before 0 after end
+          → Answers (text_outcome text n (length before)) before after (Ok s.moves)
+      answers_laid h after end laid =
+          written_pattern text n before p t.read after s.moves (laid_out n p (length before) low_highest (omega (arith, few, exact)) (omega (arith, h, exact)))
+          exact (subst (λ o. PatternLaid o before 0 after end) t.pattern_read laid).0
 
 -- THE SERVICE
 
@@ -158,16 +174,16 @@ module _ (table text : List ℕ) (area : ℕ) where
   unfoldable outcome : Presentation → Outcome Word
   outcome T = text_outcome text T.size area
 
-  pub no_table : (q : Refusal) → read_table table ≡ refusal q → import table text area ≡ refusal q
+  no_table : (q : Refusal) → read_table table ≡ refusal q → import table text area ≡ refusal q
   unfolding import outcome
   no_table q e = still_refused (read_table table) q e outcome
 
-  pub with_table : (T : Presentation) (size : ℕ) → read_table table ≡ answered T → T.size ≡ size → import table text area ≡ text_outcome text size area
+  with_table : (T : Presentation) (size : ℕ) → read_table table ≡ answered T → T.size ≡ size → import table text area ≡ text_outcome text size area
   unfolding import outcome
   with_table T size e s = ap (λ o. o >>= outcome) e ∙ ap (λ n. text_outcome text n area) s
 
 -- the promise of the service, from its outcome
-module _ (table text before after : List ℕ) (r : Packed) (a : Answers (import table text (length before)) before after r) where
+module _ (table text before after : List ℕ) (r : Result ℕ Refusal) (a : Answers (import table text (length before)) before after r) where
   abbrev Come : Outcome ℕ → Type 0
   Come = Comes table text after
 
@@ -234,7 +250,7 @@ module _ (table text before after : List ℕ) (r : Packed) (a : Answers (import 
   from_table (answered T) e = from_text T e (read_text text) refl
   from_table (refused n place) e = by_table n place e
 
-  pub promised : ImportPromise table text before after (packed_as r)
+  promised : ImportPromise table text before after (packed_as r)
   promised = record {
     stated = a.0;
     answer_is = a.1;
@@ -245,3 +261,16 @@ module _ (table text before after : List ℕ) (r : Packed) (a : Answers (import 
           notation = notation_meaning;
         };
   }
+
+-- .. of a table that is not read, and of a text under one that is
+module _ (table text before : List ℕ) where
+  pub promised_refused : (q : Refusal) → read_table table ≡ refusal q → ImportPromise table text before before (refusal q)
+  promised_refused q e =
+      let o = no_table table text (length before) q e in
+      promised table text before before (Err q) (ap (mapped length) (sym o), ap (λ o. output_after plain_program o before) (sym o))
+
+  pub promised_text : (size : ℕ) → SizeOf table size → (after : List ℕ) (r : Result ℕ Refusal) → Answers (text_outcome text size (length before)) before after r
+      → ImportPromise table text before after (packed_as r)
+  promised_text size t after r a =
+      promised table text before after r
+      (subst (λ o. Answers o before after r) (sym (with_table table text (length before) t.table size t.read t.size_is)) a)

@@ -7,14 +7,15 @@ use native.Mathlib.Nat.{pos_of_ne-zero}
 use native.Mathlib.Numerals.{sub-one}
 use native.Mathlib.Omega.{arith}
 use lib.ListN.{length, drop}
+use lib.Seq.{drop-drop}
 use Rattle.model.specs.Outcome.{Outcome, answered, ◌>>=◌}
 use Rattle.model.specs.Bits.{Read}
 use Rattle.model.specs.Notation.{larger, Item, item_moves, item_highest, space_byte, opening_byte, no_pattern, read_minus, read_move, read_body, read_item}
 use Rattle.model.specs.Notation.{read_on}
 use Rattle.model.specs.Notation.{read_pattern}
-use Rattle.importing.specs.Reading.{stands_first, ends_first, capped, Kept, kept_body, kept_item, kept_pattern, closing, counting, within}
+use Rattle.importing.specs.declared.reading.Span.{Span}
+use Rattle.importing.specs.Reading.{stands_first, ends_first, capped, Kept, kept, kept_body, kept_item, kept_pattern, closing, counting, Joined, within}
 use Rattle.model.proofs.Impossible.{impossible}
-use Rattle.importing.proofs.Texts.{tail_at}
 use Rattle.importing.proofs.Readers.{body_bracket, body_move, on_space, on_end, all_items, in_nothing, in_items, pattern_in}
 use Rattle.importing.proofs.Shorter.{Leaves, item_shortens, within_shortens, all_step}
 use Rattle.importing.proofs.Keeping.{bracket_kept, item_kept, onto, onto_nothing, onto_last, onto_more, Answered, kept_answered, kept_refused}
@@ -40,7 +41,7 @@ module _ (text : List ℕ) (at start depth : ℕ) (begins : drop start text ≡ 
     item_opens =
         item_from ∙ ap (λ o. counting (kept_body o)) (body_bracket (within depth) (drop start text) opens)
         ∙ ap counting (bracket_kept (within depth (drop 1 (drop start text))))
-        ∙ ap (λ t. counting (closing (kept_pattern (within depth t)))) (tail_at text start)
+        ∙ ap (λ t. counting (closing (kept_pattern (within depth t)))) (drop-drop 1 start text)
 
     pub item_too_deep : depth ≡ 0 → kept_item (read_item (within depth) (drop at text)) ≡ no_pattern
     item_too_deep none = item_opens ∙ ap (λ d. counting (closing (kept_pattern (within d (drop (start + 1) text))))) none
@@ -74,7 +75,7 @@ module _ (depth : ℕ) (t : List ℕ) where
     read : Answered item_moves item_highest (read_item (within depth) t) k
     read = kept_answered item_moves item_highest (read_item (within depth) t) k e
 
-    pub items_last : (m h : ℕ) → stands_first space_byte k.rest ≡ false
+    items_last : (m h : ℕ) → stands_first space_byte k.rest ≡ false
         → onto m h (kept_pattern (all_items (within depth) t)) ≡ answered
         (record { moves = capped (m + k.moves); highest = larger h k.highest; rest = k.rest })
     items_last m h s =
@@ -84,7 +85,7 @@ module _ (depth : ℕ) (t : List ℕ) where
         ∙ ap (λ n. answered (record { moves = capped (m + n); highest = larger h (item_highest read.value); rest = k.rest })) (sym read.moves_is)
         ∙ ap (λ n. answered (record { moves = capped (m + k.moves); highest = larger h n; rest = k.rest })) (sym read.highest_is)
 
-    pub items_more : (m h : ℕ) → stands_first space_byte k.rest ≡ true
+    items_more : (m h : ℕ) → stands_first space_byte k.rest ≡ true
         → onto m h (kept_pattern (all_items (within depth) t)) ≡ onto (capped (m + k.moves)) (larger h k.highest)
         (kept_pattern (all_items (within depth) (drop 1 k.rest)))
     items_more m h s =
@@ -96,9 +97,44 @@ module _ (depth : ℕ) (t : List ℕ) where
         ∙ ap (λ n. onto (capped (m + k.moves)) (larger h n) (kept_pattern (all_items (within depth) (drop 1 k.rest)))) (sym read.highest_is)
 
     -- less text is left behind the item and the space
-    pub items_shorter : stands_first space_byte k.rest ≡ true → length (drop 1 k.rest) < length t
+    items_shorter : stands_first space_byte k.rest ≡ true → length (drop 1 k.rest) < length t
     items_shorter s = fewer k.rest s (subst (Leaves (length t)) read.read (item_shortens (within depth) (within_shortens depth) t))
       where
         fewer : (r : List ℕ) → stands_first space_byte r ≡ true → length r ≤ length t → length (drop 1 r) < length t
         fewer [] e h = impossible (cc)
         fewer (x ∷ xs) e h = omega (arith, h)
+
+-- what was read so far, in the loop of the pattern reader, and an item more
+module _ (text : List ℕ) (depth : ℕ) (sum item both : Span) (j : Joined sum item both)
+    (e : answered (kept text item) ≡ kept_item (read_item (within depth) (drop sum.next text))) where
+  rest_is : drop both.next text ≡ drop item.next text
+  rest_is = ap (λ k. drop k text) j.next
+
+  -- no space stands after it
+  pub joined_last : stands_first space_byte (drop both.next text) ≡ false
+      → onto sum.moves sum.highest (kept_pattern (all_items (within depth) (drop sum.next text))) ≡ answered (kept text both)
+  joined_last s =
+      items_last depth (drop sum.next text) (kept text item) e sum.moves sum.highest (ap (stands_first space_byte) (sym rest_is) ∙ s)
+      ∙ ap (λ n. answered (record { moves = n; highest = larger sum.highest item.highest; rest = drop item.next text })) (sym j.moves)
+      ∙ ap (λ n. answered (record { moves = both.moves; highest = n; rest = drop item.next text })) (sym j.highest)
+      ∙ ap (λ r. answered (record { moves = both.moves; highest = both.highest; rest = r })) (sym rest_is)
+
+  -- a space does, and the text goes on after it
+  module _ (s : stands_first space_byte (drop both.next text) ≡ true) where
+    space_is : stands_first space_byte (drop item.next text) ≡ true
+    space_is = ap (stands_first space_byte) (sym rest_is) ∙ s
+
+    goes_on : drop (both.next + 1) text ≡ drop 1 (drop item.next text)
+    goes_on = sym (drop-drop 1 both.next text) ∙ ap (drop 1) rest_is
+
+    pub joined_more : onto sum.moves sum.highest (kept_pattern (all_items (within depth) (drop sum.next text)))
+        ≡ onto both.moves both.highest (kept_pattern (all_items (within depth) (drop (both.next + 1) text)))
+    joined_more =
+        items_more depth (drop sum.next text) (kept text item) e sum.moves sum.highest space_is
+        ∙ ap (λ n. onto n (larger sum.highest item.highest) (kept_pattern (all_items (within depth) (drop 1 (drop item.next text))))) (sym j.moves)
+        ∙ ap (λ n. onto both.moves n (kept_pattern (all_items (within depth) (drop 1 (drop item.next text))))) (sym j.highest)
+        ∙ ap (λ r. onto both.moves both.highest (kept_pattern (all_items (within depth) r))) (sym goes_on)
+
+    pub joined_shorter : length (drop (both.next + 1) text) < length (drop sum.next text)
+    joined_shorter =
+        subst (λ r. length r < length (drop sum.next text)) (sym goes_on) (items_shorter depth (drop sum.next text) (kept text item) e space_is)

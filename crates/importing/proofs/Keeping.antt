@@ -9,17 +9,17 @@ use native.Mathlib.Nat.{one-mul, zero-mul, suc-mul, zero-add, add-zero}
 use native.Mathlib.Omega.{arith}
 use lib.Dec.{ltb, eqb}
 use lib.ListN.{drop}
-use borrow.Author.Tests.{ltb-true, ltb-false, eq-eqb, ne_eqb}
-use Rattle.model.specs.Outcome.{Outcome, answered, refused, ◌>>=◌, unless, mapped}
+use borrow.Author.Tests.{ltb-true, ltb-false}
+use Rattle.model.specs.Outcome.{Outcome, answered, refused, ◌>>=◌, mapped}
 use Rattle.model.specs.Bits.{Read}
-use Rattle.model.specs.Notation.{Pattern, nothing, ◌then◌, Item, item, Body, move, bracket, times, moves, item_moves, body_moves, larger, highest, item_highest}
-use Rattle.model.specs.Notation.{body_highest, closing_byte, count_byte, no_pattern, read_number, read_minus, read_count, read_move, read_close, read_body}
+use Rattle.model.specs.Notation.{Pattern, nothing, ◌then◌, Item, item, Body, bracket, times, moves, item_moves, body_moves, larger, highest, item_highest}
+use Rattle.model.specs.Notation.{body_highest, closing_byte, count_byte, no_pattern, read_number, read_minus, read_count, read_close, read_body}
 use Rattle.model.specs.Notation.{read_item}
 use Rattle.model.proofs.Impossible.{impossible}
 use Rattle.model.proofs.Numbers.{below_or}
 use Rattle.model.specs.Plain.{most_letters}
 use Rattle.importing.specs.Reading.{capped, Kept, kept_of, kept_body, kept_item, kept_pattern, closed, closing, times_kept, counted, counting, stands_first}
-use Rattle.importing.proofs.Readers.{with_count, count_there, count_none, close_after, before}
+use Rattle.importing.proofs.Readers.{with_count, count_there, close_after, before}
 
 -- NUMBERS OF MOVES
 
@@ -217,18 +217,12 @@ kept_refused moves_of highest_of (answered r) e = impossible (cc)
 
 -- A BODY'S END AND ITS COUNT
 
-pub closed_not : (k : Kept) → stands_first closing_byte k.rest ≡ false → closed k ≡ no_pattern
-closed_not k e = ap (λ b. cond b (answered (record { moves = k.moves; highest = k.highest; rest = drop 1 k.rest })) no_pattern) e
-
 pub closed_there : (k : Kept) → stands_first closing_byte k.rest ≡ true
     → closed k ≡ answered (record { moves = k.moves; highest = k.highest; rest = drop 1 k.rest })
 closed_there k e = ap (λ b. cond b (answered (record { moves = k.moves; highest = k.highest; rest = drop 1 k.rest })) no_pattern) e
 
 abbrev multiplied : Kept → Read (Option ℕ) → Outcome Kept
 multiplied k c = answered (record { moves = times_kept c.value k.moves; highest = k.highest; rest = c.rest })
-
-pub count_absent : (k : Kept) → stands_first count_byte k.rest ≡ false → counted k ≡ answered k
-count_absent k e = ap (λ o. o >>= multiplied k) (count_none k.rest e)
 
 pub count_present : (k : Kept) → stands_first count_byte k.rest ≡ true → (o : Outcome (Read ℕ)) → o ≡ read_number (drop 1 k.rest)
     → counted k ≡ (o >>= λ c. answered (record { moves = capped (c.value * k.moves); highest = k.highest; rest = c.rest }))
@@ -238,18 +232,3 @@ count_present k e o same = number o (count_there k.rest e ∙ ap (λ n. n >>= wi
         → counted k ≡ (n >>= λ c. answered (record { moves = capped (c.value * k.moves); highest = k.highest; rest = c.rest }))
     number (refused m place) p = ap (λ o. o >>= multiplied k) p
     number (answered c) p = ap (λ o. o >>= multiplied k) p
-
--- A MOVE
-
-abbrev to_move : Read ℕ → Outcome (Read Body)
-to_move a = unless (eqb a.value 0) 19 (record { value = move a.value; rest = a.rest })
-
-pub move_zero : (t rest : List ℕ) (a : ℕ) → answered (record { value = a; rest = rest }) ≡ read_number t → a ≡ 0 → read_move t ≡ no_pattern
-move_zero t rest a e z = ap (λ o. o >>= to_move) (sym e) ∙ ap (λ b. unless b 19 (record { value = move a; rest = rest })) (eq-eqb a 0 z)
-
-pub move_some : (t rest : List ℕ) (a : ℕ) → answered (record { value = a; rest = rest }) ≡ read_number t → (a ≡ 0 → ⊥)
-    → read_move t ≡ answered (record { value = move a; rest = rest })
-move_some t rest a e z = ap (λ o. o >>= to_move) (sym e) ∙ ap (λ b. unless b 19 (record { value = move a; rest = rest })) (ne_eqb a 0 z)
-
-pub move_none : (t : List ℕ) → no_pattern ≡ read_number t → read_move t ≡ no_pattern
-move_none t e = ap (λ o. o >>= to_move) (sym e)

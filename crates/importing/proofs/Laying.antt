@@ -288,6 +288,3 @@ module _ (a : List ℕ) (from count end : ℕ) (r : Repeatable from count end (l
     finished_undone k e =
         subst (λ m. WordPut a from (undone m (repeated k (letters (take count (drop from a))))) after) (sym on)
         (put_undone a from count end body_inside r.inside k e mid part after (repeats k e) inverted put)
-
-    pub undone_kept : length after ≡ length a
-    undone_kept = put_kept a from (undone minus (repeated r.times (letters (take count (drop from a))))) after (finished_undone r.times r.ends)

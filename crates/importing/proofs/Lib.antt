@@ -1,4 +1,3 @@
-pub mod Texts
 pub mod Readers
 pub mod Shorter
 pub mod Keeping

@@ -1,48 +1,16 @@
 -- The model's readers, by the first byte of the text.
-use mathlib.Core.Path.{◌≡◌, refl, ap, ◌∙◌}
+use mathlib.Core.Path.{◌≡◌, refl, ap}
 use mathlib.Core.List.{List, [], ◌∷◌}
 use mathlib.Core.Bool.{true, false, cond}
 use mathlib.Core.Option.{Option, none, some}
-use Prim.Native.Nat.{ℕ, zero, suc, ◌+◌, ◌-◌, ◌*◌}
-use lib.Dec.{eqb}
+use Prim.Native.Nat.{ℕ, zero, suc}
 use lib.ListN.{length, drop}
 use Rattle.model.specs.Outcome.{Outcome, answered, ◌>>=◌}
 use Rattle.model.specs.Bits.{Read}
-use Rattle.model.specs.Notation.{Pattern, nothing, ◌then◌, Item, Body, space_byte, opening_byte, minus_byte, zero_byte, count_byte, no_pattern, is_digit}
-use Rattle.model.specs.Notation.{second_digit}
+use Rattle.model.specs.Notation.{Pattern, nothing, ◌then◌, Item, Body, space_byte, opening_byte, minus_byte, count_byte}
 use Rattle.model.specs.Notation.{read_number, read_minus, read_count, read_move, read_close, read_body, read_on, read_items, read_in, read_pattern}
 use Rattle.model.proofs.Impossible.{impossible}
-use Rattle.importing.specs.Reading.{stands_first, digit_first, ends_first, within}
-
--- NUMBERS
-
-pub number_none : (t : List ℕ) → digit_first t ≡ false → read_number t ≡ no_pattern
-number_none [] e = refl
-number_none (x ∷ xs) e = ap (λ b. cond b (answered (cond (eqb x zero_byte) (record { value = 0; rest = xs }) (second_digit (x - zero_byte) xs))) no_pattern) e
-
-module _ (x : ℕ) (xs : List ℕ) (digit : is_digit x ≡ true) where
-  number_digit : read_number (x ∷ xs) ≡ answered (cond (eqb x zero_byte) (record { value = 0; rest = xs }) (second_digit (x - zero_byte) xs))
-  number_digit = ap (λ b. cond b (answered (cond (eqb x zero_byte) (record { value = 0; rest = xs }) (second_digit (x - zero_byte) xs))) no_pattern) digit
-
-  pub number_zero : eqb x zero_byte ≡ true → read_number (x ∷ xs) ≡ answered (record { value = 0; rest = xs })
-  number_zero z = number_digit ∙ ap (λ b. answered (cond b (record { value = 0; rest = xs }) (second_digit (x - zero_byte) xs))) z
-
-  number_more : eqb x zero_byte ≡ false → read_number (x ∷ xs) ≡ answered (second_digit (x - zero_byte) xs)
-  number_more z = number_digit ∙ ap (λ b. answered (cond b (record { value = 0; rest = xs }) (second_digit (x - zero_byte) xs))) z
-
-  pub number_one : eqb x zero_byte ≡ false → digit_first xs ≡ false → read_number (x ∷ xs) ≡ answered (record { value = x - zero_byte; rest = xs })
-  number_one z e = number_more z ∙ ap answered (second_none xs e)
-    where
-      second_none : (ys : List ℕ) → digit_first ys ≡ false → second_digit (x - zero_byte) ys ≡ record { value = x - zero_byte; rest = ys }
-      second_none [] e = refl
-      second_none (y ∷ ys) e =
-          ap (λ b. cond b (record { value = 10 * (x - zero_byte) + (y - zero_byte); rest = ys }) (record { value = x - zero_byte; rest = y ∷ ys })) e
-
-pub number_two : (x y : ℕ) (ys : List ℕ) → is_digit x ≡ true → eqb x zero_byte ≡ false → is_digit y ≡ true
-    → read_number (x ∷ y ∷ ys) ≡ answered (record { value = 10 * (x - zero_byte) + (y - zero_byte); rest = ys })
-number_two x y ys digit z e =
-    number_more x (y ∷ ys) digit z
-    ∙ ap (λ b. answered (cond b (record { value = 10 * (x - zero_byte) + (y - zero_byte); rest = ys }) (record { value = x - zero_byte; rest = y ∷ ys }))) e
+use Rattle.importing.specs.Reading.{stands_first, ends_first, within}
 
 -- THE PARTS OF AN ITEM
 
@@ -60,10 +28,6 @@ with_count k = answered (record { value = some k.value; rest = k.rest })
 pub count_there : (t : List ℕ) → stands_first count_byte t ≡ true → read_count t ≡ (read_number (drop 1 t) >>= with_count)
 count_there [] e = impossible (cc)
 count_there (x ∷ xs) e = ap (λ b. cond b (read_number xs >>= with_count) (answered (record { value = none; rest = x ∷ xs }))) e
-
-pub count_none : (t : List ℕ) → stands_first count_byte t ≡ false → read_count t ≡ answered (record { value = none; rest = t })
-count_none [] e = refl
-count_none (x ∷ xs) e = ap (λ b. cond b (read_number xs >>= with_count) (answered (record { value = none; rest = x ∷ xs }))) e
 
 abbrev pub close_after : Read Pattern → Outcome (Read Body)
 close_after p = read_close p.value p.rest

@@ -6,6 +6,7 @@ use Prim.Native.Nat.{ℕ, ◌+◌, ◌≤◌, ◌<◌}
 use native.Mathlib.Omega.{arith}
 use lib.Dec.{eqb}
 use lib.ListN.{length, drop, length-append}
+use lib.Seq.{drop-drop}
 use Rattle.model.specs.Word.{Word}
 use Rattle.model.specs.Outcome.{Outcome, answered, refused, ◌>>=◌}
 use Rattle.model.specs.Bits.{Read}
@@ -16,7 +17,6 @@ use Rattle.model.specs.Plain.{most_letters}
 use Rattle.importing.specs.declared.writing.Laid.{Laid}
 use Rattle.importing.specs.Reading.{stands_first, ends_first, within}
 use Rattle.importing.specs.Laying.{WordPut, ItemFits, ItemLaid, PatternFits, PatternLaid}
-use Rattle.importing.proofs.Texts.{tail_at}
 use Rattle.importing.proofs.Readers.{before, on_space, on_end, all_items, in_nothing, in_items, pattern_in}
 use Rattle.importing.proofs.Shorter.{Leaves, item_shortens, within_shortens, all_step}
 use Rattle.importing.proofs.Laying.{put_nothing, put_kept, put_append}
@@ -210,7 +210,7 @@ module _ (text : List ℕ) (at depth from : ℕ) (first area : List ℕ) (laid :
       more = more_items (within depth) next.first.value next.first.rest u.left (ap (stands_first space_byte) (sym told.1) ∙ s) next.after
 
       goes_on : drop (then_laid.next + 1) text ≡ drop 1 next.first.rest
-      goes_on = sym (tail_at text then_laid.next) ∙ ap (drop 1) told.1
+      goes_on = sym (drop-drop 1 then_laid.next text) ∙ ap (drop 1) told.1
 
       pub further : Underway text at depth from first then_area (record { next = then_laid.next + 1; end = then_laid.end })
       further = record {

@@ -8,6 +8,7 @@ use native.Mathlib.Nat.{zero-mul, mul-zero, suc-mul}
 use native.Mathlib.Omega.{arith}
 use lib.Dec.{leb, eqb}
 use lib.ListN.{length, take, drop, set}
+use lib.Seq.{drop-drop}
 use borrow.Author.Tests.{leb-true}
 use Rattle.model.specs.Word.{forward, Word}
 use Rattle.model.specs.Outcome.{Outcome, answered, refused, ◌>>=◌, unless}
@@ -23,7 +24,6 @@ use Rattle.model.specs.Plain.{most_letters}
 use Rattle.importing.specs.declared.writing.Laid.{Laid}
 use Rattle.importing.specs.Reading.{stands_first, Kept, kept_item, within}
 use Rattle.importing.specs.Laying.{WordPut, Repeatable, Finishes, ItemFits, ItemLaid, BodyFits, BodyLaid, PatternFits, PatternLaid}
-use Rattle.importing.proofs.Texts.{tail_at}
 use Rattle.importing.proofs.Readers.{close_after, body_bracket, body_move, minus_there, minus_none}
 use Rattle.importing.proofs.Keeping.{Answered, kept_answered, capped_low}
 use Rattle.importing.proofs.Items.{within_less}
@@ -160,7 +160,7 @@ module _ (text : List ℕ) (at depth number from : ℕ) (a : List ℕ) (fits : B
     held = body_held (within depth) (drop at text) the_body.body opens the_body.read
 
     held_read : within depth (drop (at + 1) text) ≡ answered held.pattern
-    held_read = ap (within depth) (sym (tail_at text at)) ∙ held.inner_read
+    held_read = ap (within depth) (sym (drop-drop 1 at text)) ∙ held.inner_read
 
     pub deep : depth ≡ 0 → ⊥
     deep none = not_read (ap (λ d. within d (drop (at + 1) text)) (sym none) ∙ held_read)

@@ -1,6 +1,7 @@
 -- What reading a whole text gives, what import does with it, and what its answer says.
-use Rattle.std.specs.Prelude.{List, ◌≡◌, ℕ, ◌≤◌, ◌<◌, length, take}
-use Rattle.model.specs.declared.answers.Packed.{Packed}
+use Rattle.std.specs.Prelude.{List, ◌≡◌, ℕ, ◌≤◌, ◌<◌, length, take, Option, Some, None}
+use Rattle.std.specs.declared.result.Result.{Result}
+use Rattle.model.specs.declared.answers.Refusal.{Refusal}
 use Rattle.model.specs.Word.{Word}
 use Rattle.model.specs.Presentation.{Presentation}
 use Rattle.model.specs.Outcome.{Place, unplaced, Outcome, answered, refused, ◌>>=◌, mapped}
@@ -12,8 +13,6 @@ use Rattle.model.specs.Notation.{Pattern, most_nested, PatternInRange, meaning, 
 use Rattle.model.specs.Notation.{import}
 use Rattle.theory.specs.Notation.{NotationMeaning}
 use Rattle.importing.specs.declared.reading.Span.{Span}
-use Rattle.importing.specs.declared.reading.Reading.{Reading}
-use Rattle.importing.specs.declared.reading.Reading.TheVariants.{Read as SpanRead, NotPattern}
 use Rattle.importing.specs.Reading.{capped}
 
 -- the pattern that a text is, by the reader of patterns too
@@ -25,19 +24,19 @@ pub record TextOf (text : List ℕ) (s : Span) : Type 0 where
   pub moves_is : s.moves ≡ capped (moves pattern)
   pub highest_is : s.highest ≡ highest pattern
 
-abbrev pub TextDone : List ℕ → Reading → Type 0
-TextDone text (SpanRead s) = TextOf text s
-TextDone text NotPattern = read_text text ≡ no_pattern
+abbrev pub TextDone : List ℕ → Option Span → Type 0
+TextDone text (Some s) = TextOf text s
+TextDone text None = read_text text ≡ no_pattern
 
 -- the outcome for a text under a table of n letters
 abbrev pub text_outcome : List ℕ → ℕ → ℕ → Outcome Word
 text_outcome text n area = read_text text >>= λ p. imported n p area
 
 -- the result and the answer area are those of an outcome
-abbrev pub Answers : Outcome Word → List ℕ → List ℕ → Packed → Type 0
+abbrev pub Answers : Outcome Word → List ℕ → List ℕ → Result ℕ Refusal → Type 0
 Answers outcome before after r = (packed_as r ≡ mapped length outcome) × (after ≡ output_after plain_program outcome before)
 
-abbrev pub TextAnswered : List ℕ → ℕ → List ℕ → List ℕ → Packed → Type 0
+abbrev pub TextAnswered : List ℕ → ℕ → List ℕ → List ℕ → Result ℕ Refusal → Type 0
 TextAnswered text n before after r = Answers (text_outcome text n (length before)) before after r
 
 -- the text is that of p, a pattern in range

@@ -1,17 +1,14 @@
 -- What the readers keep of what they read: how many moves it means, the highest number in it, and the text after it.
-use Rattle.std.specs.Prelude.{List, [], ◌∷◌, Bool, true, false, cond, ◌≡◌, ℕ, zero, suc, ◌+◌, ◌*◌, ltb, eqb, drop}
-use Rattle.std.proofs.Math.Option.{Option, none, some}
+use Rattle.std.specs.Prelude.{List, [], ◌∷◌, Bool, true, false, cond, ◌≡◌, ℕ, zero, suc, ◌+◌, ◌*◌, ltb, eqb, drop, Option, Some, None}
+use Rattle.std.proofs.Math.Option.{Option as Maybe, none, some}
 use Rattle.model.specs.Outcome.{Outcome, answered, ◌>>=◌, mapped}
 use Rattle.model.specs.Bits.{Read}
 use Rattle.model.specs.Plain.{most_letters}
 use Rattle.model.specs.Notation.{Pattern, Item, Body, moves, item_moves, body_moves, larger, highest, item_highest, body_highest, closing_byte, no_pattern}
 use Rattle.model.specs.Notation.{is_digit}
 use Rattle.model.specs.Notation.{read_count, read_pattern}
-use Rattle.importing.specs.declared.numbers.NumberRead.{NumberRead}
-use Rattle.importing.specs.declared.numbers.NumberRead.TheVariants.{Number, NotNumber}
+use Rattle.importing.specs.declared.numbers.Number.{Number}
 use Rattle.importing.specs.declared.reading.Span.{Span}
-use Rattle.importing.specs.declared.reading.Reading.{Reading}
-use Rattle.importing.specs.declared.reading.Reading.TheVariants.{Read as SpanRead, NotPattern}
 
 -- what a test says of a text's first byte, or `empty` where there is no byte
 abbrev pub first : (ℕ → Bool) → Bool → List ℕ → Bool
@@ -29,9 +26,9 @@ abbrev pub ends_first : List ℕ → Bool
 ends_first = first (λ x. eqb x closing_byte) true
 
 -- a number that was read
-abbrev pub number_stated : List ℕ → NumberRead → Outcome (Read ℕ)
-number_stated text (Number value next) = answered (record { value = value; rest = drop next text })
-number_stated text NotNumber = no_pattern
+abbrev pub number_stated : List ℕ → Option Number → Outcome (Read ℕ)
+number_stated text (Some number) = answered (record { value = number.value; rest = drop number.next text })
+number_stated text None = no_pattern
 
 -- a number of moves, not counted on once it is more than a program has
 abbrev pub capped : ℕ → ℕ
@@ -55,9 +52,12 @@ abbrev pub kept_pattern : Outcome (Read Pattern) → Outcome Kept
 kept_pattern = kept_of moves highest
 
 -- what the code says of a reading
-abbrev pub spanned : List ℕ → Reading → Outcome Kept
-spanned text (SpanRead s) = answered (record { moves = s.moves; highest = s.highest; rest = drop s.next text })
-spanned text NotPattern = no_pattern
+abbrev pub kept : List ℕ → Span → Kept
+kept text s = record { moves = s.moves; highest = s.highest; rest = drop s.next text }
+
+abbrev pub spanned : List ℕ → Option Span → Outcome Kept
+spanned text (Some s) = answered (kept text s)
+spanned text None = no_pattern
 
 -- a bracket whose pattern was read closes
 abbrev pub closed : Kept → Outcome Kept
@@ -67,7 +67,7 @@ abbrev pub closing : Outcome Kept → Outcome Kept
 closing o = o >>= closed
 
 -- a body that was read, with its count
-abbrev pub times_kept : Option ℕ → ℕ → ℕ
+abbrev pub times_kept : Maybe ℕ → ℕ → ℕ
 times_kept none m = m
 times_kept (some c) m = capped (c * m)
 

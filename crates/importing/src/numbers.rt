@@ -3,36 +3,28 @@ ghost use Rattle.std.specs.Prelude.{◌≡◌, drop};
 ghost use Rattle.model.specs.Notation.{read_number};
 ghost use Rattle.importing.specs.Reading.{number_stated};
 
-use crate::bytes::{ZERO, digit_stands};
+use crate::bytes::digit_stands;
 
 // A number, and where the text goes on.
 #[derive(Clone, Copy)]
-pub enum NumberRead {
-    Number { value: u8, next: usize },
-    NotNumber,
+pub struct Number {
+    pub value: u8,
+    pub next: usize,
 }
 
-pub fn read_number(text: &[u8], at: usize) -> NumberRead
+pub fn read_number(text: &[u8], at: usize) -> Option<Number>
     ensures { number_stated text.now result ≡ read_number (drop at text.now) }
 {
     if !digit_stands(text, at) {
-        return NumberRead::NotNumber;
+        return None;
     }
-    let first = text[at] - ZERO;
-    if first == 0 {
-        return NumberRead::Number {
-            value: 0,
-            next: at + 1,
-        };
+    let first = text[at] - b'0';
+    let next = at + 1;
+    if first == 0 || !digit_stands(text, next) {
+        return Some(Number { value: first, next });
     }
-    if !digit_stands(text, at + 1) {
-        return NumberRead::Number {
-            value: first,
-            next: at + 1,
-        };
-    }
-    NumberRead::Number {
-        value: 10 * first + (text[at + 1] - ZERO),
-        next: at + 2,
-    }
+    Some(Number {
+        value: 10 * first + (text[next] - b'0'),
+        next: next + 1,
+    })
 }

@@ -5,8 +5,8 @@ ghost use Rattle.model.specs.Notation.{read_body, read_item, read_pattern};
 ghost use Rattle.importing.specs.Reading.{within};
 ghost use Rattle.importing.specs.Laying.{Repeatable, Repeats, Finishes, ItemFits, ItemLaid, BodyFits, BodyLaid, PatternFits, PatternLaid};
 
-use crate::bytes::{MINUS, OPENING, SPACE, stands};
-use crate::reading::{Reading, after_minus, ends, read_item};
+use crate::bytes::stands;
+use crate::reading::{after_minus, ends, read_item};
 use areas::bytes::copy_on;
 use engine::words::invert;
 
@@ -23,10 +23,8 @@ pub fn repeat(area: &mut [u8], from: usize, count: usize, end: usize)
     ensures length { length area.new ≡ length area.old }
     ensures repeats { Repeats area.old from count end area.new }
 {
-    let mut at = from + count;
-    while at < end {
+    for at in (from + count..end).step_by(count) {
         copy_on(area, from, count, at);
-        at += count;
     }
 }
 
@@ -38,7 +36,7 @@ pub fn finish(area: &mut [u8], from: usize, count: usize, end: usize, minus: boo
 {
     repeat(area, from, count, end);
     if minus {
-        invert(&mut area[from..], end - from);
+        invert(&mut area[from..end]);
     }
 }
 
@@ -49,27 +47,20 @@ pub fn write_item(text: &[u8], at: usize, depth: u8, area: &mut [u8], from: usiz
     ensures length { length area.new ≡ length area.old }
     ensures item { ItemLaid (read_item (within depth) (drop at text.now)) text.now area.old from area.new result }
 {
-    match read_item(text, at, depth) {
-        Reading::NotPattern => Laid {
-            next: at,
-            end: from,
-        },
-        Reading::Read(item) => {
-            let end = from + item.moves as usize;
-            let laid = Laid {
-                next: item.next,
-                end,
-            };
-            if end == from {
-                return laid;
-            }
-            let minus = stands(text, at, MINUS);
-            let start = after_minus(text, at);
-            let once = write_body(text, start, depth, item.highest, area, from);
-            finish(area, from, once - from, end, minus);
-            laid
-        }
+    let item = read_item(text, at, depth).unwrap();
+    let end = from + item.moves as usize;
+    let laid = Laid {
+        next: item.next,
+        end,
+    };
+    if end == from {
+        return laid;
     }
+    let minus = stands(text, at, b'-');
+    let start = after_minus(text, at);
+    let once = write_body(text, start, depth, item.highest, area, from);
+    finish(area, from, once - from, end, minus);
+    laid
 }
 
 // The moves of the body at a place of the text, once, from a place of the area on; where they end. Without a bracket it is the move of its highest number.
@@ -86,7 +77,7 @@ pub fn write_body(
     ensures length { length area.new ≡ length area.old }
     ensures body { BodyLaid (read_body (within depth) (drop at text.now)) area.old from area.new result }
 {
-    if stands(text, at, OPENING) {
+    if stands(text, at, b'(') {
         return write_pattern(text, at + 1, depth - 1, area, from);
     }
     area[from] = highest;
@@ -108,13 +99,10 @@ pub fn write_pattern(text: &[u8], at: usize, depth: u8, area: &mut [u8], from: u
         end: from,
     };
     loop {
-        let next = laid.next;
-        let end = laid.end;
-        laid = write_item(text, next, depth, area, end);
-        let after = laid.next;
-        if !stands(text, after, SPACE) {
+        laid = write_item(text, laid.next, depth, area, laid.end);
+        if !stands(text, laid.next, b' ') {
             return laid.end;
         }
-        laid.next = after + 1;
+        laid.next += 1;
     }
 }

@@ -1,6 +1,6 @@
 -- A program laid at the workspace's end, read forward or backward.
 use mathlib.Core.Path.{◌≡◌, refl, sym, ap, ap₂, subst, ◌∙◌}
-use mathlib.Core.List.{List, [], ◌++◌, reverse}
+use mathlib.Core.List.{List, ◌++◌, reverse, append-nil}
 use mathlib.Core.Bool.{Bool, true, false}
 use Prim.Native.Nat.{ℕ, ◌+◌, ◌-◌, ◌^◌, ◌<◌}
 use native.Mathlib.Omega.{arith}
@@ -9,14 +9,20 @@ use lib.ListN.{length, take, drop, length-drop, length-map, length-reverse}
 use lib.Seq.{take_at, length-take-le, take_all, drop-length}
 use Rattle.model.specs.Word.{Word, byte}
 use Rattle.model.specs.Range.{LetterInRange, ProgramInRange}
-use Rattle.model.specs.Images.{count_width}
+use Rattle.model.specs.Presentation.{Presentation}
+use Rattle.model.specs.Outcome.{answered}
+use Rattle.model.specs.Images.{count_width, read_program}
 use Rattle.model.specs.Plain.{plain_program}
 use Rattle.model.specs.Areas.{written}
 use Rattle.model.proofs.Lists.{all_reverse}
 use Rattle.model.proofs.Words.{map_reverse}
+use Rattle.model.proofs.Impossible.{same_answer}
+use Rattle.images.specs.Programs.{Accepted}
+use Rattle.images.proofs.RoundTrip.{program_in_range}
+use Rattle.cells.specs.Stands.{Of}
 use Rattle.areas.proofs.Parts.{part_back}
-use Rattle.loading.specs.Reversing.{faced}
-use Rattle.loading.proofs.Programs.{written_end}
+use Rattle.loading.specs.Reversing.{faced, FacedAtEnd, LoadedWord}
+use Rattle.loading.proofs.Programs.{written_end, word_loaded, word_searched, word_served}
 
 -- a word read backward has the same letters
 pub faced_length : (backward : Bool) (w : Word) → length (faced backward w) ≡ length w
@@ -28,44 +34,41 @@ faced_in_range true n w p =
     record { short = subst (λ k. k < 2 ^ count_width) (sym (length-reverse w)) p.short; letters = all_reverse (LetterInRange n) w p.letters }
 faced_in_range false n w p = p
 
--- the bytes of a word at the area's end, turned around, are those of the word read backward
-module _ (area : List ℕ) (w : Word) (right : ℕ) (fit : right + length w ≡ length area) where
-  abbrev loaded : List ℕ
-  loaded = written area right (plain_program w)
-
-  bytes_long : (v : Word) → length v ≡ length w → right + length (plain_program v) ≡ length area
-  bytes_long v e = ap (λ k. right + k) (length-map v byte ∙ e) ∙ fit
-
-  nothing_after : (v : Word) → length v ≡ length w → drop (right + length (plain_program v)) area ≡ []
-  nothing_after v e = ap (λ k. drop k area) (bytes_long v e) ∙ drop-length area
-
-  at_end : drop right loaded ≡ plain_program w
-  at_end = written_end area (plain_program w) right (bytes_long w refl)
-
-  in_front : take right loaded ≡ take right area
-  in_front = take_at (take right area) (plain_program w ++ drop (right + length (plain_program w)) area) right (length-take-le right area (omega (arith, fit)))
-
-  pub loaded_backward : (part : List ℕ) → part ≡ reverse (take (length w) (drop right loaded)) ++ drop (length w) (drop right loaded)
-      → take right loaded ++ part ≡ written area right (plain_program (reverse w))
-  loaded_backward part e =
-      let same : length w ≡ length (plain_program w) = sym (length-map w byte) in
-      let first : take (length w) (drop right loaded) ≡ plain_program w =
-      ap (take (length w)) at_end ∙ take_all (length w) (plain_program w) (omega (arith, same)) in
-      let none : drop (length w) (drop right loaded) ≡ [] = ap₂ drop same at_end ∙ drop-length (plain_program w) in
-      let turned : part ≡ plain_program (reverse w) ++ [] = e ∙ ap₂ (λ l r. reverse l ++ r) first none ∙ ap (λ l. l ++ []) (sym (map_reverse byte w)) in
-      ap₂ (λ l r. l ++ r) in_front (turned ∙ ap (λ r. plain_program (reverse w) ++ r) (sym (nothing_after (reverse w) (length-reverse w))))
-
--- the part from `right` on was lent, turned around and is back
-pub backward_word : (area mid part : List ℕ) (w : Word) (right count : ℕ) → right + count ≡ length area → length w ≡ count → length mid ≡ length area
+-- the part of an area that a word fills to the end was lent, turned around and is back
+pub backward_word : (area mid part : List ℕ) (w : Word) (right : ℕ) → right + length w ≡ length area → length mid ≡ length area
     → mid ≡ written area right (plain_program w)
-    → part ≡ reverse (take count (take (length mid - right) (drop right mid))) ++ drop count (take (length mid - right) (drop right mid))
+    → part ≡ reverse (take (length mid - right) (drop right mid))
     → put_mid right (length mid - right) mid part ≡ written area right (plain_program (reverse w))
-backward_word area mid part w right count fit n long e p =
+backward_word area mid part w right fit long e p =
+    let bytes = plain_program (reverse w) in
+    let filled : right + length (plain_program w) ≡ length area = ap (λ k. right + k) (length-map w byte) ∙ fit in
+    let ends : right + length bytes ≡ length area = ap (λ k. right + k) (length-map (reverse w) byte ∙ length-reverse w) ∙ fit in
     let whole : take (length mid - right) (drop right mid) ≡ drop right mid =
     take_all (length mid - right) (drop right mid) (omega (arith, length-drop right mid)) in
-    let whole_part : part ≡ reverse (take (length w) (drop right (written area right (plain_program w))))
-    ++ drop (length w) (drop right (written area right (plain_program w))) =
-    p ∙ (ap (λ l. reverse (take count l) ++ drop count l) (whole ∙ ap (drop right) e)
-    ∙ ap (λ k. reverse (take k (drop right (written area right (plain_program w)))) ++ drop k (drop right (written area right (plain_program w)))) (sym n)) in
-    part_back right mid part (omega (arith, fit, long))
-    ∙ (ap (λ l. take right l ++ part) e ∙ loaded_backward area w right (omega (arith, fit, n)) part whole_part)
+    let turned : part ≡ bytes =
+    p ∙ (ap reverse (whole ∙ (ap (drop right) e ∙ written_end area (plain_program w) right filled)) ∙ sym (map_reverse byte w)) in
+    let front : take right mid ≡ take right area =
+    ap (take right) e
+    ∙ take_at (take right area) (plain_program w ++ drop (right + length (plain_program w)) area) right (length-take-le right area (omega (arith, fit))) in
+    let none : bytes ++ drop (right + length bytes) area ≡ bytes =
+    ap (λ k. bytes ++ drop k area) ends ∙ (ap (λ l. bytes ++ l) (drop-length area) ∙ append-nil bytes) in
+    part_back right mid part (omega (arith, fit, long)) ∙ ap₂ (λ l r. l ++ r) front (turned ∙ sym none)
+
+-- a program that was accepted and loaded so
+module _ (size : ℕ) (program : List ℕ) (count : ℕ) (q : Accepted program size count) (backward : Bool) (w : Word)
+    (e : read_program size program ≡ answered w) where
+  pub faced_count : length (faced backward w) ≡ count
+  faced_count = faced_length backward w ∙ (ap length (same_answer w q.program.word (sym e ∙ q.program.read)) ∙ q.program.count_is)
+
+  pub faced_ready : (before after : List ℕ) (right : ℕ) → right + count ≡ length before → FacedAtEnd backward size program before right after
+      → (cells : List ℕ) (T : Presentation) → Of cells size T → LoadedWord cells T (faced backward w) after 0 right
+  faced_ready before after right fit f cells T o =
+      let v = faced backward w in
+      let p = faced_in_range backward size w (program_in_range size q.few program w e) in
+      let ends = ap (λ k. right + k) faced_count ∙ fit in
+      subst (λ l. LoadedWord cells T v l 0 right) (sym (f.bytes w e))
+      (record {
+        word = word_loaded cells size T o v p before right ends;
+        searched = word_searched cells size T o v p before right ends;
+        serves = word_served cells size T o v p before right ends;
+      })

@@ -13,6 +13,8 @@ use Rattle.model.specs.Plain.{plain_program}
 use Rattle.model.specs.declared.answers.Ending.TheVariants.{Stopped}
 use Rattle.model.specs.declared.answers.Stop.TheVariants.{Room}
 use Rattle.model.specs.Range.{ProgramInRange, Lettered}
+use Rattle.model.specs.Services.{read_forward}
+use Rattle.model.proofs.Impossible.{same_answer}
 use Rattle.images.specs.Programs.{ForwardOf}
 use Rattle.model.specs.Areas.{written}
 use Rattle.images.proofs.RoundTrip.{program_in_range}
@@ -86,6 +88,11 @@ module _ (cells : List ℕ) (size : ℕ) (T : Presentation) (o : Of cells size T
             (named v pv);
       }
 
+-- what is accepted as a program of so many forward letters has so many
+pub forward_count : (size : ℕ) (program : List ℕ) (count : ℕ) → ForwardOf program size count → (u : Positive) → read_forward size program ≡ answered u
+    → length u ≡ count
+forward_count size program count p u e = ap length (same_answer u p.word (sym e ∙ p.read)) ∙ p.count_is
+
 -- programs that do not fit together
 pub pair_too_long : (T : Presentation) (u v : Positive) (budget : ℕ) (area : List ℕ) → length area < length u + length v
     → Reverses T (negative u ++ positive v) budget area (Stopped Room)
@@ -97,11 +104,11 @@ pair_too_long T u v budget area h =
 pub loads_pair : (cells : List ℕ) (size : ℕ) (T : Presentation) → Of cells size T → (u v : Positive) (first second : List ℕ) (firsts seconds : ℕ)
     → size ≤ most_size
     → (one : ForwardOf first size firsts) (two : ForwardOf second size seconds) → one.word ≡ u → two.word ≡ v
-    → (start unpacked turned last : List ℕ) → firsts + seconds ≤ length start
-    → ((w : Word) → read_program size first ≡ answered w → unpacked ≡ written start 0 (plain_program w)) → Inverted unpacked firsts turned
+    → (start loaded_first turned last : List ℕ) → firsts + seconds ≤ length start
+    → ((w : Word) → read_program size first ≡ answered w → loaded_first ≡ written start 0 (plain_program w)) → Inverted loaded_first firsts turned
     → ((w : Word) → read_program size second ≡ answered w → last ≡ written turned (length start - seconds) (plain_program w))
     → LoadedPrograms cells T u v last firsts (length start - seconds)
-loads_pair cells size T o u v first second firsts seconds few one two eu ev start unpacked turned last fit w₁ i w₂ =
+loads_pair cells size T o u v first second firsts seconds few one two eu ev start loaded_first turned last fit w₁ i w₂ =
     let ru : read_program size first ≡ answered (positive u) = one.read_signed ∙ ap (λ x. answered (positive x)) eu in
     let rv : read_program size second ≡ answered (positive v) = two.read_signed ∙ ap (λ x. answered (positive x)) ev in
     let pu = program_in_range size few first (positive u) ru in

@@ -9,7 +9,6 @@ use Rattle.model.specs.Word.{forward, back, Word, byte}
 use Rattle.model.specs.Presentation.{Presentation}
 use Rattle.model.specs.Reversing.{reversing, stopped, no_room}
 use Rattle.model.specs.Plain.{plain_program}
-use Rattle.model.specs.declared.answers.Ending.{Ending}
 use Rattle.model.specs.declared.answers.Ending.TheVariants.{Stopped}
 use Rattle.model.specs.declared.answers.Stop.TheVariants.{Room}
 use Rattle.model.proofs.Reversal.{reversing_long}
@@ -68,9 +67,6 @@ module _ (cells : List ℕ) (size : ℕ) (T : Presentation) (o : Of cells size T
         stands = o.stands;
         lettered = rw word_loaded (subst (λ n. Lettered n w) (sym o.sized) p.letters);
       }
-
-  pub word_reverses : (budget : ℕ) (after : List ℕ) (r : Ending) → Reverses T (word_at ready 0 right) budget after r → Reverses T w budget after r
-  word_reverses budget after r q = subst (λ v. Reverses T v budget after r) word_loaded q
 
 -- a program longer than the workspace
 pub too_long : (T : Presentation) (w : Word) (budget : ℕ) (area : List ℕ) → length area < length w → Reverses T w budget area (Stopped Room)

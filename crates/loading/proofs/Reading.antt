@@ -17,7 +17,6 @@ use Rattle.model.proofs.Outcomes.{still_refused, goes_on}
 use Rattle.images.specs.Programs.{Measured, ForwardMeasured, MeasuredAs, read_as}
 use Rattle.images.specs.declared.programs.Signs.{Signs}
 use Rattle.images.specs.declared.programs.Signs.TheVariants.{Any, Forward as ForwardAlone}
-use Rattle.cells.specs.Stands.{Sized}
 use Rattle.cells.proofs.Rules.{of_some, of_few}
 use Rattle.loading.specs.Loading.{ProgramLoaded, ForwardLoaded, LoadedAs, ProgramsLoaded, SignedLoaded, BothAs}
 use Rattle.loading.proofs.Early.{Early, early_then, wider, table_early, forward_early}
@@ -33,15 +32,8 @@ table_refused table rest r e = reading_refused (read_table table >>= rest) (read
 -- ONE PROGRAM
 
 module _ {W : Type 0} (read : ℕ → List ℕ → Outcome W) (table program : List ℕ) where
-  pub no_table : (r : Refusal) → read_table table ≡ refusal r → read_table_with read table program ≡ refusal r
-  no_table r e = still_refused (read_table table) r e _
-
-  module _ {cells : List ℕ} {size : ℕ} (t : Loaded (read_table table) cells size) where
-    sized : read t.table.size program ≡ read size program
-    sized = ap (λ i. read i program) t.of.sized
-
-    pub no_program : (r : Refusal) → read size program ≡ refusal r → read_table_with read table program ≡ refusal r
-    no_program r e = goes_on (read_table table) t.table t.read _ ∙ still_refused (read t.table.size program) r (sized ∙ e) _
+  sized : {cells : List ℕ} {size : ℕ} (t : Loaded (read_table table) cells size) → read t.table.size program ≡ read size program
+  sized t = ap (λ i. read i program) t.of.sized
 
   pub table_with_early : ((n : ℕ) (bytes : List ℕ) → Early 7 (read n bytes)) → Early 7 (read_table_with read table program)
   table_with_early early =
@@ -93,10 +85,7 @@ module _ (table program : List ℕ) {cells : List ℕ} {size : ℕ} (t : Loaded 
 -- TWO PROGRAMS
 
 module _ {W : Type 0} (read : ℕ → List ℕ → Outcome W) (table first second : List ℕ) where
-  pub no_first : (r : Refusal) → read_table_with read table first ≡ refusal r → read_images read table first second ≡ refusal r
-  no_first r e = still_refused (read_table_with read table first) r e _
-
-  pub no_second : (T : Presentation) (u : W) → read_table table ≡ answered T → read T.size first ≡ answered u → (r : Refusal)
+  no_second : (T : Presentation) (u : W) → read_table table ≡ answered T → read T.size first ≡ answered u → (r : Refusal)
       → read T.size second ≡ refusal r
       → read_images read table first second ≡ refusal r
   no_second T u e f r g =
@@ -168,11 +157,6 @@ module _ (table first second : List ℕ) where
   second_refused ForwardAlone cells size firsts one l r e =
       no_second read_forward table first second l.runs.table l.runs.forward.word l.table_read l.program_read r
       (ap (λ i. read_forward i second) l.runs.of.sized ∙ e)
-
-  -- the cells stand for the table
-  pub loaded_of : (s : Signs) (cells : List ℕ) (size firsts one : ℕ) → LoadedAs s table first cells size firsts one → Sized cells size
-  loaded_of Any cells size firsts one l = (l.runs.table, l.runs.of)
-  loaded_of ForwardAlone cells size firsts one l = (l.runs.table, l.runs.of)
 
   module _ {A : Type 0} (rest : Images Positive → Outcome A) where
     abbrev forward_service : Outcome A

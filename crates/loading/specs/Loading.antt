@@ -1,20 +1,20 @@
 -- What is loaded before a reversing: the cells of a table, and a program or two.
-use Rattle.std.specs.Prelude.{List, ◌≡◌, ℕ, ◌≤◌}
+use Rattle.std.specs.Prelude.{List, ◌≡◌, ℕ, ◌≤◌, Ok, Err}
+use Rattle.std.specs.declared.result.Result.{Result}
 use Rattle.model.specs.Presentation.{Presentation}
 use Rattle.model.specs.Outcome.{answered}
 use Rattle.model.specs.Images.{read_table, read_program, most_size}
 use Rattle.model.specs.Services.{read_table_with, read_forward, read_images}
 use Rattle.model.specs.Areas.{Compares}
 use Rattle.model.specs.Stated.{refusal}
+use Rattle.model.specs.declared.answers.Refusal.{Refusal}
 use Rattle.images.specs.Programs.{Accepted, ForwardOf, cells_weigh, read_as}
 use Rattle.images.specs.declared.programs.Signs.{Signs}
 use Rattle.images.specs.declared.programs.Signs.TheVariants.{Any, Forward as ForwardAlone}
 use Rattle.cells.specs.Stands.{Of}
 use Rattle.loading.specs.Weighing.{Weighs, Weigh}
 use Rattle.loading.specs.declared.loading.TableProgram.{TableProgram}
-use Rattle.loading.specs.declared.loading.TableProgram.TheVariants.{Loaded as LoadedAnswer, Refused as NotLoaded}
-use Rattle.loading.specs.declared.loading.ProgramsRead.{ProgramsRead}
-use Rattle.loading.specs.declared.loading.ProgramsRead.TheVariants.{Programs as ProgramsAnswer, Refused as RefusedAnswer}
+use Rattle.loading.specs.declared.loading.Programs.{Programs}
 
 -- an accepted program under cells that stand for a table
 pub record ProgramRuns (cells : List ℕ) (size : ℕ) (program : List ℕ) (count : ℕ) : Type 0 where
@@ -48,9 +48,9 @@ abbrev pub LoadedAs : Signs → List ℕ → List ℕ → List ℕ → ℕ → �
 LoadedAs Any table program cells size count weight = ProgramLoaded table program cells size count weight
 LoadedAs ForwardAlone table program cells size count weight = ForwardLoaded table program cells size count weight
 
-abbrev pub TableProgramDone : List ℕ → List ℕ → Signs → List ℕ → TableProgram → Type 0
-TableProgramDone table program s cells (LoadedAnswer size count weight) = LoadedAs s table program cells size count weight
-TableProgramDone table program s cells (NotLoaded r) = read_table_with (read_as s) table program ≡ refusal r
+abbrev pub TableProgramDone : List ℕ → List ℕ → Signs → List ℕ → Result TableProgram Refusal → Type 0
+TableProgramDone table program s cells (Ok l) = LoadedAs s table program cells l.size l.count l.weight
+TableProgramDone table program s cells (Err r) = read_table_with (read_as s) table program ≡ refusal r
 
 -- A TABLE AND TWO PROGRAMS
 
@@ -93,6 +93,7 @@ abbrev pub BothAs : Signs → List ℕ → List ℕ → List ℕ → List ℕ �
 BothAs Any table first second cells size firsts seconds one two = SignedLoaded table first second cells size firsts seconds one two
 BothAs ForwardAlone table first second cells size firsts seconds one two = ProgramsLoaded table first second cells size firsts seconds one two
 
-abbrev pub ProgramsDone : List ℕ → List ℕ → List ℕ → Signs → List ℕ → ProgramsRead → Type 0
-ProgramsDone table first second s cells (ProgramsAnswer size firsts seconds one two) = BothAs s table first second cells size firsts seconds one two
-ProgramsDone table first second s cells (RefusedAnswer r) = read_images (read_as s) table first second ≡ refusal r
+abbrev pub ProgramsDone : List ℕ → List ℕ → List ℕ → Signs → List ℕ → Result Programs Refusal → Type 0
+ProgramsDone table first second s cells (Ok p) =
+    BothAs s table first second cells p.size p.firsts p.seconds p.first_weight p.second_weight
+ProgramsDone table first second s cells (Err r) = read_images (read_as s) table first second ≡ refusal r

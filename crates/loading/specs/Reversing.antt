@@ -27,11 +27,15 @@ abbrev pub ProgramReverses : Bool → List ℕ → ℕ → List ℕ → ℕ → 
 ProgramReverses backward cells size program budget workspace r =
     (T : Presentation) → Of cells size T → (w : Word) → read_program size program ≡ answered w → Reverses T (faced backward w) budget workspace r
 
--- the inverse of the first word and the second word stand in the workspace
-pub record LoadedPrograms (cells : List ℕ) (T : Presentation) (u v : Positive) (bytes : List ℕ) (left right : ℕ) : Type 0 where
-  pub word : word_at bytes left right ≡ negative u ++ positive v
+-- a word stands in the workspace, ready to be reversed
+pub record LoadedWord (cells : List ℕ) (T : Presentation) (w : Word) (bytes : List ℕ) (left right : ℕ) : Type 0 where
+  pub word : word_at bytes left right ≡ w
   pub searched : Searched bytes left right
   pub serves : Serves cells (word_at bytes left right) T
+
+-- the inverse of the first word and the second word do
+abbrev pub LoadedPrograms : List ℕ → Presentation → Positive → Positive → List ℕ → ℕ → ℕ → Type 0
+LoadedPrograms cells T u v bytes left right = LoadedWord cells T (negative u ++ positive v) bytes left right
 
 pub record Loads (size : ℕ) (first : List ℕ) (firsts : ℕ) (second : List ℕ) (seconds : ℕ) (before after : List ℕ) : Type 0 where
   pub same_length : length after ≡ length before

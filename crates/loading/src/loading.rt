@@ -1,28 +1,26 @@
 ghost use Rattle.cells.specs.Stands.{Blank};
 ghost use Rattle.loading.specs.Loading.{TableProgramDone, ProgramsDone};
 
-use images::programs::{ProgramRead, Signs, read_as};
-use images::tables::{TableRead, read_table};
+use images::programs::{Signs, read_as};
+use images::tables::read_table;
 use model::answers::Refusal;
 
 // A table of so many letters, and two programs of `firsts` and `seconds` letters, with what these weigh.
 #[derive(Clone, Copy)]
-pub enum ProgramsRead {
-    Programs {
-        size: u8,
-        firsts: u16,
-        seconds: u16,
-        first_weight: u16,
-        second_weight: u16,
-    },
-    Refused(Refusal),
+pub struct Programs {
+    pub size: u8,
+    pub firsts: u16,
+    pub seconds: u16,
+    pub first_weight: u16,
+    pub second_weight: u16,
 }
 
 // A table of so many letters, and a program of `count` letters, with what these weigh.
 #[derive(Clone, Copy)]
-pub enum TableProgram {
-    Loaded { size: u8, count: u16, weight: u16 },
-    Refused(Refusal),
+pub struct TableProgram {
+    pub size: u8,
+    pub count: u16,
+    pub weight: u16,
 }
 
 // Reads a table image into cells, then the image of a program.
@@ -31,29 +29,17 @@ pub fn read_table_program(
     program: &[u8],
     signs: Signs,
     cells: &mut [u8],
-) -> TableProgram
+) -> Result<TableProgram, Refusal>
     requires { Blank cells.old }
     ensures { TableProgramDone table.now program.now signs cells.new result }
 {
-    let read = read_table(table, cells);
-    match read {
-        TableRead::Refused(refusal) => TableProgram::Refused(refusal),
-        TableRead::Table { size } => {
-            let accepted = read_as(program, cells, size, signs);
-            match accepted {
-                ProgramRead::Refused(refusal) => TableProgram::Refused(refusal),
-                ProgramRead::Program {
-                    count,
-                    forward: _,
-                    weight,
-                } => TableProgram::Loaded {
-                    size,
-                    count,
-                    weight,
-                },
-            }
-        }
-    }
+    let size = read_table(table, cells)?;
+    let read = read_as(program, cells, size, signs)?;
+    Ok(TableProgram {
+        size,
+        count: read.count,
+        weight: read.weight,
+    })
 }
 
 // Reads a table image into cells, then the images of two programs.
@@ -63,33 +49,17 @@ pub fn read_programs(
     second: &[u8],
     signs: Signs,
     cells: &mut [u8],
-) -> ProgramsRead
+) -> Result<Programs, Refusal>
     requires { Blank cells.old }
     ensures { ProgramsDone table.now first.now second.now signs cells.new result }
 {
-    let read = read_table_program(table, first, signs, cells);
-    match read {
-        TableProgram::Refused(refusal) => ProgramsRead::Refused(refusal),
-        TableProgram::Loaded {
-            size,
-            count: firsts,
-            weight: first_weight,
-        } => {
-            let two = read_as(second, cells, size, signs);
-            match two {
-                ProgramRead::Refused(refusal) => ProgramsRead::Refused(refusal),
-                ProgramRead::Program {
-                    count: seconds,
-                    forward: _,
-                    weight: second_weight,
-                } => ProgramsRead::Programs {
-                    size,
-                    firsts,
-                    seconds,
-                    first_weight,
-                    second_weight,
-                },
-            }
-        }
-    }
+    let one = read_table_program(table, first, signs, cells)?;
+    let two = read_as(second, cells, one.size, signs)?;
+    Ok(Programs {
+        size: one.size,
+        firsts: one.count,
+        seconds: two.count,
+        first_weight: one.weight,
+        second_weight: two.weight,
+    })
 }

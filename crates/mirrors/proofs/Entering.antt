@@ -45,7 +45,7 @@ open_done cells a b there e unset mirror T s ra rb rest h =
     pair_open T s.few a b rest mirror h (open_cell cells T s a b ra rb (ap (λ i. get_or cells i 0) (sym e) ∙ unset))
 
 -- a pair with a relation, whose two sides lie in the cells `there` and `back`
-module _ (cells : List ℕ) (a b there back : ℕ) (there_is : there ≡ cell_at a b) (back_is : back ≡ cell_at b a) (defined : get_or cells there 0 ≡ 255 → ⊥) where
+module _ {cells : List ℕ} {a b there back : ℕ} (there_is : there ≡ cell_at a b) (back_is : back ≡ cell_at b a) (defined : get_or cells there 0 ≡ 255 → ⊥) where
   related : (T : Presentation) → Stands cells T → InRange T.size a → InRange T.size b → Relation cells T a b
   related T s ra rb = relation cells T s a b ra rb (λ e. defined (ap (λ i. get_or cells i 0) there_is ∙ e))
 
@@ -70,7 +70,7 @@ module _ (cells : List ℕ) (a b there back : ℕ) (there_is : there ≡ cell_at
         })
 
   -- the letters in which they end
-  module _ (p q : ℕ) (p_ends : EndsIn cells a there p) (q_ends : EndsIn cells b back q) where
+  module _ {p q : ℕ} (p_ends : EndsIn cells a there p) (q_ends : EndsIn cells b back q) where
     module _ (T : Presentation) (s : Stands cells T) (ra : InRange T.size a) (rb : InRange T.size b) where
       abbrev r : Relation cells T a b
       r = related T s ra rb

@@ -1,5 +1,4 @@
 pub mod Backward
-pub mod Copying
 pub mod Building
 pub mod Entering
 pub mod Rows

@@ -1,5 +1,6 @@
 -- The mirror of a table, made in cells: what holds where the relations of some pairs are entered, and that the whole is the table's mirror.
-use Rattle.std.specs.Prelude.{List, [], ◌∷◌, ◌++◌, Bool, true, false, ◌≡◌, ◌≢◌, ℕ, length, get_or}
+use Rattle.std.specs.Prelude.{List, [], ◌∷◌, ◌++◌, Bool, true, false, ◌≡◌, ◌≢◌, ℕ, length, get_or, Ok, Err}
+use Rattle.std.specs.declared.result.Result.{Result}
 use Rattle.model.specs.Presentation.{Presentation}
 use Rattle.model.specs.Range.{InRange}
 use Rattle.model.specs.Enumeration.{Two, row, pairs}
@@ -8,8 +9,7 @@ use Rattle.model.specs.Mirror.{found, backward, mirror, mirrored, mirror_check}
 use Rattle.cells.specs.Layout.{Letters, cell_at, weight_at}
 use Rattle.cells.specs.Stands.{HoldsFirst, HoldsWeights, Stands, Of}
 use Rattle.cells.specs.Kept.{SameCell}
-use Rattle.mirrors.specs.declared.mirror.Mirrored.{Mirrored}
-use Rattle.mirrors.specs.declared.mirror.Mirrored.TheVariants.{Made, Offends}
+use Rattle.model.specs.declared.answers.Pair.{Pair}
 
 -- refusal 16, with the pair whose relation offends
 abbrev pub offended : ℕ → ℕ → Outcome (Unit {0})
@@ -37,15 +37,15 @@ PairDone cells a b before after r =
 
 -- ROWS OF PAIRS, of every table of so many letters
 
-abbrev pub BuiltOr : Presentation → List Two → List ℕ → Mirrored → Type 0
-BuiltOr T rest after Made = Building T after rest
-BuiltOr T rest after (Offends p) = mirror_check T ≡ offended p.a p.b
+abbrev pub BuiltOr : Presentation → List Two → List ℕ → Result (Unit {0}) Pair → Type 0
+BuiltOr T rest after (Ok _) = Building T after rest
+BuiltOr T rest after (Err p) = mirror_check T ≡ offended p.a p.b
 
-abbrev pub RowDone : List ℕ → ℕ → ℕ → List ℕ → List ℕ → Mirrored → Type 0
+abbrev pub RowDone : List ℕ → ℕ → ℕ → List ℕ → List ℕ → Result (Unit {0}) Pair → Type 0
 RowDone cells size a before after r =
     (T : Presentation) → Of cells size T → (rest : List Two) → Building T before (row size a ++ rest) → BuiltOr T rest after r
 
-abbrev pub RowsDone : List ℕ → ℕ → List ℕ → List ℕ → Mirrored → Type 0
+abbrev pub RowsDone : List ℕ → ℕ → List ℕ → List ℕ → Result (Unit {0}) Pair → Type 0
 RowsDone cells size before after r = (T : Presentation) → Of cells size T → Building T before (pairs size) → BuiltOr T [] after r
 
 -- WEIGHTS: those of so many letters stand in their places, each letter's own cell is empty, and the other cells are as they were
@@ -56,6 +56,6 @@ pub record WeightsCopied (cells : List ℕ) (size : ℕ) (before after : List �
   pub kept : (p q : ℕ) → Letters p q → p ≢ q → SameCell before after p q
 
 -- THE WHOLE: the cells stand for the table's mirror, or the table has none
-abbrev pub MirrorDone : List ℕ → ℕ → List ℕ → Mirrored → Type 0
-MirrorDone cells size after Made = (T : Presentation) → Of cells size T → (mirror_check T ≡ answered tt) × Of after size (mirror T)
-MirrorDone cells size after (Offends p) = (T : Presentation) → Of cells size T → mirror_check T ≡ offended p.a p.b
+abbrev pub MirrorDone : List ℕ → ℕ → List ℕ → Result (Unit {0}) Pair → Type 0
+MirrorDone cells size after (Ok _) = (T : Presentation) → Of cells size T → (mirror_check T ≡ answered tt) × Of after size (mirror T)
+MirrorDone cells size after (Err p) = (T : Presentation) → Of cells size T → mirror_check T ≡ offended p.a p.b

@@ -8,13 +8,6 @@ use crate::sides::{last_letter, put_backward};
 use cells::layout::{UNDEFINED, cell_at, weight_at};
 use model::answers::Pair;
 
-// Whether the mirror is made, or the first pair whose relation offends.
-#[derive(Clone, Copy)]
-pub enum Mirrored {
-    Made,
-    Offends(Pair),
-}
-
 // Enters the relation of a pair; false where it offends: its sides end in one letter, or in those of a relation entered before it.
 pub fn mirror_pair(cells: &[u8], a: u8, b: u8, mirror: &mut [u8]) -> bool
     requires table { Filled cells.now a b }
@@ -41,41 +34,32 @@ pub fn mirror_pair(cells: &[u8], a: u8, b: u8, mirror: &mut [u8]) -> bool
     true
 }
 
-// The pairs of one letter with those after it.
-pub fn mirror_row(cells: &[u8], size: u8, a: u8, mirror: &mut [u8]) -> Mirrored
+// The pairs of one letter with those after it; an error is the first whose relation offends.
+pub fn mirror_row(cells: &[u8], size: u8, a: u8, mirror: &mut [u8]) -> Result<(), Pair>
     requires table { Sized cells.now size × InRange size a }
     requires full { length mirror.old ≡ cell_bytes }
     ensures length { length mirror.new ≡ length mirror.old }
     ensures row { RowDone cells.now size a mirror.old mirror.new result }
 {
-    let mut b = a + 1;
-    while b <= size {
+    for b in a + 1..=size {
         if !mirror_pair(cells, a, b, mirror) {
-            return Mirrored::Offends(Pair { a, b });
+            return Err(Pair { a, b });
         }
-        b += 1;
     }
-    Mirrored::Made
+    Ok(())
 }
 
-// All pairs.
-pub fn mirror_rows(cells: &[u8], size: u8, mirror: &mut [u8]) -> Mirrored
+// All pairs; an error is the first whose relation offends.
+pub fn mirror_rows(cells: &[u8], size: u8, mirror: &mut [u8]) -> Result<(), Pair>
     requires table { Sized cells.now size }
     requires full { length mirror.old ≡ cell_bytes }
     ensures length { length mirror.new ≡ length mirror.old }
     ensures rows { RowsDone cells.now size mirror.old mirror.new result }
 {
-    let mut a: u8 = 1;
-    while a <= size {
-        let row = mirror_row(cells, size, a, mirror);
-        match row {
-            Mirrored::Offends(pair) => return Mirrored::Offends(pair),
-            Mirrored::Made => {
-                a += 1;
-            }
-        }
+    for a in 1..=size {
+        mirror_row(cells, size, a, mirror)?;
     }
-    Mirrored::Made
+    Ok(())
 }
 
 // The weights, and the empty completions of letters with themselves.
@@ -84,18 +68,16 @@ pub fn copy_weights(cells: &[u8], size: u8, mirror: &mut [u8])
     requires full { length mirror.old ≡ cell_bytes }
     ensures { WeightsCopied cells.now size mirror.old mirror.new }
 {
-    let mut a: u8 = 1;
-    while a <= size {
+    for a in 1..=size {
         let cell = cell_at(a, a);
         mirror[cell] = 0;
         let place = weight_at(a);
         mirror[place] = cells[place];
-        a += 1;
     }
 }
 
-// The mirror of the table, in cells where every pair is open.
-pub fn mirror_table(cells: &[u8], size: u8, mirror: &mut [u8]) -> Mirrored
+// The mirror of the table, in cells where every pair is open; an error is the first pair whose relation offends.
+pub fn mirror_table(cells: &[u8], size: u8, mirror: &mut [u8]) -> Result<(), Pair>
     requires table { Sized cells.now size }
     requires blank { mirror.old ≡ replicate cell_bytes undefined_length }
     ensures length { length mirror.new ≡ length mirror.old }

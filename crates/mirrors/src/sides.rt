@@ -3,16 +3,15 @@ ghost use Rattle.std.specs.Prelude.{◌+◌, ◌≤◌, length};
 ghost use Rattle.mirrors.specs.Sides.{Short, EndsIn, PutBackward};
 ghost use Rattle.cells.specs.Layout.{cell_length};
 
+use areas::bytes::copy_bytes;
+
 // The last letter of the side that begins with a.
 pub fn last_letter(cells: &[u8], a: u8, cell: usize) -> u8
     requires { Short cells.now cell }
     ensures { EndsIn cells.now a cell result }
 {
     let count = cells[cell] as usize;
-    if count == 0 {
-        return a;
-    }
-    cells[cell + count]
+    if count == 0 { a } else { cells[cell + count] }
 }
 
 // Writes what stands before the last letter of the side that begins with a, backward, into a cell of the mirror.
@@ -23,11 +22,10 @@ pub fn put_backward(cells: &[u8], a: u8, cell: usize, mirror: &mut [u8], to: usi
 {
     let count = cells[cell] as usize;
     mirror[to] = cells[cell];
-    let mut next = a;
-    let mut k: usize = 0;
-    while k < count {
-        mirror[to + count - k] = next;
-        next = cells[cell + 1 + k];
-        k += 1;
+    if count > 0 {
+        let back = &mut mirror[to + 1..to + count];
+        copy_bytes(&cells[cell + 1..cell + count], back);
+        back.reverse();
+        mirror[to + count] = a;
     }
 }

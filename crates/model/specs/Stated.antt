@@ -1,6 +1,7 @@
 -- Specification 7.1, 7.3 and the answers of 6: numbers and values for each case of src/answers.rt. A promise says that what is stated of the
 -- answer is the service's outcome.
-use Rattle.std.specs.Prelude.{List, ℕ, length}
+use Rattle.std.specs.Prelude.{List, ℕ, length, Ok, Err}
+use Rattle.std.specs.declared.result.Result.{Result}
 use Rattle.model.specs.declared.answers.Place.{Place as PlaceAnswer}
 use Rattle.model.specs.declared.answers.Place.TheVariants.{Triple, MirrorTriple, Set, Programs}
 use Rattle.model.specs.declared.answers.Stop.{Stop as StopAnswer}
@@ -13,25 +14,17 @@ use Rattle.model.specs.declared.answers.Refusal.TheVariants.{UnequalWeights, Cub
 use Rattle.model.specs.declared.answers.Refusal.TheVariants.{NotBraidTable, NoMirror, MirrorFails, OtherNumbers, NotPattern, TooManyMoves, SetOpenPair}
 use Rattle.model.specs.declared.answers.Refusal.TheVariants.{SetTooLarge, TooManyLogs, NotTray}
 use Rattle.model.specs.declared.answers.Reversed.{Reversed}
-use Rattle.model.specs.declared.answers.Reversed.TheVariants.{Answer, Refused as ReverseRefused}
-use Rattle.model.specs.declared.answers.Cleared.{Cleared}
-use Rattle.model.specs.declared.answers.Cleared.TheVariants.{Passed, Refused as ClearRefused}
 use Rattle.model.specs.declared.answers.Compared.{Compared}
-use Rattle.model.specs.declared.answers.Compared.TheVariants.{Same, Different, Refused as CompareRefused}
+use Rattle.model.specs.declared.answers.Compared.TheVariants.{Same, Different}
 use Rattle.model.specs.declared.answers.ComparedSigned.{ComparedSigned}
-use Rattle.model.specs.declared.answers.ComparedSigned.TheVariants.{Same as SignedSame, Different as SignedDifferent, Refused as SignedRefused}
+use Rattle.model.specs.declared.answers.ComparedSigned.TheVariants.{Same as SignedSame, Different as SignedDifferent}
 use Rattle.model.specs.declared.answers.Chained.{Chained}
-use Rattle.model.specs.declared.answers.Chained.TheVariants.{Listed, Unlisted, Refused as ChainRefused}
+use Rattle.model.specs.declared.answers.Chained.TheVariants.{Listed, Unlisted}
 use Rattle.model.specs.declared.answers.Checked.{Checked}
-use Rattle.model.specs.declared.answers.Checked.TheVariants.{Joins, Breaks, EndsElsewhere, Refused as CheckRefused}
+use Rattle.model.specs.declared.answers.Checked.TheVariants.{Joins, Breaks, EndsElsewhere}
 use Rattle.model.specs.declared.answers.Remaining.{Remaining}
-use Rattle.model.specs.declared.answers.Remaining.TheVariants.{Moves, Nothing, Refused as RemainderRefused}
-use Rattle.model.specs.declared.answers.Packed.{Packed}
-use Rattle.model.specs.declared.answers.Packed.TheVariants.{Written, Refused as PackRefused}
+use Rattle.model.specs.declared.answers.Remaining.TheVariants.{Moves, Nothing}
 use Rattle.model.specs.declared.answers.Ways.{Ways}
-use Rattle.model.specs.declared.answers.Ways.TheVariants.{Listed as WordsListed, Refused as WaysRefused}
-use Rattle.model.specs.declared.answers.TrayCompared.{TrayCompared}
-use Rattle.model.specs.declared.answers.TrayCompared.TheVariants.{Answered as TrayAnswered, Refused as TrayRefused}
 use Rattle.model.specs.Word.{Positive}
 use Rattle.model.specs.Reversing.{Stop, no_budget, no_room, Ending, finished, open_pair, stopped}
 use Rattle.model.specs.Outcome.{Place, unplaced, pair_of, triple_of, mirror_triple_of, the_set, Outcome, answered, refused}
@@ -82,55 +75,70 @@ abbrev pub stop_refusal : StopAnswer → Refusal
 stop_refusal Budget = AllowanceUsed Programs
 stop_refusal Room = WorkspaceShort Programs
 
+-- 7.1: the outcome of a service, whose answers are told so
+abbrev pub stated : {A B : Type 0} → (A → B) → Result A Refusal → Outcome B
+stated told (Ok x) = answered (told x)
+stated told (Err r) = refusal r
+
 -- 6.2, 6.15, 6.16: the answer of reverse, enquire and commit
-abbrev pub reversed : Reversed → Outcome Sizes
-reversed (Answer n d k) = answered (record { numerator = n; denominator = d; steps = k })
-reversed (ReverseRefused r) = refusal r
+abbrev pub sizes_stated : Reversed → Sizes
+sizes_stated r = record { numerator = r.numerator; denominator = r.denominator; steps = r.steps }
+
+abbrev pub reversed : Result Reversed Refusal → Outcome Sizes
+reversed r = stated sizes_stated r
 
 -- 6.3: clear
-abbrev pub cleared_as : Cleared → Outcome (Unit {0})
-cleared_as Passed = answered tt
-cleared_as (ClearRefused r) = refusal r
+abbrev pub cleared_as : Result (Unit {0}) Refusal → Outcome (Unit {0})
+cleared_as r = stated (λ _. tt) r
 
 -- 6.4: compare
-abbrev pub compared : Compared → Outcome Verdict
-compared (Same k r) = answered (same_after k r)
-compared (Different k) = answered (different_after k)
-compared (CompareRefused r) = refusal r
+abbrev pub verdict_stated : Compared → Verdict
+verdict_stated (Same k r) = same_after k r
+verdict_stated (Different k) = different_after k
+
+abbrev pub compared : Result Compared Refusal → Outcome Verdict
+compared r = stated verdict_stated r
 
 -- 6.18: compare_signed
-abbrev pub compared_signed : ComparedSigned → Outcome SignedVerdict
-compared_signed (SignedSame k j) = answered (same_after_both k j)
-compared_signed (SignedDifferent k j) = answered (different_after_both k j)
-compared_signed (SignedRefused r) = refusal r
+abbrev pub signed_stated : ComparedSigned → SignedVerdict
+signed_stated (SignedSame k j) = same_after_both k j
+signed_stated (SignedDifferent k j) = different_after_both k j
+
+abbrev pub compared_signed : Result ComparedSigned Refusal → Outcome SignedVerdict
+compared_signed r = stated signed_stated r
 
 -- 6.6: chain
-abbrev pub chained : Chained → Outcome ChainAnswer
-chained (Listed k e b) = answered (listed_after k e b)
-chained (Unlisted k) = answered (unlisted_after k)
-chained (ChainRefused r) = refusal r
+abbrev pub chain_stated : Chained → ChainAnswer
+chain_stated (Listed k e b) = listed_after k e b
+chain_stated (Unlisted k) = unlisted_after k
+
+abbrev pub chained : Result Chained Refusal → Outcome ChainAnswer
+chained r = stated chain_stated r
 
 -- 6.10: the answer of remainder: how many moves, and the steps
 abbrev pub counted : Remainder Positive → Remainder ℕ
 counted (moves_after m k) = moves_after (length m) k
 counted (none_after k) = none_after k
 
-abbrev pub remaining : Remaining → Outcome (Remainder ℕ)
-remaining (Moves n k) = answered (moves_after n k)
-remaining (Nothing k) = answered (none_after k)
-remaining (RemainderRefused r) = refusal r
+abbrev pub remainder_stated : Remaining → Remainder ℕ
+remainder_stated (Moves n k) = moves_after n k
+remainder_stated (Nothing k) = none_after k
+
+abbrev pub remaining : Result Remaining Refusal → Outcome (Remainder ℕ)
+remaining r = stated remainder_stated r
 
 -- 6.7: check
-abbrev pub checked : Checked → Outcome Passage
-checked Joins = answered joins
-checked (Breaks k) = answered (breaks k)
-checked EndsElsewhere = answered ends_elsewhere
-checked (CheckRefused r) = refusal r
+abbrev pub passage_stated : Checked → Passage
+passage_stated Joins = joins
+passage_stated (Breaks k) = breaks k
+passage_stated EndsElsewhere = ends_elsewhere
+
+abbrev pub checked : Result Checked Refusal → Outcome Passage
+checked r = stated passage_stated r
 
 -- 6.8, 6.11, 6.17: packing, unpacking, bed and import: the number of bytes written
-abbrev pub packed_as : Packed → Outcome ℕ
-packed_as (Written k) = answered k
-packed_as (PackRefused r) = refusal r
+abbrev pub packed_as : Result ℕ Refusal → Outcome ℕ
+packed_as r = stated (λ k. k) r
 
 -- 6.14: the answer of ways: the number of words, and of bytes
 pub record Counts : Type 0 where
@@ -140,14 +148,15 @@ pub record Counts : Type 0 where
 abbrev pub counts : List Positive → Counts
 counts vs = record { words = length vs; bytes = length (listing_bytes vs) }
 
-abbrev pub listed_as : Ways → Outcome Counts
-listed_as (WordsListed w k) = answered (record { words = w; bytes = k })
-listed_as (WaysRefused r) = refusal r
+abbrev pub counts_stated : Ways → Counts
+counts_stated w = record { words = w.words; bytes = w.bytes }
+
+abbrev pub listed_as : Result Ways Refusal → Outcome Counts
+listed_as r = stated counts_stated r
 
 -- 6.19: the answer of tray: the number of logs
-abbrev pub tray_compared : TrayCompared → Outcome ℕ
-tray_compared (TrayAnswered n) = answered n
-tray_compared (TrayRefused r) = refusal r
+abbrev pub tray_compared : Result ℕ Refusal → Outcome ℕ
+tray_compared r = stated (λ n. n) r
 
 -- 3.2: how a reversing ends, by lengths: the answer that each ending of the model has
 abbrev pub stop_answer : Stop → StopAnswer

@@ -5,9 +5,10 @@ ghost use Rattle.numbering.specs.Refusals.{RefusalTold};
 
 use model::answers::{Pair, Place, Refusal, Triple};
 
-// `place` is what the place is: 0 none or the programs, 1 a pair, 2 a triple of the table, 3 a triple of the mirror, 4 the set. `count` of `number`, `a`, `b`
-// and `c` are the numbers to tell; the
-// others are 0.
+// `place` is what the place is: 0 none or the programs, 1 a pair, 2 a triple of the table, 3 a triple of the mirror, 4 the set. The first `count` of
+// `number`, `a`, `b` and `c` are the numbers to tell; the others are 0.
+// Kept (1): (a) C is told `number` and `place` as these numbers, which `numbers_told` states.
+// Kept (6): (a) C is told each of the four fields, so that they are no slice. `count` is what the reader's line goes by.
 #[derive(Clone, Copy)]
 pub struct RefusalNumbers {
     pub number: u8,
@@ -35,12 +36,11 @@ pub(crate) fn with_pair(number: u8, pair: Pair) -> RefusalNumbers
     ensures { RefusalTold result number (pair_of pair.a pair.b) }
 {
     RefusalNumbers {
-        number,
         place: 1,
         a: pair.a,
         b: pair.b,
-        c: 0,
         count: 3,
+        ..alone(number)
     }
 }
 
@@ -48,12 +48,12 @@ pub(crate) fn with_triple(number: u8, triple: Triple) -> RefusalNumbers
     ensures { RefusalTold result number (triple_of triple.a triple.b triple.c) }
 {
     RefusalNumbers {
-        number,
         place: 2,
         a: triple.a,
         b: triple.b,
         c: triple.c,
         count: 4,
+        ..alone(number)
     }
 }
 
@@ -61,12 +61,8 @@ pub(crate) fn with_mirror_triple(number: u8, triple: Triple) -> RefusalNumbers
     ensures { RefusalTold result number (mirror_triple_of triple.a triple.b triple.c) }
 {
     RefusalNumbers {
-        number,
         place: 3,
-        a: triple.a,
-        b: triple.b,
-        c: triple.c,
-        count: 4,
+        ..with_triple(number, triple)
     }
 }
 
@@ -74,12 +70,8 @@ pub(crate) fn of_set(number: u8) -> RefusalNumbers
     ensures { RefusalTold result number the_set }
 {
     RefusalNumbers {
-        number,
         place: 4,
-        a: 0,
-        b: 0,
-        c: 0,
-        count: 1,
+        ..alone(number)
     }
 }
 

@@ -2,13 +2,13 @@
 use mathlib.Core.Path.{◌≡◌, sym, ap, ◌∙◌}
 use mathlib.Core.List.{List}
 use Prim.Native.Nat.{ℕ}
+use Rattle.std.proofs.Common.{Ok, Err}
+use Rattle.std.specs.declared.result.Result.{Result}
 use lib.ListN.{length, take, drop}
 use lib.Seq.{take_at}
 use Rattle.writers.specs.Filling.{Fills}
 use Rattle.model.specs.declared.answers.Refusal.{Refusal}
 use Rattle.model.specs.declared.answers.Refusal.TheVariants.{AnswerShort}
-use Rattle.model.specs.declared.answers.Packed.{Packed}
-use Rattle.model.specs.declared.answers.Packed.TheVariants.{Written, Refused}
 use Rattle.model.specs.Presentation.{Presentation}
 use Rattle.model.specs.Word.{Word}
 use Rattle.model.specs.Outcome.{Outcome, answered, ◌>>=◌, mapped}
@@ -21,29 +21,29 @@ use Rattle.model.proofs.Outcomes.{still_refused}
 pub use Rattle.model.proofs.Fitted.{short_area, long_area}
 
 -- the promise: the result is the outcome's, the area is what the outcome leaves, and what is written reads back as the subject
-abbrev pub Kept : {A : Type 0} → Outcome A → (List ℕ → Outcome A) → Outcome (List ℕ) → List ℕ → Packed → List ℕ → Type 0
+abbrev pub Kept : {A : Type 0} → Outcome A → (List ℕ → Outcome A) → Outcome (List ℕ) → List ℕ → Result ℕ Refusal → List ℕ → Type 0
 Kept subject read outcome before r after =
     (packed_as r ≡ mapped length outcome) × ((after ≡ output_after (λ b. b) outcome before) × ReadsBack subject read (packed_as r) after)
 
 module _ {A : Type 0} (subject : Outcome A) (read : List ℕ → Outcome A) (outcome : Outcome (List ℕ)) (area : List ℕ) where
-  pub refused_keeps : (r : Refusal) → outcome ≡ refusal r → Kept subject read outcome area (Refused r) area
+  pub refused_keeps : (r : Refusal) → outcome ≡ refusal r → Kept subject read outcome area (Err r) area
   refused_keeps r e = (
     ap (mapped length) (sym e),
     (ap (λ o. output_after (λ b. b) o area) (sym e), tt),
   )
 
   pub answered_writes : (bytes after : List ℕ) (k : ℕ) → outcome ≡ answered bytes → length bytes ≡ k → after ≡ begins bytes area → read bytes ≡ subject
-      → Kept subject read outcome area (Written k) after
+      → Kept subject read outcome area (Ok k) after
   answered_writes bytes after k e n w back = (
     ap answered (sym n) ∙ ap (mapped length) (sym e),
     (w ∙ ap (λ o. output_after (λ b. b) o area) (sym e), ap read (ap (take k) w ∙ take_at bytes (drop (length bytes) area) k n) ∙ back),
   )
 
   -- of what a writer leaves
-  pub fills_keeps : (bytes : List ℕ) → outcome ≡ fitted (length area) bytes → read bytes ≡ subject → (r : Packed) (after : List ℕ) → Fills area bytes r after
-      → Kept subject read outcome area r after
-  fills_keeps bytes e back (Written k) after f = answered_writes bytes after k (e ∙ long_area (length area) bytes f.1) (sym f.0) f.2 back
-  fills_keeps bytes e back (Refused r) after f = rw (f.0, f.2) (refused_keeps AnswerShort (e ∙ short_area (length area) bytes f.1))
+  pub fills_keeps : (bytes : List ℕ) → outcome ≡ fitted (length area) bytes → read bytes ≡ subject
+      → (r : Result ℕ Refusal) (after : List ℕ) → Fills area bytes r after → Kept subject read outcome area r after
+  fills_keeps bytes e back (Ok k) after f = answered_writes bytes after k (e ∙ long_area (length area) bytes f.1) (sym f.0) f.2 back
+  fills_keeps bytes e back (Err r) after f = rw (f.0, f.2) (refused_keeps AnswerShort (e ∙ short_area (length area) bytes f.1))
 
 -- UNPACK A PROGRAM
 module _ (table program : List ℕ) (area : ℕ) where

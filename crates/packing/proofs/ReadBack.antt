@@ -10,7 +10,7 @@ use Rattle.model.specs.Presentation.{Presentation}
 use Rattle.model.specs.Word.{Word}
 use Rattle.model.specs.Outcome.{Outcome, answered, refused, ◌>>=◌, mapped}
 use Rattle.model.specs.Range.{AreBytes}
-use Rattle.model.specs.Areas.{output_after, ReadsBack}
+use Rattle.model.specs.Areas.{begins, output_after}
 use Rattle.model.specs.Images.{read_table, read_program, program_image, table_image, most_size}
 use Rattle.model.specs.Plain.{plain_program, read_plain_program, read_plain_table, plain_table}
 use Rattle.model.specs.Services.{fitted, program_under, plain_program_under, unpack_program, pack_program, pack_table, unpack_table}
@@ -18,7 +18,12 @@ use Rattle.model.proofs.Impossible.{impossible, answer_of, same_answer, not_refu
 use Rattle.images.proofs.RoundTrip.{table_reads_back, table_image_of, table_in_range, program_reads_back, program_image_of, program_in_range}
 use Rattle.plain_forms.proofs.PlainTrip.{plain_table_reads_back, plain_table_of, plain_program_reads_back, plain_program_of}
 use Rattle.packing.specs.RoundTrips.{Undone, PackPromise}
-use Rattle.packing.proofs.Packing.{long_area}
+use Rattle.packing.proofs.Packing.{Kept, refused_keeps, answered_writes, fills_keeps, long_area}
+use Rattle.writers.specs.Filling.{Fills}
+use Rattle.std.proofs.Common.{Ok, Err}
+use Rattle.std.specs.declared.result.Result.{Result}
+use Rattle.model.specs.declared.answers.Refusal.{Refusal}
+use Rattle.model.specs.Stated.{refusal, packed_as}
 
 -- THE BYTES WRITTEN ARE READ AS THE SUBJECT
 
@@ -117,9 +122,30 @@ module _ (there back : List ℕ → ℕ → Outcome (List ℕ)) (undoes : Undoes
       ap (take k) (a ∙ ap (λ o. output_after (λ b. b) o before) e) ∙ take_at image (drop (length image) before) k long in
       ap (λ l. back l room) taken ∙ undoes bytes bs (length before) image e room fits
 
-  -- what a service promises
-  pub promised : {A : Type 0} (here read : List ℕ → Outcome A) → (told ≡ mapped length (there bytes (length before)))
-      × ((after ≡ output_after (λ b. b) (there bytes (length before)) before) × ReadsBack (here bytes) read told after)
-      → PackPromise there back here read bytes before after told
-  promised here read p =
-      record { stated = p.0; answer_is = p.1.0; readable = p.1.1; undone = undone_by p.0 p.1.0 (there bytes (length before)) refl }
+-- THE PROMISE OF A SERVICE
+
+module _ {A : Type 0} (there back : List ℕ → ℕ → Outcome (List ℕ)) (undoes : Undoes there back) (here read : List ℕ → Outcome A) (given before : List ℕ) where
+  promised : (after : List ℕ) (r : Result ℕ Refusal) → Kept (here given) read (there given (length before)) before r after
+      → PackPromise there back here read given before after (packed_as r)
+  promised after r k =
+      record {
+        stated = k.0;
+        answer_is = k.1.0;
+        readable = k.1.1;
+        undone = undone_by there back undoes given before after (packed_as r) k.0 k.1.0 (there given (length before)) refl;
+      }
+
+  -- .. that refuses
+  pub promised_refused : (r : Refusal) → there given (length before) ≡ refusal r → PackPromise there back here read given before before (packed_as (Err r))
+  promised_refused r e = promised before (Err r) (refused_keeps (here given) read (there given (length before)) before r e)
+
+  -- .. that writes bytes
+  pub promised_written : (bytes after : List ℕ) (k : ℕ) → there given (length before) ≡ answered bytes → length bytes ≡ k → after ≡ begins bytes before
+      → read bytes ≡ here given → PackPromise there back here read given before after (packed_as (Ok k))
+  promised_written bytes after k e n w b =
+      promised after (Ok k) (answered_writes (here given) read (there given (length before)) before bytes after k e n w b)
+
+  -- .. that leaves what a writer does
+  pub promised_filled : (bytes : List ℕ) → there given (length before) ≡ fitted (length before) bytes → read bytes ≡ here given
+      → (r : Result ℕ Refusal) (after : List ℕ) → Fills before bytes r after → PackPromise there back here read given before after (packed_as r)
+  promised_filled bytes e b r after f = promised after r (fills_keeps (here given) read (there given (length before)) before bytes e b r after f)

@@ -8,17 +8,14 @@ ghost use Rattle.packing.specs.RoundTrips.{PackPromise};
 
 use cells::layout::CELLS;
 use images::forms::image_form;
-use images::tables::TableRead;
-use model::answers::Packed;
+use model::answers::Refusal;
 use plain_forms::reading::read_plain_table;
 use writers::tables::write_table;
 
-pub fn pack(plain: &[u8], answer: &mut [u8]) -> Packed
+pub fn pack(plain: &[u8], answer: &mut [u8]) -> Result<usize, Refusal>
     ensures { PackPromise pack_table unpack_table read_plain_table read_table plain.now answer.old answer.new (packed_as result) }
 {
     let mut cells = [0u8; CELLS];
-    match read_plain_table(plain, &mut cells) {
-        TableRead::Refused(refusal) => Packed::Refused(refusal),
-        TableRead::Table { size } => write_table(&cells, size, image_form(size), answer),
-    }
+    let size = read_plain_table(plain, &mut cells)?;
+    write_table(&cells, size, image_form(size), answer)
 }

@@ -8,17 +8,14 @@ ghost use Rattle.packing.specs.RoundTrips.{PackPromise};
 
 use cells::layout::CELLS;
 use images::forms::plain_form;
-use images::tables;
-use images::tables::TableRead;
-use model::answers::Packed;
+use images::tables::read_table;
+use model::answers::Refusal;
 use writers::tables::write_table;
 
-pub fn unpack(table: &[u8], answer: &mut [u8]) -> Packed
+pub fn unpack(table: &[u8], answer: &mut [u8]) -> Result<usize, Refusal>
     ensures { PackPromise unpack_table pack_table read_table read_plain_table table.now answer.old answer.new (packed_as result) }
 {
     let mut cells = [0u8; CELLS];
-    match tables::read_table(table, &mut cells) {
-        TableRead::Refused(refusal) => Packed::Refused(refusal),
-        TableRead::Table { size } => write_table(&cells, size, plain_form(), answer),
-    }
+    let size = read_table(table, &mut cells)?;
+    write_table(&cells, size, plain_form(), answer)
 }

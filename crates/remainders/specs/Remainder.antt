@@ -1,5 +1,6 @@
 -- What remainder makes of an ending and of two loaded programs, and what its answer means.
 use Rattle.std.specs.Prelude.{List, ◌≡◌, ℕ, length, take}
+use Rattle.std.specs.declared.result.Result.{Result}
 use Rattle.model.specs.Word.{Word, Positive}
 use Rattle.model.specs.Presentation.{Presentation}
 use Rattle.model.specs.Reversing.{reversing}
@@ -9,23 +10,24 @@ use Rattle.model.specs.Areas.{Compares, remainder_bytes, output_after, workspace
 use Rattle.model.specs.Stated.{counted, remaining}
 use Rattle.model.specs.declared.answers.Ending.{Ending}
 use Rattle.model.specs.declared.answers.Remaining.{Remaining}
+use Rattle.model.specs.declared.answers.Refusal.{Refusal}
 use Rattle.theory.specs.Remainders.{RemainderMeaning}
 use Rattle.engine.specs.Run.{Reverses}
 use Rattle.cells.specs.Stands.{Of}
 
 -- the result and the answer area that an outcome states
-pub record States (outcome : Outcome (Remainder Positive)) (before after : List ℕ) (r : Remaining) : Type 0 where
+pub record States (outcome : Outcome (Remainder Positive)) (before after : List ℕ) (r : Result Remaining Refusal) : Type 0 where
   pub result : remaining r ≡ mapped counted outcome
   pub area : after ≡ output_after remainder_bytes outcome before
 
-abbrev pub AnswerOf : Ending → List ℕ → List ℕ → List ℕ → Remaining → Type 0
+abbrev pub AnswerOf : Ending → List ℕ → List ℕ → List ℕ → Result Remaining Refusal → Type 0
 AnswerOf ending workspace before after r =
     (T : Presentation) (word : Word) (budget : ℕ) → Reverses T word budget workspace ending
     → States (remainder_of (length before) (reversing T budget (length workspace) word)) before after r
 
 -- two loaded programs, under every table that the cells stand for
 pub record Concludes (cells : List ℕ) (size : ℕ) (done pattern : List ℕ) (budget : ℕ) (workspace workspace' before after : List ℕ)
-    (r : Remaining) : Type 0 where
+    (r : Result Remaining Refusal) : Type 0 where
   pub workspace_left : workspace' ≡ workspace_after (remaining r) workspace
   pub states : (T : Presentation) → Of cells size T → (u v : Positive) → read_forward size done ≡ answered u → read_forward size pattern ≡ answered v
       → States (finishing T u v budget (length workspace) (length before)) before after r

@@ -10,13 +10,17 @@ use areas::bytes::{copy_bytes, wipe};
 use cells::layout::CELLS;
 use clearing::clearing::clear_cells;
 use images::programs::Signs;
-use loading::loading::{ProgramsRead, read_programs};
+use loading::loading::{Programs, read_programs};
 use loading::reversing::reverse_images;
-use model::answers::{Cleared, Ending, Refusal, Remaining};
+use model::answers::{Ending, Refusal, Remaining};
 use model::stops::stop_refusal;
 
 // What remainder makes of an ending, with the moves where they finish the pattern and fit.
-pub fn answer_ending(ending: Ending, workspace: &[u8], answer: &mut [u8]) -> Remaining
+pub fn answer_ending(
+    ending: Ending,
+    workspace: &[u8],
+    answer: &mut [u8],
+) -> Result<Remaining, Refusal>
     requires { Finishable workspace.now ending }
     ensures { AnswerOf ending workspace.now answer.old answer.new result }
 {
@@ -28,57 +32,45 @@ pub fn answer_ending(ending: Ending, workspace: &[u8], answer: &mut [u8]) -> Rem
             relations: _,
         } => {
             if denominator != 0 {
-                return Remaining::Nothing { steps };
+                return Ok(Remaining::Nothing { steps });
             }
             if answer.len() < numerator {
-                return Remaining::Refused(Refusal::AnswerShort);
+                return Err(Refusal::AnswerShort);
             }
-            copy_bytes(workspace, numerator, answer);
-            Remaining::Moves {
+            copy_bytes(&workspace[..numerator], answer);
+            Ok(Remaining::Moves {
                 count: numerator,
                 steps,
-            }
+            })
         }
-        Ending::Undefined { pair: _, steps } => Remaining::Nothing { steps },
-        Ending::Stopped(stop) => Remaining::Refused(stop_refusal(stop)),
+        Ending::Undefined { pair: _, steps } => Ok(Remaining::Nothing { steps }),
+        Ending::Stopped(stop) => Err(stop_refusal(stop)),
     }
 }
 
-// Two accepted forward programs, the part done and the pattern, which weigh `one` and `two`, under a table that was loaded. The workspace is
-// wiped, unless the weight check refused.
+// Two accepted forward programs, the part done and the pattern, under a table that was loaded. The workspace is wiped, unless the weight check refused.
 pub fn remainder_programs(
     cells: &[u8],
-    size: u8,
     done: &[u8],
-    firsts: u16,
     pattern: &[u8],
-    seconds: u16,
-    one: u16,
-    two: u16,
+    loaded: Programs,
     budget: u16,
     workspace: &mut [u8],
     answer: &mut [u8],
-) -> Remaining
-    requires programs { Forward cells.now size done.now firsts pattern.now seconds }
-    requires weights { Weigh cells.now size done.now one pattern.now two }
-    ensures { Concludes cells.now size done.now pattern.now budget workspace.old workspace.new
+) -> Result<Remaining, Refusal>
+    requires programs { Forward cells.now loaded.size done.now loaded.firsts pattern.now loaded.seconds }
+    requires weights { Weigh cells.now loaded.size done.now loaded.first_weight pattern.now loaded.second_weight }
+    ensures { Concludes cells.now loaded.size done.now pattern.now budget workspace.old workspace.new
         answer.old answer.new result }
 {
-    let clear = clear_cells(cells, size, budget, workspace);
-    match clear {
-        Cleared::Refused(refusal) => Remaining::Refused(refusal),
-        Cleared::Passed => {
-            if two < one {
-                return Remaining::Nothing { steps: 0 };
-            }
-            let ending = reverse_images(
-                cells, size, done, firsts, pattern, seconds, budget, workspace,
-            );
-            let result = answer_ending(ending, workspace, answer);
-            wipe(workspace);
-            result
-        }
+    clear_cells(cells, loaded.size, budget, workspace)?;
+    if loaded.second_weight < loaded.first_weight {
+        return Ok(Remaining::Nothing { steps: 0 });
     }
+    let ending = reverse_images(cells, done, pattern, loaded, budget, workspace);
+    let result = answer_ending(ending, workspace, answer);
+    wipe(workspace);
+    result
 }
 
 pub fn remainder(
@@ -88,32 +80,11 @@ pub fn remainder(
     allowance: u16,
     workspace: &mut [u8],
     answer: &mut [u8],
-) -> Remaining
+) -> Result<Remaining, Refusal>
     ensures { RemainderPromise table.now done.now pattern.now allowance workspace.old workspace.new
         answer.old answer.new (remaining result) }
 {
     let mut cells = [0u8; CELLS];
-    let read = read_programs(table, done, pattern, Signs::Forward, &mut cells);
-    match read {
-        ProgramsRead::Refused(refusal) => Remaining::Refused(refusal),
-        ProgramsRead::Programs {
-            size,
-            firsts,
-            seconds,
-            first_weight,
-            second_weight,
-        } => remainder_programs(
-            &cells,
-            size,
-            done,
-            firsts,
-            pattern,
-            seconds,
-            first_weight,
-            second_weight,
-            allowance,
-            workspace,
-            answer,
-        ),
-    }
+    let loaded = read_programs(table, done, pattern, Signs::Forward, &mut cells)?;
+    remainder_programs(&cells, done, pattern, loaded, allowance, workspace, answer)
 }

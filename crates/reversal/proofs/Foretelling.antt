@@ -41,7 +41,7 @@ module _ (area : ℕ) where
         let same : own ≡ z = cc in
         ap₂ (λ i j. i + j) (ap (λ y. y.numerator) (sym same)) (ap (λ y. y.denominator) (sym same))
 
-  of_ending : (e : Ending) → Foretells (sizes_of e) area (fraction_of area e) (λ z. committed_of z area e)
+  pub of_ending : (e : Ending) → Foretells (sizes_of e) area (fraction_of area e) (λ z. committed_of z area e)
   of_ending (finished n d k r) =
       record {
         answers = λ z h fits.

@@ -5,6 +5,7 @@ pub mod Foretelling
 pub mod EnquireService
 pub mod CommitService
 pub mod Answered
+pub mod MirrorRefused
 pub mod ReverseService
 pub mod ReadBackward
 pub mod LeftService

@@ -1,31 +1,21 @@
 -- What enquire makes of an ending, and what its answer says of reverse and commit.
-use Rattle.std.specs.Prelude.{List, ◌≡◌, ℕ, ◌+◌, ◌≤◌, ◌<◌, length, replicate}
-use Rattle.model.specs.Word.{Word}
-use Rattle.model.specs.Presentation.{Presentation}
-use Rattle.model.specs.Reversing.{reversing}
+use Rattle.std.specs.Prelude.{List, ◌≡◌, ℕ, ◌+◌, ◌≤◌, ◌<◌, length, Ok, Err}
+use Rattle.std.specs.declared.result.Result.{Result}
 use Rattle.model.specs.Outcome.{Place, unplaced, Outcome, answered, refused}
-use Rattle.model.specs.Images.{read_program}
-use Rattle.model.specs.Services.{Sizes, sizes, Fraction, reverse, sizes_of, commit, enquire}
-use Rattle.model.specs.Stated.{stop_refusal, reversed}
+use Rattle.model.specs.Services.{Sizes, sizes, Fraction, reverse, commit, enquire}
+use Rattle.model.specs.Stated.{stop_refusal}
 use Rattle.model.specs.declared.answers.Ending.{Ending}
 use Rattle.model.specs.declared.answers.Ending.TheVariants.{Finished, Undefined, Stopped}
 use Rattle.model.specs.declared.answers.Refusal.TheVariants.{OpenPair}
 use Rattle.model.specs.declared.answers.Reversed.{Reversed}
-use Rattle.model.specs.declared.answers.Reversed.TheVariants.{Answer, Refused}
-use Rattle.cells.specs.Stands.{Of}
+use Rattle.model.specs.declared.answers.Refusal.{Refusal}
 use Rattle.model.specs.Areas.{workspace_after}
 
 -- the answer that an ending is
-abbrev pub sizes_told : Ending → Reversed
-sizes_told (Finished n d k r) = Answer n d k
-sizes_told (Undefined p k) = Refused (OpenPair p)
-sizes_told (Stopped s) = Refused (stop_refusal s)
-
--- an accepted program: its sizes, under every table that the cells stand for, and a workspace all zero
-pub record ProgramEnquired (cells : List ℕ) (size : ℕ) (program : List ℕ) (budget : ℕ) (workspace workspace' : List ℕ) (r : Reversed) : Type 0 where
-  pub wiped : workspace' ≡ replicate (length workspace) 0
-  pub answers : (T : Presentation) → Of cells size T → (w : Word) → read_program size program ≡ answered w
-      → reversed r ≡ sizes_of (reversing T budget (length workspace) w)
+abbrev pub sizes_told : Ending → Result Reversed Refusal
+sizes_told (Finished n d k r) = Ok (record { numerator = n; denominator = d; steps = k })
+sizes_told (Undefined p k) = Err (OpenPair p)
+sizes_told (Stopped s) = Err (stop_refusal s)
 
 -- what an enquiry says of reverse, and of commit with numbers handed in, in an answer area of `area` bytes
 pub record Foretells (told : Outcome Sizes) (area : ℕ) (reversing : Outcome Fraction) (committing : Sizes → Outcome Fraction) : Type 0 where

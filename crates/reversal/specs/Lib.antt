@@ -2,7 +2,7 @@ pub mod Fraction
 pub mod Asked
 pub mod Endings
 pub mod Backward
-pub mod Answering
+pub mod Running
 pub mod Reverse
 pub mod Enquire
 pub mod Commit

@@ -1,4 +1,4 @@
-// What is asked of a program.
+// What a commit hands in.
 
 // The three numbers that a caller hands in, any of 64 bits.
 #[derive(Clone, Copy)]
@@ -6,12 +6,4 @@ pub struct Handed {
     pub numerator: u64,
     pub denominator: u64,
     pub steps: u64,
-}
-
-// Its reversing, its reversing from the finished end, or its reversing where the numbers handed in are its own.
-#[derive(Clone, Copy)]
-pub enum Asked {
-    Reverse,
-    LeftReverse,
-    Commit(Handed),
 }

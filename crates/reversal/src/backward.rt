@@ -1,27 +1,13 @@
-// What is read backward where a program is reversed from the finished end: the program, and the two words of an answer.
-ghost use Rattle.std.specs.Prelude.{◌≡◌, ◌+◌, ◌≤◌, length};
-ghost use Rattle.reversal.specs.Asked.{reads_backward};
+// The two words of an answer, read backward where a program is reversed from the finished end.
+ghost use Rattle.std.specs.Prelude.{◌≤◌, length};
 ghost use Rattle.reversal.specs.Backward.{WordsTurned};
 
-use crate::asked::Asked;
-use areas::bytes::turn_around;
-
-// Whether the program is read backward.
-pub fn reads_backward(asked: Asked) -> bool
-    ensures { result ≡ reads_backward asked }
-{
-    match asked {
-        Asked::Reverse => false,
-        Asked::LeftReverse => true,
-        Asked::Commit(_) => false,
-    }
-}
-
 // Turns the numerator around, then the denominator that follows it.
-pub fn turn_words(answer: &mut [u8], numerator: usize, denominator: usize)
-    requires { numerator + denominator ≤ length answer.old }
-    ensures { WordsTurned numerator denominator answer.old answer.new }
+pub fn turn_words(words: &mut [u8], numerator: usize)
+    requires { numerator ≤ length words.old }
+    ensures { WordsTurned numerator words.old words.new }
 {
-    turn_around(answer, numerator);
-    turn_around(&mut answer[numerator..], denominator);
+    let (first, second) = words.split_at_mut(numerator);
+    first.reverse();
+    second.reverse();
 }

@@ -1,54 +1,43 @@
 // What reverse, commit and left_reverse make of an ending.
 ghost use Rattle.std.specs.Prelude.{◌≡◌};
-ghost use Rattle.model.specs.Services.{agree};
+ghost use Rattle.model.specs.Services.{agree, committed_of, fraction_of};
+ghost use Rattle.model.specs.Stated.{sizes_stated};
 ghost use Rattle.engine.specs.Run.{Finishable};
-ghost use Rattle.reversal.specs.Asked.{handed, AnswerOf};
+ghost use Rattle.reversal.specs.Asked.{handed, backward_of, AnswerOf};
 ghost use Rattle.reversal.specs.Endings.{SomeReverses};
 
-use crate::asked::{Asked, Handed};
+use crate::asked::Handed;
 use crate::backward::turn_words;
+use crate::enquire::sizes_of;
 use crate::fraction::write_fraction;
 use model::answers::{Ending, Refusal, Reversed};
-use model::stops::stop_refusal;
 
 // What reverse makes of an ending, with the answer where it finished and fits.
-pub fn answer_ending(ending: Ending, workspace: &[u8], answer: &mut [u8]) -> Reversed
+pub fn answer_ending(
+    ending: Ending,
+    workspace: &[u8],
+    answer: &mut [u8],
+) -> Result<Reversed, Refusal>
     requires { Finishable workspace.now ending }
-    ensures { AnswerOf Asked.Reverse ending workspace.now answer.old answer.new result }
+    ensures { AnswerOf fraction_of ending workspace.now answer.old answer.new result }
 {
-    match ending {
-        Ending::Finished {
-            numerator,
-            denominator,
-            steps,
-            relations: _,
-        } => {
-            if answer.len() < numerator + denominator {
-                return Reversed::Refused(Refusal::AnswerShort);
-            }
-            write_fraction(workspace, numerator, denominator, answer);
-            Reversed::Answer {
-                numerator,
-                denominator,
-                steps,
-            }
-        }
-        Ending::Undefined { pair, steps: _ } => Reversed::Refused(Refusal::OpenPair(pair)),
-        Ending::Stopped(stop) => Reversed::Refused(stop_refusal(stop)),
+    let words = sizes_of(ending)?;
+    let end = words.numerator + words.denominator;
+    if answer.len() < end {
+        return Err(Refusal::AnswerShort);
     }
+    write_fraction(&workspace[..end], words.numerator, answer);
+    Ok(words)
 }
 
 // Whether they are those of a reversing that finished.
-pub fn agrees(numbers: Handed, numerator: usize, denominator: usize, steps: u16) -> bool
-    ensures { result ≡ agree (handed numbers) (record { numerator = numerator; denominator = denominator; steps = steps }) }
+// Kept (4): (a) the edits fewer_steps_accepted and denominator_not_compared are of these comparisons; a derived equality has no line for them.
+pub fn agrees(numbers: Handed, words: Reversed) -> bool
+    ensures { result ≡ agree (handed numbers) (sizes_stated words) }
 {
-    if numbers.numerator != numerator as u64 {
-        return false;
-    }
-    if numbers.denominator != denominator as u64 {
-        return false;
-    }
-    numbers.steps == steps as u64
+    numbers.numerator == words.numerator as u64
+        && numbers.denominator == words.denominator as u64
+        && numbers.steps == words.steps as u64
 }
 
 // What commit makes of an ending, with the answer where the numbers are its own and it fits.
@@ -57,56 +46,27 @@ pub fn commit_ending(
     numbers: Handed,
     workspace: &[u8],
     answer: &mut [u8],
-) -> Reversed
+) -> Result<Reversed, Refusal>
     requires { Finishable workspace.now ending }
-    ensures { AnswerOf (Asked.Commit numbers) ending workspace.now answer.old answer.new result }
+    ensures { AnswerOf (committed_of (handed numbers)) ending workspace.now answer.old answer.new result }
 {
-    let Ending::Finished {
-        numerator,
-        denominator,
-        steps,
-        relations: _,
-    } = ending
-    else {
-        return answer_ending(ending, workspace, answer);
-    };
-    if !agrees(numbers, numerator, denominator, steps) {
-        return Reversed::Refused(Refusal::OtherNumbers);
+    if !agrees(numbers, sizes_of(ending)?) {
+        return Err(Refusal::OtherNumbers);
     }
     answer_ending(ending, workspace, answer)
 }
 
 // What left_reverse makes of the ending of a word read backward: reverse's answer, with both words read backward again.
-pub fn answer_backward(ending: Ending, workspace: &[u8], answer: &mut [u8]) -> Reversed
+pub fn answer_backward(
+    ending: Ending,
+    workspace: &[u8],
+    answer: &mut [u8],
+) -> Result<Reversed, Refusal>
     requires { SomeReverses workspace.now ending }
-    ensures { AnswerOf Asked.LeftReverse ending workspace.now answer.old answer.new result }
+    ensures { AnswerOf backward_of ending workspace.now answer.old answer.new result }
 {
-    let result = answer_ending(ending, workspace, answer);
-    match result {
-        Reversed::Refused(refusal) => Reversed::Refused(refusal),
-        Reversed::Answer {
-            numerator,
-            denominator,
-            steps,
-        } => {
-            turn_words(answer, numerator, denominator);
-            Reversed::Answer {
-                numerator,
-                denominator,
-                steps,
-            }
-        }
-    }
-}
-
-// The answer, by what is asked.
-pub fn answer_asked(asked: Asked, ending: Ending, workspace: &[u8], answer: &mut [u8]) -> Reversed
-    requires { SomeReverses workspace.now ending }
-    ensures { AnswerOf asked ending workspace.now answer.old answer.new result }
-{
-    match asked {
-        Asked::Reverse => answer_ending(ending, workspace, answer),
-        Asked::LeftReverse => answer_backward(ending, workspace, answer),
-        Asked::Commit(numbers) => commit_ending(ending, numbers, workspace, answer),
-    }
+    let words = answer_ending(ending, workspace, answer)?;
+    let end = words.numerator + words.denominator;
+    turn_words(&mut answer[..end], words.numerator);
+    Ok(words)
 }

@@ -1,20 +1,15 @@
 // Enquire (specification 6.15): the lengths of N and D and the steps, with no answer area.
 ghost use Rattle.std.specs.Prelude.{◌≡◌};
-ghost use Rattle.model.specs.Services.{enquire};
 ghost use Rattle.model.specs.Stated.{reversed};
-ghost use Rattle.loading.specs.Loading.{ProgramRuns};
-ghost use Rattle.reversal.specs.Enquire.{sizes_told, ProgramEnquired, EnquirePromise};
+ghost use Rattle.reversal.specs.Enquire.{sizes_told, EnquirePromise};
 
+use crate::running::run_images;
 use areas::bytes::wipe;
-use cells::layout::CELLS;
-use images::programs::Signs;
-use loading::loading::{TableProgram, read_table_program};
-use loading::reversing::reverse_image;
 use model::answers::{Ending, Refusal, Reversed};
 use model::stops::stop_refusal;
 
 // What enquire makes of an ending.
-pub fn sizes_of(ending: Ending) -> Reversed
+pub fn sizes_of(ending: Ending) -> Result<Reversed, Refusal>
     ensures { result ≡ sizes_told ending }
 {
     match ending {
@@ -23,44 +18,25 @@ pub fn sizes_of(ending: Ending) -> Reversed
             denominator,
             steps,
             relations: _,
-        } => Reversed::Answer {
+        } => Ok(Reversed {
             numerator,
             denominator,
             steps,
-        },
-        Ending::Undefined { pair, steps: _ } => Reversed::Refused(Refusal::OpenPair(pair)),
-        Ending::Stopped(stop) => Reversed::Refused(stop_refusal(stop)),
+        }),
+        Ending::Undefined { pair, steps: _ } => Err(Refusal::OpenPair(pair)),
+        Ending::Stopped(stop) => Err(stop_refusal(stop)),
     }
 }
 
-// An accepted program under a table that was loaded; the workspace is wiped.
-pub fn enquire_program(
-    cells: &[u8],
-    size: u8,
+pub fn enquire(
+    table: &[u8],
     program: &[u8],
-    count: u16,
-    budget: u16,
+    allowance: u16,
     workspace: &mut [u8],
-) -> Reversed
-    requires { ProgramRuns cells.now size program.now count }
-    ensures { ProgramEnquired cells.now size program.now budget workspace.old workspace.new result }
-{
-    let ending = reverse_image(cells, size, program, count, false, budget, workspace);
-    wipe(workspace);
-    sizes_of(ending)
-}
-
-pub fn enquire(table: &[u8], program: &[u8], allowance: u16, workspace: &mut [u8]) -> Reversed
+) -> Result<Reversed, Refusal>
     ensures { EnquirePromise table.now program.now allowance workspace.old workspace.new (reversed result) }
 {
-    let mut cells = [0u8; CELLS];
-    let read = read_table_program(table, program, Signs::Any, &mut cells);
-    match read {
-        TableProgram::Refused(refusal) => Reversed::Refused(refusal),
-        TableProgram::Loaded {
-            size,
-            count,
-            weight: _,
-        } => enquire_program(&cells, size, program, count, allowance, workspace),
-    }
+    let ending = run_images(table, program, allowance, workspace)?;
+    wipe(workspace);
+    sizes_of(ending)
 }

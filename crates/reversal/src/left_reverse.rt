@@ -2,9 +2,10 @@
 ghost use Rattle.model.specs.Stated.{reversed};
 ghost use Rattle.reversal.specs.LeftReverse.{LeftPromise};
 
-use crate::answering::answer_images;
-use crate::asked::Asked;
-use model::answers::Reversed;
+use crate::endings::answer_backward;
+use crate::running::run_mirrored;
+use areas::bytes::wipe;
+use model::answers::{Refusal, Reversed};
 
 pub fn left_reverse(
     table: &[u8],
@@ -12,16 +13,12 @@ pub fn left_reverse(
     allowance: u16,
     workspace: &mut [u8],
     answer: &mut [u8],
-) -> Reversed
+) -> Result<Reversed, Refusal>
     ensures { LeftPromise table.now program.now allowance workspace.old workspace.new answer.old
         answer.new (reversed result) }
 {
-    answer_images(
-        table,
-        program,
-        Asked::LeftReverse,
-        allowance,
-        workspace,
-        answer,
-    )
+    let ending = run_mirrored(table, program, allowance, workspace)?;
+    let result = answer_backward(ending, workspace, answer);
+    wipe(workspace);
+    result
 }

@@ -1,7 +1,6 @@
 // The services reverse, enquire, commit and left_reverse.
 #![tactic(auto)]
 
-pub mod answering;
 pub mod asked;
 pub mod backward;
 pub mod commit;
@@ -10,3 +9,4 @@ pub mod enquire;
 pub mod fraction;
 pub mod left_reverse;
 pub mod reverse;
+pub mod running;

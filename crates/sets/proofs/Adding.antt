@@ -19,8 +19,8 @@ use Rattle.model.specs.declared.answers.Stop.TheVariants.{Room}
 use Rattle.model.proofs.Lists.{all_more}
 use Rattle.swaps.proofs.Putting.{word_length}
 use Rattle.sets.specs.declared.growing.Held.{Held}
-use Rattle.sets.specs.declared.growing.Grown.TheVariants.{TooLarge}
-use Rattle.sets.specs.Growing.{stopped_as, grown_as, Growing, Grew, StopsLong}
+use Rattle.sets.specs.declared.growing.SetFault.TheVariants.{TooLarge}
+use Rattle.sets.specs.Growing.{stopped_as, fault_as, Growing, Grew, StopsLong}
 use Rattle.sets.proofs.Spelling.{listing_both, bytes_after, used_is}
 
 module _ (n : ℕ) (area : List ℕ) (h : Held) (vs : List Positive) (g : Growing n area h vs) (count : ℕ) (inside : h.used + count ≤ length area)
@@ -42,7 +42,7 @@ module _ (n : ℕ) (area : List ℕ) (h : Held) (vs : List Positive) (g : Growin
     not_listed : outcome ≡ unless (leb most_words (length vs)) 22 (vs ++ (w ∷ []))
     not_listed = ap (λ t. cond t (answered vs) (unless (leb most_words (length vs)) 22 (vs ++ (w ∷ [])))) new
 
-    pub too_large : most_words ≤ h.words → (after : List Positive → Outcome (Unit {0})) → grown_as TooLarge ≡ (outcome >>= after)
+    pub too_large : most_words ≤ h.words → (after : List Positive → Outcome (Unit {0})) → fault_as TooLarge ≡ (outcome >>= after)
     too_large many after =
         let e : outcome ≡ refused 22 unplaced =
         not_listed ∙ ap (λ t. unless t 22 (vs ++ (w ∷ []))) (le-leb most_words (length vs) (omega (arith, g.counted))) in

@@ -8,6 +8,7 @@ use borrow.Author.Tests.{lt-ltb, le-ltb}
 use native.Mathlib.Decide.{dec_lt}
 use lib.ListN.{length, take, length-append}
 use lib.Seq.{take-length}
+use Rattle.std.specs.Prelude.{Result, Ok, Err}
 use Rattle.model.specs.Word.{Positive}
 use Rattle.model.specs.Presentation.{Presentation}
 use Rattle.model.specs.Enumeration.{range}
@@ -17,13 +18,11 @@ use Rattle.model.specs.Signed.{first_words, places_at, most_words, set_bytes, ta
 use Rattle.model.specs.declared.answers.Stop.TheVariants.{Room}
 use Rattle.model.specs.Images.{most_size}
 use Rattle.cells.specs.Stands.{Stands}
-use Rattle.sets.specs.declared.growing.Grown.{Grown}
 use Rattle.sets.specs.declared.growing.Held.{Held}
-use Rattle.sets.specs.declared.growing.Step.{Step}
-use Rattle.sets.specs.declared.growing.Step.TheVariants.{Going, Ended}
+use Rattle.sets.specs.declared.growing.SetFault.{SetFault}
 use Rattle.sets.specs.declared.places.Side.TheVariants.{Second, First}
 use Rattle.spans.specs.Ends.{HasEnd, EndFound}
-use Rattle.sets.specs.Growing.{stopped_as, grown_as, Growing, Grew, StepMeans}
+use Rattle.sets.specs.Growing.{stopped_as, fault_as, Growing, Grew, StepMeans}
 use Rattle.sets.specs.Places.{sided_pair, sided, LaterWord}
 use Rattle.sets.proofs.Spelling.{used_is, place_below, start_more, word_has_end, word_inside, word_placed, next_start}
 use Rattle.sets.proofs.FirstWords.{firsts, first_named, first_bytes}
@@ -147,26 +146,26 @@ module _ {T : Presentation} {budget room : ℕ} {vs : List Positive} {area : Lis
           }
 
       -- the pairs of the place were taken
-      module _ (after : List ℕ) (r : Step) (same : length area ≡ room) (kept : length after ≡ length area)
-          (means : StepMeans T.size after k.words (taken_pairs T budget (length area) (places_at k.place) k.words) r) where
-        at_room : StepMeans T.size after k.words (taken_pairs T budget room (places_at k.place) k.words) r
-        at_room = subst (λ i. StepMeans T.size after k.words (taken_pairs T budget i (places_at k.place) k.words) r) same means
+      module _ (after : List ℕ) (same : length area ≡ room) (kept : length after ≡ length area) where
+        -- what taking them does, by a result
+        abbrev Means : Result Held SetFault → Type 0
+        Means = StepMeans T.size after k.words (taken_pairs T budget (length area) (places_at k.place) k.words)
 
-        pub closing_ended : (g : Grown) → r ≡ Ended g → grown_as g ≡ told whole
-        closing_ended g e =
-            let ended : StepMeans T.size after k.words (taken_pairs T budget room (places_at k.place) k.words) (Ended g) =
-            subst (StepMeans T.size after k.words (taken_pairs T budget room (places_at k.place) k.words)) e at_room in
+        at_room : (r : Result Held SetFault) → Means r → StepMeans T.size after k.words (taken_pairs T budget room (places_at k.place) k.words) r
+        at_room r = subst (λ i. StepMeans T.size after k.words (taken_pairs T budget i (places_at k.place) k.words) r) same
+
+        pub closing_ended : (g : SetFault) → Means (Err g) → fault_as g ≡ told whole
+        closing_ended g means =
             let n : length after ≡ room = kept ∙ same in
-            ended (λ ws. told (grown_from T budget room (k.rounds - 1) (suc k.place) ws))
+            at_room (Err g) means (λ ws. told (grown_from T budget room (k.rounds - 1) (suc k.place) ws))
             (λ ws more few long.
             long_stops T budget room (k.rounds - 1) (suc k.place) ws (omega (arith, k.all, here)) (omega (arith, here)) (omega (arith, n)))
             ∙ (sym (told_then (taken_pairs T budget room (places_at k.place) k.words) (grown_from T budget room (k.rounds - 1) (suc k.place)))
             ∙ ap told (sym step))
 
-        pub closing_more : (h' : Held) → r ≡ Going h' → Closing T budget room vs after h' (end + 1)
-        closing_more h' e =
-            let g : Grew T.size after k.words (taken_pairs T budget room (places_at k.place) k.words) h' =
-            subst (StepMeans T.size after k.words (taken_pairs T budget room (places_at k.place) k.words)) e at_room in
+        pub closing_more : (h' : Held) → Means (Ok h') → Closing T budget room vs after h' (end + 1)
+        closing_more h' means =
+            let g : Grew T.size after k.words (taken_pairs T budget room (places_at k.place) k.words) h' = at_room (Ok h') means in
             let n : length g.words ≡ length k.words + length g.added = ap length g.extends ∙ length-append k.words g.added in
             record {
               place = suc k.place;

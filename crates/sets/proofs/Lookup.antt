@@ -1,18 +1,50 @@
 -- A word looked up among the listed ones, one after the other.
-use mathlib.Core.Path.{◌≡◌, refl, sym, ap, ◌∙◌}
-use mathlib.Core.List.{List, []}
-use mathlib.Core.Bool.{true, false, ◌||◌}
+use mathlib.Core.Path.{◌≡◌, refl, sym, ap, ap₂, ◌∙◌}
+use mathlib.Core.List.{List, [], ◌∷◌}
+use mathlib.Core.Bool.{Bool, true, false, ◌||◌, ◌&&◌}
 use Prim.Native.Nat.{ℕ, suc, ◌+◌, ◌-◌, ◌≤◌, ◌<◌}
 use native.Mathlib.Omega.{arith}
-use native.Mathlib.Decide.{dec_lt}
+use native.Mathlib.Decide.{ℕ_discrete, dec_lt}
+use borrow.Author.Tests.{eq-eqb, ne_eqb}
+use lib.Dec.{eqb}
+use lib.Pointwise.{pointwise}
 use lib.ListN.{length, take, drop, get_or, drop_of_length-le}
-use lib.Seq.{drop-cons, take-length}
+use lib.Seq.{drop-cons, take-length, take_all}
 use Rattle.model.specs.Word.{Positive}
 use Rattle.model.specs.Equivalence.{equal}
 use Rattle.model.specs.Signed.{is_listed, set_bytes}
+use Rattle.swaps.proofs.Comparing.{slices_equal}
 use Rattle.spans.specs.Ends.{HasEnd, EndFound}
 use Rattle.sets.specs.Listed.{Lists}
 use Rattle.sets.proofs.Spelling.{used_is, place_below, word_part, word_has_end, word_end_is, word_inside, next_start}
+
+-- two slices compared are two words compared, in either order
+pub equal_turned : (xs ys : List ℕ) (v : Bool) → pointwise eqb xs ys ≡ v → equal ys xs ≡ v
+equal_turned xs ys v h = turned ys xs ∙ (sym (slices_equal xs ys) ∙ h)
+  where
+    same : (a b : ℕ) → eqb a b ≡ eqb b a
+    same a b = go (ℕ_discrete a b)
+      where
+        go : Dec (a ≡ b) → eqb a b ≡ eqb b a
+        go (yes e) = eq-eqb a b e ∙ sym (eq-eqb b a (sym e))
+        go (no e) = ne_eqb a b e ∙ sym (ne_eqb b a (λ f. e (sym f)))
+
+    turned : (us vs : List ℕ) → equal us vs ≡ equal vs us
+    turned [] [] = refl
+    turned [] (v ∷ vs) = refl
+    turned (u ∷ us) [] = refl
+    turned (u ∷ us) (v ∷ vs) = ap₂ (λ s t. s && t) (same u v) (turned us vs)
+
+-- the listing alone
+pub front_lists : {n : ℕ} {area : List ℕ} {used : ℕ} {vs : List Positive} {listing : List ℕ} → Lists n area used vs → listing ≡ take used area
+    → Lists n listing (length listing) vs
+front_lists {n} {area} {used} {vs} {listing} l front =
+    record {
+      inside = omega arith;
+      bytes = take_all (length listing) listing (omega arith) ∙ (front ∙ l.bytes);
+      few = l.few;
+      named = l.named;
+    }
 
 -- the words before a place are none of it
 pub record Passed (vs : List Positive) (w : Positive) (at : ℕ) : Type 0 where

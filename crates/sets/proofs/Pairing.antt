@@ -6,7 +6,8 @@ use Prim.Native.Nat.{ℕ, ◌+◌, ◌-◌, ◌≤◌, ◌<◌}
 use native.Mathlib.Omega.{arith}
 use borrow.Author.Tests.{le-ltb}
 use lib.ListN.{length, take, drop, get_or, length-append, length-drop, length-take}
-use lib.Seq.{drop-drop, take-add, length-take-le}
+use lib.Seq.{take-add, take_at, drop_at, length-take-le}
+use Rattle.std.specs.Prelude.{Result}
 use Rattle.model.specs.Word.{Positive, positive, negative}
 use Rattle.model.specs.Presentation.{Presentation}
 use Rattle.model.specs.Range.{Lettered}
@@ -28,11 +29,13 @@ use Rattle.engine.proofs.Letters.{letters_append, letters_forward, length_letter
 use Rattle.engine.proofs.Loads.{front_of}
 use Rattle.engine.proofs.Lettering.{lettered_front, length_positive, length_negative}
 use Rattle.sets.specs.declared.words.Span.{Span}
+use Rattle.sets.specs.Words.{spanned}
 use Rattle.sets.specs.declared.growing.Held.{Held}
-use Rattle.sets.specs.declared.growing.Step.{Step}
-use Rattle.sets.specs.declared.growing.Grown.TheVariants.{OpenPair, Stopped as GrownStopped}
-use Rattle.sets.specs.Room.{Fit, Loaded, AtEnds, ReversesBehind}
-use Rattle.sets.specs.Growing.{stopped_as, grown_as, Growing, StepMeans, pair_word, after_pair, Paired}
+use Rattle.sets.specs.declared.growing.SetFault.{SetFault}
+use Rattle.sets.specs.declared.growing.SetFault.TheVariants.{OpenPair, Stopped as SetStopped}
+use Rattle.sets.specs.Room.{Fit, Loaded, AtEnds, PairReverses}
+use Rattle.sets.specs.Growing.{stopped_as, fault_as, Growing, StepMeans, pair_word, after_pair, Paired}
+use Rattle.sets.proofs.Rooms.{part_of_front}
 use Rattle.sets.proofs.Spelling.{used_is, word_named, word_part, word_inside}
 
 -- ENDINGS
@@ -77,12 +80,12 @@ module _ {n : ℕ} {no_room : List ℕ} where
   numerator_of (stopped s) h l count d k r e = impossible (cc)
 
 module _ (vs : List Positive) (after : List Positive → Outcome (Unit {0})) where
-  open_met : (e : Ending) (p : Pair) (k : ℕ) → Undefined p k ≡ ending_answer e → grown_as (OpenPair p) ≡ (added_to vs e >>= after)
+  open_met : (e : Ending) (p : Pair) (k : ℕ) → Undefined p k ≡ ending_answer e → fault_as (OpenPair p) ≡ (added_to vs e >>= after)
   open_met (finished w o i j) p k e = impossible (cc)
-  open_met (open_pair a b i) p k e = let f : p ≡ record { a = a; b = b } = cc in ap (λ q. grown_as (OpenPair q)) f
+  open_met (open_pair a b i) p k e = let f : p ≡ record { a = a; b = b } = cc in ap (λ q. fault_as (OpenPair q)) f
   open_met (stopped s) p k e = impossible (cc)
 
-  stop_met : (e : Ending) (s : Stop) → Stopped s ≡ ending_answer e → grown_as (GrownStopped s) ≡ (added_to vs e >>= after)
+  stop_met : (e : Ending) (s : Stop) → Stopped s ≡ ending_answer e → fault_as (SetStopped s) ≡ (added_to vs e >>= after)
   stop_met (finished w o i j) s e = impossible (cc)
   stop_met (open_pair a b i) s e = impossible (cc)
   stop_met (stopped no_budget) s e = let f : s ≡ Budget = cc in ap stopped_as f
@@ -131,55 +134,65 @@ module _ {cells area : List ℕ} {h : Held} {u v : Span} {T : Presentation} {vs 
   v_inside =
       omega (arith, word_inside T.size area h.used vs q.growing.lists p.b q.second.inside, q.second.at_is, q.second.letters_is)
 
-  module _ (u_fits : u.letters ≤ length area - h.used) (v_fits : v.letters ≤ length area - h.used - u.letters) where
-    pub pair_fits : Fit area h.used u v
-    pair_fits = record { u_before = u_inside; v_before = v_inside; fit = omega (arith, inside) }
+  module _ {listing room : List ℕ} (front : listing ≡ take h.used area) (back : room ≡ drop h.used area) (u_fits : u.letters ≤ length room)
+      (v_fits : v.letters ≤ length room - u.letters) where
+    listing_length : length listing ≡ h.used
+    listing_length = ap length front ∙ length-take-le h.used area inside
 
-    module _ {mid : List ℕ} (l : Loaded area h.used u v mid) where
-      pub pair_at_ends : AtEnds cells (drop h.used mid) u.letters v.letters T x y
+    room_length : length room ≡ length area - h.used
+    room_length = ap length back ∙ length-drop h.used area
+
+    -- a listed word is the same in the listing
+    listed_word : (s : Span) → s.at + s.letters ≤ h.used → spanned s listing ≡ spanned s area
+    listed_word s within = ap (spanned s) front ∙ part_of_front area s.at s.letters h.used within
+
+    pub pair_fits : Fit listing room u v
+    pair_fits =
+        record { u_before = omega (arith, u_inside, listing_length); v_before = omega (arith, v_inside, listing_length); fit = omega arith }
+
+    module _ {mid : List ℕ} (l : Loaded listing room u v mid) where
+      pub pair_at_ends : AtEnds cells mid u.letters v.letters T x y
       pair_at_ends =
-          let d : length (drop h.used mid) ≡ length mid - h.used = length-drop h.used mid in
-          let n = l.same_length in
-          let k : h.used + (length (drop h.used mid) - v.letters) ≡ length mid - v.letters = omega (arith, d, n, inside) in
           record {
             stands = q.stands;
-            fit = omega (arith, d, n, inside);
+            fit = omega (arith, l.same_length);
             u_is =
                 l.start
+                ∙ (listed_word u u_inside
                 ∙ (ap₂ (λ i j. take i (drop j area)) q.first.letters_is q.first.at_is
-                ∙ word_part T.size area h.used vs q.growing.lists p.a q.first.inside);
+                ∙ word_part T.size area h.used vs q.growing.lists p.a q.first.inside));
             v_is =
-                drop-drop (length (drop h.used mid) - v.letters) h.used mid
-                ∙ (ap (λ i. drop i mid) k
-                ∙ (l.end
+                l.end
+                ∙ (listed_word v v_inside
                 ∙ (ap₂ (λ i j. take i (drop j area)) q.second.letters_is q.second.at_is
-                ∙ word_part T.size area h.used vs q.growing.lists p.b q.second.inside)));
+                ∙ word_part T.size area h.used vs q.growing.lists p.b q.second.inside));
             u_named = word_named T.size area h.used vs q.growing.lists p.a q.first.inside;
             v_named = word_named T.size area h.used vs q.growing.lists p.b q.second.inside;
           }
 
-      module _ {after : List ℕ} {r : EndingAnswer} (b : ReversesBehind cells mid h.used u.letters v.letters steps after r) where
-        after_length : length after ≡ length area
-        after_length = b.same_length ∙ l.same_length
+      module _ {after : List ℕ} {r : EndingAnswer} (n : length after ≡ length mid)
+          (b : PairReverses cells mid u.letters v.letters steps after r) where
+        after_length : length (listing ++ after) ≡ length area
+        after_length = length-append listing after ∙ omega (arith, listing_length, room_length, n, l.same_length, inside)
 
-        reverses : Reverses T (pair_word vs p) steps (drop h.used after) r
-        reverses = b.reverses T x y pair_at_ends
+        reverses : Reverses T (pair_word vs p) steps after r
+        reverses = b T x y pair_at_ends
 
         abbrev pub ending : Ending
-        ending = reversing T steps (length (drop h.used after)) (pair_word vs p)
+        ending = reversing T steps (length after) (pair_word vs p)
 
         pair_outcome : after_pair T steps (length area) vs p ≡ added_to vs ending
         pair_outcome =
-            let w : length area - h.used ≡ length (drop h.used after) = omega (arith, length-drop h.used after, after_length) in
+            let w : length area - h.used ≡ length after = omega (arith, room_length, n, l.same_length) in
             in_room ∙ ap (λ k. added_to vs (reversing T steps k (pair_word vs p))) w
 
-        pub pair_growing : Growing T.size after h vs
+        pub pair_growing : Growing T.size (listing ++ after) h vs
         pair_growing =
             record {
               lists =
                   record {
                     inside = omega (arith, inside, after_length);
-                    bytes = b.front ∙ (l.front ∙ q.growing.lists.bytes);
+                    bytes = take_at listing after h.used listing_length ∙ (front ∙ q.growing.lists.bytes);
                     few = q.growing.lists.few;
                     named = q.growing.lists.named;
                   };
@@ -188,21 +201,24 @@ module _ {cells area : List ℕ} {h : Held} {u v : Span} {T : Presentation} {vs 
             }
 
         pub pair_open : (o : Pair) (k : ℕ) → r ≡ Undefined o k → (go : List Positive → Outcome (Unit {0}))
-            → grown_as (OpenPair o) ≡ (after_pair T steps (length area) vs p >>= go)
+            → fault_as (OpenPair o) ≡ (after_pair T steps (length area) vs p >>= go)
         pair_open o k e go = open_met vs go ending o k (sym e ∙ reverses.answer) ∙ ap (λ t. t >>= go) (sym pair_outcome)
 
         pub pair_stopped : (s : Stop) → r ≡ Stopped s → (go : List Positive → Outcome (Unit {0}))
-            → grown_as (GrownStopped s) ≡ (after_pair T steps (length area) vs p >>= go)
+            → fault_as (SetStopped s) ≡ (after_pair T steps (length area) vs p >>= go)
         pair_stopped s e go = stop_met vs go ending s (sym e ∙ reverses.answer) ∙ ap (λ t. t >>= go) (sym pair_outcome)
 
-        pub pair_numerator : (count d k j : ℕ) → r ≡ Finished count d k j → Numerator T.size (drop h.used after) ending count
+        pub pair_numerator : (count d k j : ℕ) → r ≡ Finished count d k j → Numerator T.size after ending count
         pair_numerator count d k j e = numerator_of ending reverses.holds reverses.named count d k j (sym e ∙ reverses.answer)
 
-        pub pair_room : {count : ℕ} → Numerator T.size (drop h.used after) ending count → h.used + count ≤ length after
-        pair_room m = omega (arith, m.fits, length-drop h.used after, inside, after_length)
+        pub pair_behind : {count : ℕ} (m : Numerator T.size after ending count) → take count (drop h.used (listing ++ after)) ≡ m.word
+        pair_behind {count} m = ap (take count) (drop_at listing after h.used listing_length) ∙ m.stands
+
+        pub pair_room : {count : ℕ} → Numerator T.size after ending count → h.used + count ≤ length (listing ++ after)
+        pair_room m = omega (arith, m.fits, length-append listing after, listing_length)
 
         -- the numerator listed
-        pub pair_added : {count : ℕ} (m : Numerator T.size (drop h.used after) ending count) (last : List ℕ) (st : Step)
+        pub pair_added : {count : ℕ} (m : Numerator T.size after ending count) (last : List ℕ) (st : Result Held SetFault)
             → StepMeans T.size last vs (added_to vs (finished m.word [] 0 0)) st
             → StepMeans T.size last vs (after_pair T steps (length area) vs p) st
         pair_added m last st means =

@@ -7,16 +7,15 @@ use native.Mathlib.Decide.{dec_lt}
 use mathlib.Core.Bool.{true, false}
 use borrow.Author.Tests.{ltb-true, ltb-false, leb-true, leb-false}
 use lib.ListN.{length, length-append}
+use Rattle.std.specs.Prelude.{Result, Ok, Err}
 use Rattle.model.specs.Word.{Positive}
 use Rattle.model.specs.Presentation.{Presentation}
 use Rattle.model.specs.Enumeration.{Two}
 use Rattle.model.specs.Outcome.{Outcome, ◌>>=◌}
 use Rattle.model.specs.Signed.{places_at, taken_pairs}
 use Rattle.sets.specs.declared.words.Span.{Span}
-use Rattle.sets.specs.declared.growing.Grown.{Grown}
 use Rattle.sets.specs.declared.growing.Held.{Held}
-use Rattle.sets.specs.declared.growing.Step.{Step}
-use Rattle.sets.specs.declared.growing.Step.TheVariants.{Going, Ended}
+use Rattle.sets.specs.declared.growing.SetFault.{SetFault}
 use Rattle.sets.specs.declared.places.Side.{Side}
 use Rattle.sets.specs.declared.places.Side.TheVariants.{Second, First}
 use Rattle.spans.specs.Ends.{EndFound}
@@ -28,8 +27,9 @@ use Rattle.sets.proofs.Taking.{then_assoc, taken_both, stops_before, Taking, tak
 
 -- a step after growing went on
 step_then : {n : ℕ} {mid : List ℕ} {vs : List Positive} {o : Outcome (List Positive)} {h : Held} (g : Grew n mid vs o h) (after : List ℕ)
-    (more : List Positive → Outcome (List Positive)) (r : Step) → StepMeans n after g.words (more g.words) r → StepMeans n after vs (o >>= more) r
-step_then {vs} g after more (Going h') next =
+    (more : List Positive → Outcome (List Positive)) (r : Result Held SetFault) → StepMeans n after g.words (more g.words) r
+    → StepMeans n after vs (o >>= more) r
+step_then {vs} g after more (Ok h') next =
     record {
       words = next.words;
       is = ap (λ o. o >>= more) g.is ∙ next.is;
@@ -37,7 +37,7 @@ step_then {vs} g after more (Going h') next =
       added = g.added ++ next.added;
       extends = next.extends ∙ (ap (λ l. l ++ next.added) g.extends ∙ append_assoc vs g.added next.added);
     }
-step_then {vs} g after more (Ended x) next =
+step_then {vs} g after more (Err x) next =
     let n : length g.words ≡ length vs + length g.added = ap length g.extends ∙ length-append vs g.added in
     λ go stops. next go (λ ws longer few long. stops ws (omega arith) few long) ∙ sym (ap (λ o. (o >>= more) >>= go) g.is)
 
@@ -84,36 +84,30 @@ module _ {cells old : List ℕ} {start : Held} {later : Span} {T : Presentation}
         both First l o = (l, o)
 
 -- all pairs of a place, where those with the later word second were taken
-module _ (cells area : List ℕ) (start : Held) (later : Span) (budget : ℕ) (mid : List ℕ) (first : Step) (same : length mid ≡ length area)
-    (means : PlacesMean (sided Second) cells area start later budget mid first) where
+module _ (cells area : List ℕ) (start : Held) (later : Span) (budget : ℕ) (mid : List ℕ) (same : length mid ≡ length area) where
   abbrev taken : Presentation → List Two → List Positive → Outcome (List Positive)
   taken T = taken_pairs T budget (length area)
 
   both_parts : (T : Presentation) (m : ℕ) (vs : List Positive) → taken T (places_at m) vs ≡ (taken T (sided Second m) vs >>= taken T (sided First m))
   both_parts T m vs = taken_both T budget (length area) (sided Second m) (sided First m) vs
 
-  pub place_ended : {g : Grown} → first ≡ Ended g → PlacesMean places_at cells area start later budget mid (Ended g)
-  place_ended {g} e T vs m w go stops =
-      let ended : StepMeans T.size mid vs (taken T (sided Second m) vs) (Ended g) =
-      subst (StepMeans T.size mid vs (taken T (sided Second m) vs)) e (means T vs m w) in
+  pub place_ended : (g : SetFault) → PlacesMean (sided Second) cells area start later budget mid (Err g)
+      → PlacesMean places_at cells area start later budget mid (Err g)
+  place_ended g means T vs m w go stops =
       let long : StopsLong (length mid) vs (λ ws. taken T (sided First m) ws >>= go) =
       subst (λ i. StopsLong i vs (λ ws. taken T (sided First m) ws >>= go)) (sym same)
       (stops_before T budget (length area) vs vs (sided First m) go (omega arith) (subst (λ i. StopsLong i vs go) same stops)) in
-      ended (λ ws. taken T (sided First m) ws >>= go) long
+      means T vs m w (λ ws. taken T (sided First m) ws >>= go) long
       ∙ (sym (then_assoc (taken T (sided Second m) vs) (taken T (sided First m)) go) ∙ ap (λ o. o >>= go) (sym (both_parts T m vs)))
 
-  module _ {h : Held} (e : first ≡ Going h) where
-    half : {T : Presentation} {vs : List Positive} {m : ℕ} → LaterWord cells area start later T vs m
-        → Grew T.size mid vs (taken T (sided Second m) vs) h
-    half {T} {vs} {m} w = subst (StepMeans T.size mid vs (taken T (sided Second m) vs)) e (means T vs m w)
-
+  module _ {h : Held} (means : PlacesMean (sided Second) cells area start later budget mid (Ok h)) where
     pub place_half : Later cells area start later → Later cells mid h later
-    place_half (T, vs, m, w) = (T, (half w).words, m, still_later w (half w))
+    place_half (T, vs, m, w) = (T, (means T vs m w).words, m, still_later w (means T vs m w))
 
-    pub place_taken : (after : List ℕ) (r : Step) → PlacesMean (sided First) cells mid h later budget after r
+    pub place_taken : (after : List ℕ) (r : Result Held SetFault) → PlacesMean (sided First) cells mid h later budget after r
         → PlacesMean places_at cells area start later budget after r
     place_taken after r next T vs m w =
-        let g = half w in
+        let g = means T vs m w in
         subst (λ o. StepMeans T.size after vs o r) (sym (both_parts T m vs))
         (step_then g after (taken T (sided First m)) r
         (subst (λ i. StepMeans T.size after g.words (taken_pairs T budget i (sided First m) g.words) r) same (next T g.words m (still_later w g))))

@@ -4,8 +4,10 @@ use mathlib.Core.List.{List, [], ◌∷◌, ◌++◌, append-nil}
 use Prim.Native.Nat.{ℕ, zero, suc, ◌+◌, ◌-◌, ◌≤◌}
 use native.Mathlib.Omega.{arith}
 use lib.ListN.{length, take, drop, length-append, length-drop, drop_of_length-le}
-use lib.Seq.{take_all, take-take, take_at, drop_at, drop-drop, length-take-le}
-use Rattle.model.specs.Areas.{written}
+use lib.Seq.{take-take, take-append-le, take_at, drop_at, drop-drop, length-take-le}
+use Rattle.areas.proofs.Parts.{part_back}
+use borrow.Rule.Slice.PartMut.{put_mid}
+use Rattle.model.specs.Areas.{begins}
 use Rattle.model.specs.Word.{Positive, positive, negative, inverse}
 use Rattle.model.specs.Presentation.{Presentation}
 use Rattle.model.specs.declared.answers.Ending.{Ending as EndingAnswer}
@@ -20,88 +22,62 @@ use Rattle.sets.specs.declared.words.Span.{Span}
 use Rattle.sets.specs.Words.{spanned}
 use Rattle.sets.specs.Room.{Fit, Loaded, AtEnds}
 
--- the part of an area from a place on
-pub part_whole : (kept : ℕ) (xs : List ℕ) → drop kept xs ≡ take (length xs - kept) (drop kept xs)
-part_whole kept xs = sym (take_all (length xs - kept) (drop kept xs) (omega (arith, length-drop kept xs)))
-
 -- a part of the first bytes
-part_of_front : (xs : List ℕ) (from count k : ℕ) → from + count ≤ k → take count (drop from (take k xs)) ≡ take count (drop from xs)
+pub part_of_front : (xs : List ℕ) (from count k : ℕ) → from + count ≤ k → take count (drop from (take k xs)) ≡ take count (drop from xs)
 part_of_front xs zero count k h = take-take count k xs (omega arith)
 part_of_front xs (suc from) count zero h = absurd (omega arith)
 part_of_front [] (suc from) count (suc k) h = refl
 part_of_front (x ∷ xs) (suc from) count (suc k) h = part_of_front xs from count k (omega arith)
 
--- bytes put at a place
-module _ (area : List ℕ) (at : ℕ) (bytes : List ℕ) (inside : at + length bytes ≤ length area) where
-  front_length : length (take at area) ≡ at
-  front_length = length-take-le at area (omega arith)
-
-  written_front : take at (written area at bytes) ≡ take at area
-  written_front = take_at (take at area) (bytes ++ drop (at + length bytes) area) at front_length
-
-  written_behind : drop at (written area at bytes) ≡ bytes ++ drop (at + length bytes) area
-  written_behind = drop_at (take at area) (bytes ++ drop (at + length bytes) area) at front_length
-
-  written_length : length (written area at bytes) ≡ length area
-  written_length =
-      length-append (take at area) (bytes ++ drop (at + length bytes) area)
-      ∙ omega (arith, front_length, length-append bytes (drop (at + length bytes) area), length-drop (at + length bytes) area)
-
-module _ (area mid after : List ℕ) (used : ℕ) (u v : Span) (f : Fit area used u v)
-    (to_start : mid ≡ written area used (spanned u area)) (to_end : after ≡ written mid (length mid - v.letters) (spanned v mid)) where
+module _ (listing room mid part after : List ℕ) (u v : Span) (f : Fit listing room u v) (to_start : mid ≡ begins (spanned u listing) room)
+    (to_end : part ≡ begins (spanned v listing) (take (length mid - (length mid - v.letters)) (drop (length mid - v.letters) mid)))
+    (is : after ≡ put_mid (length mid - v.letters) (length mid - (length mid - v.letters)) mid part) where
   abbrev first : List ℕ
-  first = spanned u area
+  first = spanned u listing
 
   abbrev second : List ℕ
-  second = spanned v mid
+  second = spanned v listing
+
+  abbrev end : ℕ
+  end = length mid - v.letters
 
   first_length : length first ≡ u.letters
-  first_length = word_length area u.at u.letters (omega (arith, f.u_before, f.fit))
-
-  first_fits : used + length first ≤ length area
-  first_fits = omega (arith, first_length, f.fit)
-
-  mid_length : length mid ≡ length area
-  mid_length = ap length to_start ∙ written_length area used first first_fits
+  first_length = word_length listing u.at u.letters f.u_before
 
   second_length : length second ≡ v.letters
-  second_length = word_length mid v.at v.letters (omega (arith, f.v_before, f.fit, mid_length))
+  second_length = word_length listing v.at v.letters f.v_before
 
-  second_fits : length mid - v.letters + length second ≤ length mid
-  second_fits = omega (arith, second_length, mid_length, f.fit)
+  mid_length : length mid ≡ length room
+  mid_length =
+      ap length to_start ∙ (length-append first (drop (length first) room) ∙ omega (arith, length-drop (length first) room, first_length, f.fit))
 
-  mid_front : take used mid ≡ take used area
-  mid_front = ap (take used) to_start ∙ written_front area used first first_fits
+  inside : end ≤ length mid
+  inside = omega arith
 
-  after_front : take (length mid - v.letters) after ≡ take (length mid - v.letters) mid
-  after_front = ap (take (length mid - v.letters)) to_end ∙ written_front mid (length mid - v.letters) second second_fits
+  part_is : part ≡ second
+  part_is =
+      let rest = take (length mid - end) (drop end mid) in
+      to_end
+      ∙ (ap (λ l. second ++ l) (drop_of_length-le rest {i = length second}
+      (omega (arith, second_length, length-take-le (length mid - end) (drop end mid) (omega (arith, length-drop end mid)), mid_length, f.fit)))
+      ∙ append-nil second)
 
-  after_length : length after ≡ length mid
-  after_length = ap length to_end ∙ written_length mid (length mid - v.letters) second second_fits
+  whole : after ≡ take end mid ++ second
+  whole = is ∙ (part_back end mid part inside ∙ ap (λ l. take end mid ++ l) part_is)
 
-  pub pair_loaded : Loaded area used u v after
+  pub pair_loaded : Loaded listing room u v after
   pair_loaded =
-      let end : length mid - v.letters ≡ length after - v.letters = omega (arith, after_length) in
+      let front : length (take end mid) ≡ end = length-take-le end mid inside in
+      let long : length after ≡ length mid = ap length whole ∙ (length-append (take end mid) second ∙ omega (arith, front, second_length, mid_length, f.fit)) in
+      let place : length after - v.letters ≡ length mid - v.letters = omega (arith, long) in
       record {
-        same_length = after_length ∙ mid_length;
-        front =
-            sym (take-take used (length mid - v.letters) after (omega (arith, mid_length, f.fit)))
-            ∙ (ap (take used) after_front ∙ (take-take used (length mid - v.letters) mid (omega (arith, mid_length, f.fit)) ∙ mid_front));
+        same_length = long ∙ mid_length;
         start =
-            sym (part_of_front after used u.letters (length mid - v.letters) (omega (arith, mid_length, f.fit)))
-            ∙ (ap (λ l. take u.letters (drop used l)) after_front
-            ∙ (part_of_front mid used u.letters (length mid - v.letters) (omega (arith, mid_length, f.fit))
-            ∙ (ap (λ l. take u.letters (drop used l)) to_start
-            ∙ (ap (take u.letters) (written_behind area used first first_fits)
-            ∙ take_at first (drop (used + length first) area) u.letters first_length))));
-        end =
-            ap (λ k. drop k after) (sym end)
-            ∙ (ap (drop (length mid - v.letters)) to_end
-            ∙ (written_behind mid (length mid - v.letters) second second_fits
-            ∙ (ap (λ l. second ++ l) (drop_of_length-le mid {i = length mid - v.letters + length second} (omega (arith, second_length, mid_length, f.fit)))
-            ∙ (append-nil second
-            ∙ (sym (part_of_front mid v.at v.letters used f.v_before)
-            ∙ (ap (spanned v) mid_front ∙ part_of_front area v.at v.letters used f.v_before))))));
+            ap (take u.letters) whole
+            ∙ (take-append-le u.letters (take end mid) second (omega (arith, front, mid_length, f.fit))
+            ∙ (take-take u.letters end mid (omega (arith, mid_length, f.fit))
+            ∙ (ap (take u.letters) to_start ∙ take_at first (drop (length first) room) u.letters first_length)));
+        end = ap (λ k. drop k after) place ∙ (ap (drop end) whole ∙ drop_at (take end mid) second end front);
       }
 
 -- the word at the room's start inverted: both are loaded

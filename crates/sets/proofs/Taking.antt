@@ -6,6 +6,7 @@ use Prim.Native.Nat.{ℕ, suc, ◌+◌, ◌-◌, ◌≤◌, ◌<◌}
 use native.Mathlib.Omega.{arith}
 use borrow.Author.Tests.{lt-ltb}
 use lib.ListN.{length, take, length-append}
+use Rattle.std.specs.Prelude.{Result, Ok, Err}
 use Rattle.model.specs.Word.{Positive}
 use Rattle.model.specs.Presentation.{Presentation}
 use Rattle.model.specs.Reversing.{no_room, stopped, reversing}
@@ -13,10 +14,8 @@ use Rattle.model.specs.Enumeration.{range, Two}
 use Rattle.model.specs.Outcome.{Outcome, answered, refused, ◌>>=◌}
 use Rattle.model.specs.Signed.{set_bytes, added_to, taken_pairs}
 use Rattle.model.specs.declared.answers.Stop.TheVariants.{Room}
-use Rattle.sets.specs.declared.growing.Grown.{Grown}
 use Rattle.sets.specs.declared.growing.Held.{Held}
-use Rattle.sets.specs.declared.growing.Step.{Step}
-use Rattle.sets.specs.declared.growing.Step.TheVariants.{Going, Ended}
+use Rattle.sets.specs.declared.growing.SetFault.{SetFault}
 use Rattle.spans.specs.Ends.{HasEnd, EndFound}
 use Rattle.sets.specs.Listed.{Placed}
 use Rattle.sets.specs.Growing.{stopped_as, Growing, Grew, StopsLong, StepMeans, pair_word, after_pair}
@@ -124,26 +123,26 @@ module _ {T : Presentation} {budget room : ℕ} {vs : List Positive} {pair : ℕ
         k.left ∙ ap (λ n. taken_pairs T budget room (map pair (range k.passed n)) k.words) e
 
     -- the pair was taken
-    module _ (after : List ℕ) (r : Step) (same : length area ≡ room) (kept : length after ≡ length area)
-        (means : StepMeans T.size after k.words (after_pair T budget (length area) k.words (pair k.passed)) r) where
-      at_room : StepMeans T.size after k.words (after_pair T budget room k.words (pair k.passed)) r
-      at_room = subst (λ i. StepMeans T.size after k.words (after_pair T budget i k.words (pair k.passed)) r) same means
+    module _ (after : List ℕ) (same : length area ≡ room) (kept : length after ≡ length area) where
+      -- what taking it does, by a result
+      abbrev Means : Result Held SetFault → Type 0
+      Means = StepMeans T.size after k.words (after_pair T budget (length area) k.words (pair k.passed))
 
-      pub taking_ended : (g : Grown) → r ≡ Ended g → StepMeans T.size after vs whole (Ended g)
-      taking_ended g e go stops =
-          let ended : StepMeans T.size after k.words (after_pair T budget room k.words (pair k.passed)) (Ended g) =
-          subst (StepMeans T.size after k.words (after_pair T budget room k.words (pair k.passed))) e at_room in
+      at_room : (r : Result Held SetFault) → Means r → StepMeans T.size after k.words (after_pair T budget room k.words (pair k.passed)) r
+      at_room r = subst (λ i. StepMeans T.size after k.words (after_pair T budget i k.words (pair k.passed)) r) same
+
+      pub taking_ended : (f : SetFault) → Means (Err f) → StepMeans T.size after vs whole (Err f)
+      taking_ended f means go stops =
           let n : length after ≡ room = kept ∙ same in
           let later : StopsLong (length after) k.words (λ ws. taken_pairs T budget room rest ws >>= go) =
           subst (λ i. StopsLong i k.words (λ ws. taken_pairs T budget room rest ws >>= go)) (sym n)
           (stops_before T budget room vs k.words rest go (omega (arith, words_length)) (subst (λ i. StopsLong i vs go) n stops)) in
-          ended (λ ws. taken_pairs T budget room rest ws >>= go) later
+          at_room (Err f) means (λ ws. taken_pairs T budget room rest ws >>= go) later
           ∙ (sym (then_assoc (after_pair T budget room k.words (pair k.passed)) (taken_pairs T budget room rest) go) ∙ ap (λ o. o >>= go) (sym step))
 
-      pub taking_more : (h' : Held) → r ≡ Going h' → (end : ℕ) → EndFound area at end → Taking T budget room vs pair total after h' (end + 1)
-      taking_more h' e end f =
-          let g : Grew T.size after k.words (after_pair T budget room k.words (pair k.passed)) h' =
-          subst (StepMeans T.size after k.words (after_pair T budget room k.words (pair k.passed))) e at_room in
+      pub taking_more : (h' : Held) → Means (Ok h') → (end : ℕ) → EndFound area at end → Taking T budget room vs pair total after h' (end + 1)
+      taking_more h' means end f =
+          let g : Grew T.size after k.words (after_pair T budget room k.words (pair k.passed)) h' = at_room (Ok h') means in
           record {
             passed = suc k.passed;
             within = on;

@@ -1,5 +1,5 @@
 -- What listing one word more comes to, and what taking one pair of listed words does.
-use Rattle.std.specs.Prelude.{List, [], ◌++◌, ◌≡◌, ℕ, ◌≤◌, ◌<◌, length, get_or, take, drop}
+use Rattle.std.specs.Prelude.{List, [], ◌++◌, ◌≡◌, ℕ, ◌≤◌, ◌<◌, length, get_or, take, drop, Result, Ok, Err}
 use Rattle.model.specs.Word.{Word, Positive, positive, negative}
 use Rattle.model.specs.Presentation.{Presentation}
 use Rattle.model.specs.Range.{Lettered}
@@ -14,11 +14,9 @@ use Rattle.model.specs.declared.answers.Place.TheVariants.{Set}
 use Rattle.model.specs.declared.answers.Refusal.TheVariants.{AllowanceUsed, WorkspaceShort, SetOpenPair, SetTooLarge}
 use Rattle.cells.specs.Stands.{Stands}
 use Rattle.sets.specs.declared.words.Span.{Span}
-use Rattle.sets.specs.declared.growing.Grown.{Grown}
-use Rattle.sets.specs.declared.growing.Grown.TheVariants.{Closed, OpenPair, TooLarge, Stopped}
 use Rattle.sets.specs.declared.growing.Held.{Held}
-use Rattle.sets.specs.declared.growing.Step.{Step}
-use Rattle.sets.specs.declared.growing.Step.TheVariants.{Going, Ended}
+use Rattle.sets.specs.declared.growing.SetFault.{SetFault}
+use Rattle.sets.specs.declared.growing.SetFault.TheVariants.{OpenPair, TooLarge, Stopped}
 use Rattle.sets.specs.Listed.{Lists, Placed}
 
 -- the outcome that each answer states: 21, 22, and 11 and 12 of the set
@@ -26,11 +24,14 @@ abbrev pub stopped_as : StopAnswer → Outcome (Unit {0})
 stopped_as Budget = refusal (AllowanceUsed Set)
 stopped_as Room = refusal (WorkspaceShort Set)
 
-abbrev pub grown_as : Grown → Outcome (Unit {0})
-grown_as Closed = answered tt
-grown_as (OpenPair p) = refusal (SetOpenPair p)
-grown_as TooLarge = refusal SetTooLarge
-grown_as (Stopped s) = stopped_as s
+abbrev pub fault_as : SetFault → Outcome (Unit {0})
+fault_as (OpenPair p) = refusal (SetOpenPair p)
+fault_as TooLarge = refusal SetTooLarge
+fault_as (Stopped s) = stopped_as s
+
+abbrev pub grown_as : Result (Unit {0}) SetFault → Outcome (Unit {0})
+grown_as (Ok closed) = answered tt
+grown_as (Err f) = fault_as f
 
 -- the words listed so far, with letters among n
 pub record Growing (n : ℕ) (area : List ℕ) (h : Held) (vs : List Positive) : Type 0 where
@@ -54,13 +55,13 @@ abbrev pub StopsLong : ℕ → List Positive → (List Positive → Outcome (Uni
 StopsLong room vs after = (ws : List Positive) → length vs < length ws → length ws ≤ most_words → room < set_bytes ws → after ws ≡ stopped_as Room
 
 -- growing has ended: whatever comes after the outcome, the answer is that of the whole
-abbrev pub StepMeans : ℕ → List ℕ → List Positive → Outcome (List Positive) → Step → Type 0
-StepMeans n area vs outcome (Going h) = Grew n area vs outcome h
-StepMeans n area vs outcome (Ended g) =
-    (after : List Positive → Outcome (Unit {0})) → StopsLong (length area) vs after → grown_as g ≡ (outcome >>= after)
+abbrev pub StepMeans : ℕ → List ℕ → List Positive → Outcome (List Positive) → Result Held SetFault → Type 0
+StepMeans n area vs outcome (Ok h) = Grew n area vs outcome h
+StepMeans n area vs outcome (Err f) =
+    (after : List Positive → Outcome (Unit {0})) → StopsLong (length area) vs after → fault_as f ≡ (outcome >>= after)
 
 -- the word of so many letters behind the listed ones, as a numerator
-abbrev pub AddMeans : List ℕ → Held → ℕ → List ℕ → Step → Type 0
+abbrev pub AddMeans : List ℕ → Held → ℕ → List ℕ → Result Held SetFault → Type 0
 AddMeans area h count after r =
     (n : ℕ) (vs : List Positive) → Growing n area h vs → (w : Positive) → take count (drop h.used area) ≡ w → Lettered n (positive w)
     → StepMeans n after vs (added_to vs (finished w [] 0 0)) r
@@ -83,7 +84,7 @@ pub record Paired (cells area : List ℕ) (h : Held) (u v : Span) (T : Presentat
 abbrev pub Pairs : List ℕ → List ℕ → Held → Span → Span → Type 0
 Pairs cells area h u v = (T : Presentation) × (vs : List Positive) × (p : Two) × Paired cells area h u v T vs p
 
-abbrev pub PairMeans : List ℕ → List ℕ → Held → Span → Span → ℕ → List ℕ → Step → Type 0
+abbrev pub PairMeans : List ℕ → List ℕ → Held → Span → Span → ℕ → List ℕ → Result Held SetFault → Type 0
 PairMeans cells area h u v budget after r =
     (T : Presentation) (vs : List Positive) (p : Two) → Paired cells area h u v T vs p
     → StepMeans T.size after vs (after_pair T budget (length area) vs p) r

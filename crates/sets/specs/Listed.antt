@@ -1,5 +1,5 @@
 -- The listed words: from the area's start on, one after the other, a zero byte after each.
-use Rattle.std.specs.Prelude.{List, [], Bool, ◌≡◌, ℕ, ◌≤◌, ◌<◌, length, get_or, take, drop}
+use Rattle.std.specs.Prelude.{List, [], Bool, ◌≡◌, ℕ, ◌≤◌, ◌<◌, length, get_or, take}
 use Rattle.model.specs.Word.{Positive, positive}
 use Rattle.model.specs.Range.{All, Lettered}
 use Rattle.model.specs.Ways.{listing_bytes}
@@ -17,9 +17,9 @@ pub record Lists (n : ℕ) (area : List ℕ) (used : ℕ) (vs : List Positive) :
 abbrev pub Listing : List ℕ → ℕ → Type 0
 Listing area used = (n : ℕ) × (vs : List Positive) × Lists n area used vs
 
--- whether the word behind them is one of them
-abbrev pub ListedMeans : List ℕ → ℕ → ℕ → Bool → Type 0
-ListedMeans area used count r = (n : ℕ) (vs : List Positive) → Lists n area used vs → r ≡ is_listed (take count (drop used area)) vs
+-- whether a word is one of those that make up the listing
+abbrev pub ListedMeans : List ℕ → List ℕ → Bool → Type 0
+ListedMeans listing word r = (n : ℕ) (vs : List Positive) → Lists n listing (length listing) vs → r ≡ is_listed word vs
 
 -- a word of the list, by its place there: where it begins, and its length
 pub record Placed (vs : List Positive) (i : ℕ) (s : Span) : Type 0 where

@@ -1,5 +1,5 @@
 -- What taking the pairs of one place does.
-use Rattle.std.specs.Prelude.{List, map, Bool, ℕ, suc, leb, ltb, length}
+use Rattle.std.specs.Prelude.{List, map, Bool, ℕ, suc, leb, ltb, length, Result}
 use Rattle.model.specs.Word.{Positive}
 use Rattle.model.specs.Presentation.{Presentation}
 use Rattle.model.specs.Enumeration.{range, Two}
@@ -7,7 +7,7 @@ use Rattle.model.specs.Signed.{taken_pairs}
 use Rattle.cells.specs.Stands.{Stands}
 use Rattle.sets.specs.declared.words.Span.{Span}
 use Rattle.sets.specs.declared.growing.Held.{Held}
-use Rattle.sets.specs.declared.growing.Step.{Step}
+use Rattle.sets.specs.declared.growing.SetFault.{SetFault}
 use Rattle.sets.specs.declared.places.Side.{Side}
 use Rattle.sets.specs.declared.places.Side.TheVariants.{Second, First}
 use Rattle.sets.specs.Listed.{Placed}
@@ -45,7 +45,7 @@ abbrev pub Later : List ℕ → List ℕ → Held → Span → Type 0
 Later cells area h later = (T : Presentation) × (vs : List Positive) × (m : ℕ) × LaterWord cells area h later T vs m
 
 -- some pairs of its place were taken
-abbrev pub PlacesMean : (ℕ → List Two) → List ℕ → List ℕ → Held → Span → ℕ → List ℕ → Step → Type 0
+abbrev pub PlacesMean : (ℕ → List Two) → List ℕ → List ℕ → Held → Span → ℕ → List ℕ → Result Held SetFault → Type 0
 PlacesMean pairs cells area h later budget after r =
     (T : Presentation) (vs : List Positive) (m : ℕ) → LaterWord cells area h later T vs m
     → StepMeans T.size after vs (taken_pairs T budget (length area) (pairs m) vs) r

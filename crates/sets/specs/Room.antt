@@ -9,18 +9,17 @@ use Rattle.cells.specs.Stands.{Stands}
 use Rattle.sets.specs.declared.words.Span.{Span}
 use Rattle.sets.specs.Words.{spanned}
 
--- both words stand before the room, and fit there together
-pub record Fit (area : List ℕ) (used : ℕ) (u v : Span) : Type 0 where
-  pub u_before : u.at + u.letters ≤ used
-  pub v_before : v.at + v.letters ≤ used
-  pub fit : used + (u.letters + v.letters) ≤ length area
+-- both words stand in the listing, and fit into the room together
+pub record Fit (listing room : List ℕ) (u v : Span) : Type 0 where
+  pub u_before : u.at + u.letters ≤ length listing
+  pub v_before : v.at + v.letters ≤ length listing
+  pub fit : u.letters + v.letters ≤ length room
 
--- one stands at the room's start and the other at its end, and no byte before the room has changed
-pub record Loaded (before : List ℕ) (used : ℕ) (u v : Span) (after : List ℕ) : Type 0 where
+-- one stands at the room's start and the other at its end
+pub record Loaded (listing before : List ℕ) (u v : Span) (after : List ℕ) : Type 0 where
   pub same_length : length after ≡ length before
-  pub front : take used after ≡ take used before
-  pub start : take u.letters (drop used after) ≡ spanned u before
-  pub end : drop (length after - v.letters) after ≡ spanned v before
+  pub start : take u.letters after ≡ spanned u listing
+  pub end : drop (length after - v.letters) after ≡ spanned v listing
 
 -- the words u and v of a table in the cells stand at a room's start and end
 pub record AtEnds (cells room : List ℕ) (left right : ℕ) (T : Presentation) (u v : Positive) : Type 0 where
@@ -34,16 +33,7 @@ pub record AtEnds (cells room : List ℕ) (left right : ℕ) (T : Presentation) 
 abbrev pub PairAtEnds : List ℕ → List ℕ → ℕ → ℕ → Type 0
 PairAtEnds cells room left right = (T : Presentation) × (u v : Positive) × AtEnds cells room left right T u v
 
--- .. of the room behind the first bytes
-abbrev pub PairBehind : List ℕ → List ℕ → ℕ → ℕ → ℕ → Type 0
-PairBehind cells area used left right = PairAtEnds cells (drop used area) left right
-
 -- the inverse of u, then v, was reversed
 abbrev pub PairReverses : List ℕ → List ℕ → ℕ → ℕ → ℕ → List ℕ → EndingAnswer → Type 0
 PairReverses cells room left right budget after r =
     (T : Presentation) (u v : Positive) → AtEnds cells room left right T u v → Reverses T (negative u ++ positive v) budget after r
-
-pub record ReversesBehind (cells before : List ℕ) (used left right budget : ℕ) (after : List ℕ) (r : EndingAnswer) : Type 0 where
-  pub same_length : length after ≡ length before
-  pub front : take used after ≡ take used before
-  pub reverses : PairReverses cells (drop used before) left right budget (drop used after) r

@@ -4,26 +4,17 @@ ghost use Rattle.model.specs.Ways.{listing_bytes};
 ghost use Rattle.model.specs.Signed.{first_words};
 ghost use Rattle.sets.specs.Listed.{Listing, ListedMeans};
 
-use crate::words::{Span, same_word};
 use spans::ends::word_end;
 
-// Whether the word of so many letters that stands behind the listed ones is one of them.
-pub fn is_listed(area: &[u8], used: usize, count: usize) -> bool
-    requires { Listing area.now used × (used + count ≤ length area.now) }
-    ensures { ListedMeans area.now used count result }
+// Whether a word is one of the listed ones.
+pub fn is_listed(listing: &[u8], word: &[u8]) -> bool
+    requires { Listing listing.now (length listing.now) }
+    ensures { ListedMeans listing.now word.now result }
 {
-    let new = Span {
-        at: used,
-        letters: count,
-    };
     let mut at: usize = 0;
-    while at < used {
-        let end = word_end(area, at);
-        let word = Span {
-            at,
-            letters: end - at,
-        };
-        if same_word(area, new, word) {
+    while at < listing.len() {
+        let end = word_end(listing, at);
+        if listing[at..end] == word[..] {
             return true;
         }
         at = end + 1;
@@ -38,11 +29,9 @@ pub fn write_first(area: &mut [u8], size: u8)
     ensures words { take (1 + 2 * size) area.new ≡ listing_bytes (first_words size) }
 {
     area[0] = 0;
-    let mut a: u8 = 0;
-    while a < size {
+    for a in 0..size {
         let at = 1 + 2 * (a as usize);
         area[at] = a + 1;
         area[at + 1] = 0;
-        a += 1;
     }
 }

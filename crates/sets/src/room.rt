@@ -1,22 +1,22 @@
 // One reversing in the room that the listed words leave: of the inverse of a listed word, then a listed word.
-ghost use Rattle.std.specs.Prelude.{◌≡◌, ◌≤◌, length};
-ghost use Rattle.sets.specs.Room.{Fit, Loaded, PairBehind, PairAtEnds, PairReverses, ReversesBehind};
+ghost use Rattle.std.specs.Prelude.{◌≡◌, length};
+ghost use Rattle.sets.specs.Room.{Fit, Loaded, PairAtEnds, PairReverses};
 
 use crate::words::Span;
-use areas::bytes::copy_on;
+use areas::bytes::copy_bytes;
 use engine::gap::Gap;
 use engine::run::reversing;
 use engine::words::invert;
 use model::answers::Ending;
 
-// Copies a word to the room's start and a word to its end.
-pub fn load_pair(area: &mut [u8], used: usize, u: Span, v: Span)
-    requires { Fit area.old used u v }
-    ensures { Loaded area.old used u v area.new }
+// Copies a listed word to the room's start and one to its end.
+pub fn load_pair(listing: &[u8], room: &mut [u8], u: Span, v: Span)
+    requires { Fit listing.now room.old u v }
+    ensures { Loaded listing.now room.old u v room.new }
 {
-    copy_on(area, u.at, u.letters, used);
-    let end = area.len();
-    copy_on(area, v.at, v.letters, end - v.letters);
+    copy_bytes(&listing[u.at..u.at + u.letters], room);
+    let end = room.len() - v.letters;
+    copy_bytes(&listing[v.at..v.at + v.letters], &mut room[end..]);
 }
 
 // Inverts the word of `left` letters at the room's start; then it and the word of `right` letters at the room's end are reversed.
@@ -25,7 +25,7 @@ pub fn reverse_pair(cells: &[u8], room: &mut [u8], left: usize, right: usize, bu
     ensures length { length room.new ≡ length room.old }
     ensures reverses { PairReverses cells.now room.old left right budget room.new result }
 {
-    invert(room, left);
+    invert(&mut room[..left]);
     let end = room.len();
     reversing(
         cells,
@@ -36,19 +36,4 @@ pub fn reverse_pair(cells: &[u8], room: &mut [u8], left: usize, right: usize, bu
         },
         budget,
     )
-}
-
-// The same in the room behind the first `used` bytes, which stay.
-pub fn reverse_behind(
-    cells: &[u8],
-    area: &mut [u8],
-    used: usize,
-    left: usize,
-    right: usize,
-    budget: u16,
-) -> Ending
-    requires { (used ≤ length area.old) × PairBehind cells.now area.old used left right }
-    ensures { ReversesBehind cells.now area.old used left right budget area.new result }
-{
-    reverse_pair(cells, &mut area[used..], left, right, budget)
 }

@@ -18,14 +18,18 @@ use Rattle.engine.proofs.Letters.{letters_append}
 use Rattle.cells.specs.Stands.{Serves, Of}
 use Rattle.loading.proofs.Programs.{byte_letters}
 
+-- an area in which a word was inverted behind a place is as long as it was
+pub whole_length : (before : List ℕ) (kept count : ℕ) (part after : List ℕ) → kept ≤ length before → after ≡ take kept before ++ part
+    → Inverted (drop kept before) count part → length after ≡ length before
+whole_length before kept count part after inside put i =
+    ap length put ∙ (length-append (take kept before) part
+    ∙ omega (arith, length-take-le kept before inside, i.same_length, length-drop kept before, inside))
+
 -- the inverse of w stands from `right` on, then v, up to the end
 module _ (size : ℕ) (few : size ≤ most_size) (w v : Word) (pw : ProgramInRange size w) (pv : ProgramInRange size v) (start turned : List ℕ) (right m n : ℕ)
     (wm : length w ≡ m) (vn : length v ≡ n)
     (fit : right + (m + n) ≡ length start) (part : List ℕ) (i : Inverted (drop right (written start right (plain_program w))) m part)
     (t : turned ≡ take right (written start right (plain_program w)) ++ part) where
-  unpacked : List ℕ
-  unpacked = written start right (plain_program w)
-
   plain_long : (x : Word) → length (plain_program x) ≡ length x
   plain_long x = length-map x byte
 

@@ -3,6 +3,7 @@ use mathlib.Core.Path.{◌≡◌, refl, sym, ap, subst, ◌∙◌}
 use mathlib.Core.List.{List, ◌++◌}
 use Prim.Native.Nat.{ℕ}
 use lib.ListN.{length}
+use Rattle.std.specs.Prelude.{Result, Ok, Err}
 use Rattle.model.specs.Word.{Word, inverse}
 use Rattle.model.specs.Presentation.{Presentation}
 use Rattle.model.specs.Enumeration.{triples}
@@ -20,8 +21,7 @@ use Rattle.model.specs.declared.answers.Ending.TheVariants.{Finished, Undefined,
 use Rattle.model.specs.declared.answers.Refusal.{Refusal}
 use Rattle.model.specs.declared.answers.Refusal.TheVariants.{OpenPair}
 use Rattle.model.specs.declared.answers.Compared.{Compared}
-use Rattle.model.specs.declared.answers.Compared.TheVariants.{Same, Different, Refused}
-use Rattle.model.specs.declared.answers.ComparedSigned.TheVariants.{Refused as SignedRefused}
+use Rattle.model.specs.declared.answers.Compared.TheVariants.{Same, Different}
 use Rattle.model.proofs.Outcomes.{still_refused, goes_on}
 use Rattle.theory.specs.Signed.{ComparisonSigned}
 use Rattle.theory.proofs.SignedComparison.{comparison_signed}
@@ -40,10 +40,10 @@ use Rattle.signed_comparing.specs.Service.{after_first_as, SignedSays}
 
 -- THE SECOND REVERSING
 
-pub after_stated : (k : ℕ) (c : Compared) → compared_signed (after_first_as k c) ≡ mapped (after_first k) (compared c)
-after_stated k (Same j r) = refl
-after_stated k (Different j) = refl
-after_stated k (Refused r) = refl
+pub after_stated : (k : ℕ) (c : Result Compared Refusal) → compared_signed (after_first_as k c) ≡ mapped (after_first k) (compared c)
+after_stated k (Ok (Same j r)) = refl
+after_stated k (Ok (Different j)) = refl
+after_stated k (Err r) = refl
 
 module _ (cells : List ℕ) (T : Presentation) (s : Stands cells T) (word : Word) (budget : ℕ) (workspace : List ℕ) where
   -- what a finished reversing left
@@ -61,22 +61,22 @@ module _ (cells : List ℕ) (T : Presentation) (s : Stands cells T) (word : Word
       }
 
 module _ (T : Presentation) (word : Word) (budget : ℕ) (workspace : List ℕ) where
-  pub settled_finished : (n d k r : ℕ) (p : Reverses T word budget workspace (Finished n d k r)) (c : Compared)
+  pub settled_finished : (n d k r : ℕ) (p : Reverses T word budget workspace (Finished n d k r)) (c : Result Compared Refusal)
       → compared c ≡ forward_verdict T (done T word budget workspace n d k r p).N (done T word budget workspace n d k r p).D budget (length workspace)
       → compared_signed (after_first_as k c) ≡ signed_of T budget (length workspace) (reversing T budget (length workspace) word)
   settled_finished n d k r p c e =
       let q = done T word budget workspace n d k r p in
       after_stated k c ∙ ap (mapped (after_first k)) e ∙ ap (signed_of T budget (length workspace)) (sym q.is)
 
-  pub settled_open : (p : Pair) (k : ℕ) → Reverses T word budget workspace (Undefined p k) → compared_signed (SignedRefused (OpenPair p)) ≡ signed_of T budget
+  pub settled_open : (p : Pair) (k : ℕ) → Reverses T word budget workspace (Undefined p k) → compared_signed (Err (OpenPair p)) ≡ signed_of T budget
       (length workspace) (reversing T budget (length workspace) word)
   settled_open p k q = sym (ap (signed_of T budget (length workspace)) (met T word budget workspace p k q))
 
-  pub settled_stopped : (s : StopAnswer) → Reverses T word budget workspace (Stopped s) → compared_signed (SignedRefused (stop_refusal s)) ≡ signed_of T budget
+  pub settled_stopped : (s : StopAnswer) → Reverses T word budget workspace (Stopped s) → compared_signed (Err (stop_refusal s)) ≡ signed_of T budget
       (length workspace) (reversing T budget (length workspace) word)
   settled_stopped s q =
       let h = halted T word budget workspace s q in
-      ap (λ x. compared_signed (SignedRefused (stop_refusal x))) (sym h.told) ∙ stop_numbered h.stop ∙ ap (signed_of T budget (length workspace))
+      ap (λ x. compared_signed (Err (stop_refusal x))) (sym h.told) ∙ stop_numbered h.stop ∙ ap (signed_of T budget (length workspace))
       (sym h.is)
 
 -- THE WORKSPACE

@@ -2,7 +2,7 @@
 use mathlib.Core.Path.{◌≡◌, sym, ap, subst, ◌∙◌}
 use mathlib.Core.List.{List, [], ◌∷◌}
 use mathlib.Core.Bool.{true, false}
-use Prim.Native.Nat.{ℕ, zero, suc, ◌+◌, ◌-◌, ◌≤◌, ◌<◌}
+use Prim.Native.Nat.{ℕ, zero, suc, ◌+◌, ◌-◌, ◌*◌, ◌≤◌, ◌<◌}
 use native.Mathlib.Omega.{arith}
 use native.Mathlib.Decide.{dec_lt}
 use lib.Dec.{eqb}
@@ -15,10 +15,26 @@ use Rattle.model.specs.Range.{All, InRange}
 use Rattle.model.proofs.Equiv.{total_more}
 use Rattle.model.proofs.Lists.{all_at}
 use Rattle.model.specs.Images.{most_size}
+use Rattle.model.specs.Plain.{most_weight}
 use Rattle.cells.specs.Layout.{weight_at}
 use Rattle.cells.specs.Stands.{Stands}
 use Rattle.cells.proofs.Rules.{held_weight, light_letter}
-use Rattle.signed_comparing.specs.Weight.{Stand, even_lead}
+use Rattle.signed_comparing.specs.declared.weight.Balance.{Balance}
+use Rattle.signed_comparing.specs.Weight.{Stand, TwoWords, NextLetter}
+
+-- the lead of the first while both weigh the same
+abbrev pub even_lead : ℕ
+even_lead = 2 * most_weight
+
+-- how far they are gone through: what is passed of the first, and the lead of even weights, weighs as much as what is of the second, and the lead
+pub record Balanced (cells bytes : List ℕ) (middle end : ℕ) (at : Balance) : Type 0 where
+  pub first_inside : at.first ≤ middle
+  pub second_after : middle ≤ at.second
+  pub second_inside : at.second ≤ end
+  pub low : most_weight ≤ at.lead
+  pub high : at.lead ≤ 3 * most_weight
+  pub even : (T : Presentation) (u v : Positive) → Stand cells bytes middle end T u v
+      → weigh T (take at.first u) + even_lead ≡ weigh T (take (at.second - middle) v) + at.lead
 
 -- the first letters of a word weigh no more than the whole
 part_lighter : (T : Presentation) (u : Positive) (i : ℕ) → weigh T (take i u) ≤ weigh T u
@@ -62,9 +78,6 @@ module _ (cells bytes : List ℕ) (middle end : ℕ) (T : Presentation) (u v : P
 
   -- the next letter of each: a letter that a table can have, of a weight of at most 8, by which more is passed
   module _ (i : ℕ) (h : i < middle) where
-    pub first_range : InRange most_size (get_or bytes i 0)
-    first_range = in_range cells T s.stands u s.u_named i (get_or bytes i 0) (omega (arith, h, first_long)) (first_letter i h)
-
     pub first_light : suc (get_or cells (weight_at (get_or bytes i 0)) 0) ≤ 8
     first_light = weight_light cells T s.stands u s.u_named i (get_or bytes i 0) (omega (arith, h, first_long)) (first_letter i h)
 
@@ -85,6 +98,9 @@ module _ (cells bytes : List ℕ) (middle end : ℕ) (T : Presentation) (u v : P
     second_more =
         ap (λ k. weigh T (take k v)) {x = j + 1 - middle} {y = j - middle + 1} (omega (arith, low))
         ∙ weight_more cells T s.stands v s.v_named (j - middle) (get_or bytes j 0) here (second_letter j low h)
+
+  pub second_next : (j : ℕ) → middle ≤ j → j < end → NextLetter cells bytes j
+  second_next j low h = record { full = s.stands.full; inside = omega (arith, s.inside); letter = second_range j low h }
 
   -- what was gone through, with the lead of the first word beyond that of even weights
   module _ (i j lead : ℕ) (passed : weigh T (take i u) + even_lead ≡ weigh T (take (j - middle) v) + lead) where
@@ -134,3 +150,39 @@ module _ (cells bytes : List ℕ) (middle end : ℕ) (T : Presentation) (u v : P
         go : Dec (j < end) → eqb j end ≡ eqb (weigh T u) (weigh T v)
         go (yes more) = ne_eqb j end (λ e. omega (arith, e, more)) ∙ second_goes_on all even low more
         go (no through) = eq-eqb j end (omega (arith, through, high)) ∙ weights_same all (omega (arith, through)) even
+
+-- a letter of the lighter word is passed: the two are in balance again
+module _ (cells bytes : List ℕ) (middle end : ℕ) (two : TwoWords cells bytes middle end) (at : Balance) (b : Balanced cells bytes middle end at) where
+  pub first_passed : (next w : ℕ) → at.first < middle → at.lead ≤ even_lead → next ≡ at.first + 1
+      → w ≡ suc (get_or cells (weight_at (get_or bytes at.first 0)) 0)
+      → Balanced cells bytes middle end (record { first = next; second = at.second; lead = at.lead + w })
+  first_passed next w more low e is =
+      let light = first_light cells bytes middle end two.0 two.1 two.2 two.3 at.first more in
+      record {
+        first_inside = omega arith;
+        second_after = b.second_after;
+        second_inside = b.second_inside;
+        low = omega (arith, b.low);
+        high = omega arith;
+        even = λ T u v t.
+            let passed = first_more cells bytes middle end T u v t at.first more in
+            let whole = ap (λ n. weigh T (take n u)) e in
+            omega (arith, b.even T u v t, passed, whole, is);
+      }
+
+  pub second_passed : (next w : ℕ) → at.second < end → even_lead < at.lead → next ≡ at.second + 1
+      → w ≡ suc (get_or cells (weight_at (get_or bytes at.second 0)) 0)
+      → Balanced cells bytes middle end (record { first = at.first; second = next; lead = at.lead - w })
+  second_passed next w more high e is =
+      let light = second_light cells bytes middle end two.0 two.1 two.2 two.3 at.second b.second_after more in
+      record {
+        first_inside = b.first_inside;
+        second_after = omega (arith, b.second_after);
+        second_inside = omega arith;
+        low = omega arith;
+        high = omega (arith, b.high);
+        even = λ T u v t.
+            let passed = second_more cells bytes middle end T u v t at.second b.second_after more in
+            let whole = ap (λ n. weigh T (take (n - middle) v)) e in
+            omega (arith, b.even T u v t, passed, whole, is, light);
+      }

@@ -1,11 +1,12 @@
 -- The numerator and the denominator of a finished reversing, compared as forward programs.
-use Rattle.std.specs.Prelude.{List, ◌++◌, ◌≡◌, ℕ, ◌+◌, ◌≤◌, length, take}
+use Rattle.std.specs.Prelude.{List, ◌++◌, ◌≡◌, ℕ, ◌+◌, ◌≤◌, length, take, Result}
 use Rattle.model.specs.Word.{Positive, positive, negative}
 use Rattle.model.specs.Presentation.{Presentation}
 use Rattle.model.specs.Range.{Lettered}
 use Rattle.model.specs.Services.{forward_verdict}
 use Rattle.model.specs.Stated.{compared}
 use Rattle.model.specs.declared.answers.Compared.{Compared}
+use Rattle.model.specs.declared.answers.Refusal.{Refusal}
 use Rattle.cells.specs.Stands.{Stands}
 use Rattle.engine.specs.Gap.{letters}
 
@@ -21,6 +22,6 @@ pub record Left (cells bytes : List ℕ) (numerator denominator : ℕ) (T : Pres
 abbrev pub Leaves : List ℕ → List ℕ → ℕ → ℕ → Type 0
 Leaves cells bytes numerator denominator = (T : Presentation) × (n d : Positive) × Left cells bytes numerator denominator T n d
 
-abbrev pub FractionCompared : List ℕ → List ℕ → ℕ → ℕ → ℕ → Compared → Type 0
+abbrev pub FractionCompared : List ℕ → List ℕ → ℕ → ℕ → ℕ → Result Compared Refusal → Type 0
 FractionCompared cells bytes numerator denominator budget r =
     (T : Presentation) (n d : Positive) → Left cells bytes numerator denominator T n d → compared r ≡ forward_verdict T n d budget (length bytes)

@@ -1,5 +1,5 @@
 -- What comes before the two reversings, of a table that was loaded.
-use Rattle.std.specs.Prelude.{List, ◌≡◌, ℕ, length, replicate}
+use Rattle.std.specs.Prelude.{List, ◌≡◌, ℕ, length, replicate, Result, Ok, Err}
 use Rattle.model.specs.Presentation.{Presentation}
 use Rattle.model.specs.Enumeration.{triples}
 use Rattle.model.specs.Outcome.{Outcome, answered, ◌>>=◌, mapped}
@@ -11,19 +11,22 @@ use Rattle.model.specs.Areas.{workspace_after}
 use Rattle.model.specs.Stated.{cleared_as}
 use Rattle.model.specs.declared.answers.Stop.TheVariants.{Budget, Room}
 use Rattle.model.specs.declared.answers.Place.TheVariants.{Set}
+use Rattle.model.specs.declared.answers.Refusal.{Refusal}
 use Rattle.model.specs.declared.answers.Refusal.TheVariants.{AllowanceUsed, WorkspaceShort, SetOpenPair, SetTooLarge}
-use Rattle.model.specs.declared.answers.Cleared.{Cleared}
-use Rattle.model.specs.declared.answers.Cleared.TheVariants.{Passed, Refused}
 use Rattle.cells.specs.Stands.{Of}
-use Rattle.sets.specs.declared.growing.Grown.{Grown}
-use Rattle.sets.specs.declared.growing.Grown.TheVariants.{Closed, OpenPair, TooLarge, Stopped}
+use Rattle.sets.specs.declared.growing.SetFault.{SetFault}
+use Rattle.sets.specs.declared.growing.SetFault.TheVariants.{OpenPair, TooLarge, Stopped}
 
-abbrev pub grown_refusal : Grown → Cleared
-grown_refusal Closed = Passed
-grown_refusal (OpenPair p) = Refused (SetOpenPair p)
-grown_refusal TooLarge = Refused SetTooLarge
-grown_refusal (Stopped Budget) = Refused (AllowanceUsed Set)
-grown_refusal (Stopped Room) = Refused (WorkspaceShort Set)
+-- the refusal that each fault is: 21, 22, and 11 and 12 of the set
+abbrev pub set_refusal : SetFault → Refusal
+set_refusal (OpenPair p) = SetOpenPair p
+set_refusal TooLarge = SetTooLarge
+set_refusal (Stopped Budget) = AllowanceUsed Set
+set_refusal (Stopped Room) = WorkspaceShort Set
+
+abbrev pub grown_refusal : Result (Unit {0}) SetFault → Result (Unit {0}) Refusal
+grown_refusal (Ok closed) = Ok closed
+grown_refusal (Err f) = Err (set_refusal f)
 
 module _ (T : Presentation) (budget room : ℕ) where
   -- the cube check of the mirror, then the set, of which only is used that it closes
@@ -35,14 +38,14 @@ module _ (T : Presentation) (budget room : ℕ) where
   prepared = mirror_check T >>= λ ok. cleared T budget room >>= λ ok. mirror_then_set
 
 -- under every table that has a mirror, where the cells stand for the table and the others for its mirror; a refusal comes after the work has begun
-pub record MirrorThenSet (cells mirrored : List ℕ) (size budget room : ℕ) (r : Cleared) : Type 0 where
+pub record MirrorThenSet (cells mirrored : List ℕ) (size budget room : ℕ) (r : Result (Unit {0}) Refusal) : Type 0 where
   pub states : (T : Presentation) → Of cells size T → Of mirrored size (mirror T) → cleared_as r ≡ mirror_then_set T budget room
   pub late : (area : List ℕ) → workspace_after (cleared_as r) area ≡ replicate (length area) 0
 
-abbrev pub BothPrepare : List ℕ → List ℕ → ℕ → ℕ → ℕ → Cleared → Type 0
+abbrev pub BothPrepare : List ℕ → List ℕ → ℕ → ℕ → ℕ → Result (Unit {0}) Refusal → Type 0
 BothPrepare cells mirrored size budget room r =
     (T : Presentation) → Of cells size T → mirror_check T ≡ answered tt → Of mirrored size (mirror T) → cleared_as r ≡ prepared T budget room
 
 -- under every table that the cells stand for
-abbrev pub Prepares : List ℕ → ℕ → ℕ → ℕ → Cleared → Type 0
+abbrev pub Prepares : List ℕ → ℕ → ℕ → ℕ → Result (Unit {0}) Refusal → Type 0
 Prepares cells size budget room r = (T : Presentation) → Of cells size T → cleared_as r ≡ prepared T budget room

@@ -1,5 +1,5 @@
 -- What the two reversings come to, and what the answer says of the programs in the images.
-use Rattle.std.specs.Prelude.{List, ◌≡◌, ℕ, length}
+use Rattle.std.specs.Prelude.{List, ◌≡◌, ℕ, length, Result, Ok, Err}
 use Rattle.model.specs.Word.{Word}
 use Rattle.model.specs.Presentation.{Presentation}
 use Rattle.model.specs.Reversing.{reversing}
@@ -10,18 +10,19 @@ use Rattle.model.specs.Areas.{workspace_after}
 use Rattle.model.specs.Stated.{compared_signed}
 use Rattle.model.specs.declared.answers.Ending.{Ending}
 use Rattle.model.specs.declared.answers.Compared.{Compared}
-use Rattle.model.specs.declared.answers.Compared.TheVariants.{Same, Different, Refused}
+use Rattle.model.specs.declared.answers.Compared.TheVariants.{Same, Different}
 use Rattle.model.specs.declared.answers.ComparedSigned.{ComparedSigned}
-use Rattle.model.specs.declared.answers.ComparedSigned.TheVariants.{Same as SignedSame, Different as SignedDifferent, Refused as SignedRefused}
+use Rattle.model.specs.declared.answers.ComparedSigned.TheVariants.{Same as SignedSame, Different as SignedDifferent}
+use Rattle.model.specs.declared.answers.Refusal.{Refusal}
 use Rattle.theory.specs.Signed.{ComparisonSigned}
 use Rattle.cells.specs.Stands.{Stands, Of}
 use Rattle.engine.specs.Run.{Reverses}
 
 -- the verdict on N and D, with the steps of the first reversing
-abbrev pub after_first_as : ℕ → Compared → ComparedSigned
-after_first_as k (Same j r) = SignedSame k j
-after_first_as k (Different j) = SignedDifferent k j
-after_first_as k (Refused r) = SignedRefused r
+abbrev pub after_first_as : ℕ → Result Compared Refusal → Result ComparedSigned Refusal
+after_first_as k (Ok (Same j r)) = Ok (SignedSame k j)
+after_first_as k (Ok (Different j)) = Ok (SignedDifferent k j)
+after_first_as k (Err r) = Err r
 
 -- a reversing under a table in the cells ended so
 pub record Ran (cells workspace : List ℕ) (ending : Ending) : Type 0 where
@@ -31,12 +32,13 @@ pub record Ran (cells workspace : List ℕ) (ending : Ending) : Type 0 where
   pub budget : ℕ
   pub reverses : Reverses table word budget workspace ending
 
-abbrev pub Settles : List ℕ → List ℕ → Ending → ℕ → ComparedSigned → Type 0
+abbrev pub Settles : List ℕ → List ℕ → Ending → ℕ → Result ComparedSigned Refusal → Type 0
 Settles cells workspace ending budget r =
     (T : Presentation) → Stands cells T → (word : Word) → Reverses T word budget workspace ending
     → compared_signed r ≡ signed_of T budget (length workspace) (reversing T budget (length workspace) word)
 
-pub record SignedCompared (cells : List ℕ) (size : ℕ) (first second : List ℕ) (budget : ℕ) (before after : List ℕ) (r : ComparedSigned) : Type 0 where
+pub record SignedCompared (cells : List ℕ) (size : ℕ) (first second : List ℕ) (budget : ℕ) (before after : List ℕ)
+    (r : Result ComparedSigned Refusal) : Type 0 where
   pub workspace : after ≡ workspace_after (compared_signed r) before
   pub states : (T : Presentation) → Of cells size T → (w v : Word) → read_program size first ≡ answered w → read_program size second ≡ answered v
       → compared_signed r ≡ signed_comparison T w v budget (length before)

@@ -10,32 +10,36 @@ use crate::running::reverse_signed;
 use areas::bytes::wipe;
 use cells::layout::CELLS;
 use images::programs::Signs;
-use loading::loading::{ProgramsRead, read_programs};
-use model::answers::{Cleared, Compared, ComparedSigned, Ending, Refusal};
+use loading::loading::{Programs, read_programs};
+use model::answers::{Compared, ComparedSigned, Ending, Refusal};
 use model::stops::stop_refusal;
 
 // The verdict on N and D, with the steps of the first reversing.
-pub fn after_first(first: u16, second: Compared) -> ComparedSigned
+pub fn after_first(first: u16, second: Result<Compared, Refusal>) -> Result<ComparedSigned, Refusal>
     ensures { result ≡ after_first_as first second }
 {
-    match second {
+    match second? {
         Compared::Same {
             steps,
             relations: _,
-        } => ComparedSigned::Same {
+        } => Ok(ComparedSigned::Same {
             first,
             second: steps,
-        },
-        Compared::Different { steps } => ComparedSigned::Different {
+        }),
+        Compared::Different { steps } => Ok(ComparedSigned::Different {
             first,
             second: steps,
-        },
-        Compared::Refused(refusal) => ComparedSigned::Refused(refusal),
+        }),
     }
 }
 
 // What the first reversing comes to.
-pub fn settle(cells: &[u8], ending: Ending, budget: u16, workspace: &mut [u8]) -> ComparedSigned
+pub fn settle(
+    cells: &[u8],
+    ending: Ending,
+    budget: u16,
+    workspace: &mut [u8],
+) -> Result<ComparedSigned, Refusal>
     requires { Ran cells.now workspace.old ending }
     ensures length { length workspace.new ≡ length workspace.old }
     ensures settles { Settles cells.now workspace.old ending budget result }
@@ -50,38 +54,29 @@ pub fn settle(cells: &[u8], ending: Ending, budget: u16, workspace: &mut [u8]) -
             let second = compare_fraction(cells, numerator, denominator, budget, workspace);
             after_first(steps, second)
         }
-        Ending::Undefined { pair, steps: _ } => ComparedSigned::Refused(Refusal::OpenPair(pair)),
-        Ending::Stopped(stop) => ComparedSigned::Refused(stop_refusal(stop)),
+        Ending::Undefined { pair, steps: _ } => Err(Refusal::OpenPair(pair)),
+        Ending::Stopped(stop) => Err(stop_refusal(stop)),
     }
 }
 
 // Two accepted programs under a table that was loaded. The workspace is wiped, unless a check refused before the work began.
 pub fn compare_loaded(
     cells: &[u8],
-    size: u8,
     first: &[u8],
-    firsts: u16,
     second: &[u8],
-    seconds: u16,
+    loaded: Programs,
     budget: u16,
     workspace: &mut [u8],
-) -> ComparedSigned
-    requires { SignedRuns cells.now size first.now firsts second.now seconds }
-    ensures { SignedCompared cells.now size first.now second.now budget workspace.old
+) -> Result<ComparedSigned, Refusal>
+    requires { SignedRuns cells.now loaded.size first.now loaded.firsts second.now loaded.seconds }
+    ensures { SignedCompared cells.now loaded.size first.now second.now budget workspace.old
         workspace.new result }
 {
-    let clear = prepare(cells, size, budget, workspace);
-    match clear {
-        Cleared::Refused(refusal) => ComparedSigned::Refused(refusal),
-        Cleared::Passed => {
-            let ending = reverse_signed(
-                cells, size, first, firsts, second, seconds, budget, workspace,
-            );
-            let answer = settle(cells, ending, budget, workspace);
-            wipe(workspace);
-            answer
-        }
-    }
+    prepare(cells, loaded.size, budget, workspace)?;
+    let ending = reverse_signed(cells, first, second, loaded, budget, workspace);
+    let answer = settle(cells, ending, budget, workspace);
+    wipe(workspace);
+    answer
 }
 
 pub fn compare_signed(
@@ -90,22 +85,11 @@ pub fn compare_signed(
     second: &[u8],
     allowance: u16,
     workspace: &mut [u8],
-) -> ComparedSigned
+) -> Result<ComparedSigned, Refusal>
     ensures { SignedPromise table.now first.now second.now allowance workspace.old workspace.new
         (compared_signed result) }
 {
     let mut cells = [0u8; CELLS];
-    let read = read_programs(table, first, second, Signs::Any, &mut cells);
-    match read {
-        ProgramsRead::Refused(refusal) => ComparedSigned::Refused(refusal),
-        ProgramsRead::Programs {
-            size,
-            firsts,
-            seconds,
-            first_weight: _,
-            second_weight: _,
-        } => compare_loaded(
-            &cells, size, first, firsts, second, seconds, allowance, workspace,
-        ),
-    }
+    let loaded = read_programs(table, first, second, Signs::Any, &mut cells)?;
+    compare_loaded(&cells, first, second, loaded, allowance, workspace)
 }

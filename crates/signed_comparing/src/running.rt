@@ -7,49 +7,46 @@ use engine::gap::Gap;
 use engine::run::reversing;
 use engine::words::invert;
 use images::programs::unpack_letters;
+use loading::loading::Programs;
 use model::answers::{Ending, Stop};
 
 // The inverse of the first program, then the second, at the workspace's end, from `right` on: a site may begin in either.
 pub fn load_signed(
-    size: u8,
     first: &[u8],
-    firsts: u16,
     second: &[u8],
-    seconds: u16,
+    loaded: Programs,
     right: usize,
     workspace: &mut [u8],
 )
-    requires programs { TwoAccepted size first.now firsts second.now seconds }
-    requires room { right + (firsts + seconds) ≡ length workspace.old }
-    ensures { LoadsSigned size first.now second.now right workspace.old workspace.new }
+    requires programs { TwoAccepted loaded.size first.now loaded.firsts second.now loaded.seconds }
+    requires room { right + (loaded.firsts + loaded.seconds) ≡ length workspace.old }
+    ensures { LoadsSigned loaded.size first.now second.now right workspace.old workspace.new }
 {
-    let left = firsts as usize;
-    unpack_letters(first, size, firsts, workspace, right);
-    invert(&mut workspace[right..], left);
-    unpack_letters(second, size, seconds, workspace, right + left);
+    let left = loaded.firsts as usize;
+    unpack_letters(first, loaded.size, loaded.firsts, workspace, right);
+    invert(&mut workspace[right..right + left]);
+    unpack_letters(second, loaded.size, loaded.seconds, workspace, right + left);
 }
 
 // Reverses the first program's inverse, then the second program.
 pub fn reverse_signed(
     cells: &[u8],
-    size: u8,
     first: &[u8],
-    firsts: u16,
     second: &[u8],
-    seconds: u16,
+    loaded: Programs,
     budget: u16,
     workspace: &mut [u8],
 ) -> Ending
-    requires { SignedRuns cells.now size first.now firsts second.now seconds }
+    requires { SignedRuns cells.now loaded.size first.now loaded.firsts second.now loaded.seconds }
     ensures length { length workspace.new ≡ length workspace.old }
-    ensures runs { SignedReverses cells.now size first.now second.now budget workspace.new result }
+    ensures runs { SignedReverses cells.now loaded.size first.now second.now budget workspace.new result }
 {
     let end = workspace.len();
-    let letters = firsts as usize + seconds as usize;
+    let letters = loaded.firsts as usize + loaded.seconds as usize;
     if end < letters {
         return Ending::Stopped(Stop::Room);
     }
     let right = end - letters;
-    load_signed(size, first, firsts, second, seconds, right, workspace);
+    load_signed(first, second, loaded, right, workspace);
     reversing(cells, workspace, Gap { left: 0, right }, budget)
 }

@@ -1,5 +1,7 @@
 // Whether two words that stand one after the other weigh the same.
-ghost use Rattle.signed_comparing.specs.Weight.{TwoWords, FirstNext, FirstPassed, SecondNext, SecondPassed, SameWeight};
+ghost use Rattle.std.specs.Prelude.{◌≡◌, ◌+◌, suc, get_or};
+ghost use Rattle.cells.specs.Layout.{weight_at};
+ghost use Rattle.signed_comparing.specs.Weight.{TwoWords, NextLetter, SameWeight};
 
 use cells::weights::letter_weight;
 use model::plain::MOST_WEIGHT;
@@ -15,30 +17,15 @@ pub struct Balance {
     pub lead: u16,
 }
 
-// A letter of the first word is passed.
-pub fn pass_first(cells: &[u8], bytes: &[u8], at: Balance) -> Balance
-    requires { FirstNext cells.now bytes.now at }
-    ensures { FirstPassed cells.now bytes.now at result }
+// The weight of the letter at a place, which is passed.
+fn pass(cells: &[u8], bytes: &[u8], place: &mut usize) -> u16
+    requires { NextLetter cells.now bytes.now place.old }
+    ensures weight { result ≡ suc (get_or cells.now (weight_at (get_or bytes.now place.old 0)) 0) }
+    ensures passed { place.new ≡ place.old + 1 }
 {
-    let place = at.first;
-    Balance {
-        first: place + 1,
-        second: at.second,
-        lead: at.lead + letter_weight(cells, bytes[place]),
-    }
-}
-
-// A letter of the second word is passed.
-pub fn pass_second(cells: &[u8], bytes: &[u8], at: Balance) -> Balance
-    requires { SecondNext cells.now bytes.now at }
-    ensures { SecondPassed cells.now bytes.now at result }
-{
-    let place = at.second;
-    Balance {
-        first: at.first,
-        second: place + 1,
-        lead: at.lead - letter_weight(cells, bytes[place]),
-    }
+    let weight = letter_weight(cells, bytes[*place]);
+    *place += 1;
+    weight
 }
 
 // The two words are gone through together, always on the side that is lighter so far, so that the lead stays within one
@@ -57,12 +44,12 @@ pub fn same_weight(cells: &[u8], bytes: &[u8], middle: usize, end: usize) -> boo
             if at.first == middle {
                 return at.lead == EVEN && at.second == end;
             }
-            at = pass_first(cells, bytes, at);
+            at.lead += pass(cells, bytes, &mut at.first);
         } else {
             if at.second == end {
                 return false;
             }
-            at = pass_second(cells, bytes, at);
+            at.lead -= pass(cells, bytes, &mut at.second);
         }
     }
 }

@@ -1,12 +1,13 @@
 -- Runs of bytes that end no word, and a word at its place, which is found by any of its bytes.
-use mathlib.Core.Path.{◌≡◌, ap, ◌∙◌}
-use mathlib.Core.List.{List}
-use mathlib.Core.Bool.{true, false}
-use Prim.Native.Nat.{ℕ, ◌+◌, ◌-◌, ◌%◌, ◌≤◌, ◌<◌}
-use native.Mathlib.Omega.{arith}
-use native.Mathlib.Decide.{ℕ_discrete, dec_le}
+use Rattle.std.proofs.Common.{◌≡◌, sym, ap, subst, ◌∙◌, List, reverse, Bool, true, false, not, ℕ, ◌+◌, ◌-◌, ◌%◌, ◌≤◌, ◌<◌, arith, length, take, drop, get_or}
+use Rattle.std.proofs.lemmas.List.{get_or-take, get_or-drop, get_or-reverse}
+use native.Mathlib.Decide.{dec_le, dec_lt}
 use borrow.Author.Tests.{ne_eqb}
-use lib.ListN.{length, get_or}
+use lib.ListN.{length-drop, length-reverse}
+use lib.Seq.{length-take-le}
+use Rattle.std.specs.List.{prefix_len}
+use Rattle.std.proofs.lemmas.List.Folds.{length-prefix_len}
+use Rattle.std.proofs.lemmas.List.Sums.{prefix_len-le-length, fails_before_first, passes_at_first}
 use Rattle.model.specs.Word.{Positive}
 use Rattle.model.specs.Range.{InRange}
 use Rattle.model.proofs.Impossible.{impossible}
@@ -17,33 +18,88 @@ use Rattle.spans.specs.Ends.{marked, is_ending, Inside, HasEnd, EndFound, StartF
 pub letter_ends_none : (n a : ℕ) → n ≤ most_size → InRange n a → is_ending a ≡ false
 letter_ends_none n a few r = ne_eqb (a % marked) 0 (omega (arith, r.low, r.high))
 
-pub inside_none : (area : List ℕ) (at : ℕ) → Inside area at at
-inside_none area at i l h = absurd (omega arith)
+-- LETTERS COUNTED UP TO A BYTE THAT ENDS A WORD
 
-pub inside_before : (area : List ℕ) (start at : ℕ) → is_ending (get_or area (start - 1) 0) ≡ false → Inside area start at → Inside area (start - 1) at
-inside_before area start at e h i l k = go (ℕ_discrete i (start - 1))
-  where
-    go : Dec (i ≡ start - 1) → is_ending (get_or area i 0) ≡ false
-    go (yes p) = ap (λ j. is_ending (get_or area j 0)) p ∙ e
-    go (no p) = h i (omega arith) k
+abbrev pub is_letter : ℕ → Bool
+is_letter x = not (is_ending x)
 
-pub inside_after : (area : List ℕ) (at end : ℕ) → is_ending (get_or area end 0) ≡ false → Inside area at end → Inside area at (end + 1)
-inside_after area at end e h i l k = go (ℕ_discrete i end)
-  where
-    go : Dec (i ≡ end) → is_ending (get_or area i 0) ≡ false
-    go (yes p) = ap (λ j. is_ending (get_or area j 0)) p ∙ e
-    go (no p) = h i l (omega arith)
+-- the letters that a list begins with
+abbrev pub letters_first : List ℕ → List ℕ
+letters_first l = take (prefix_len is_letter l) l
 
--- an end that is there is not passed
-pub end_ahead : (area : List ℕ) (at end : ℕ) (e : HasEnd area at) → Inside area at end → end ≤ e.end
-end_ahead area at end e h = go (dec_le end e.end)
-  where
-    go : Dec (end ≤ e.end) → end ≤ e.end
-    go (yes p) = p
-    go (no p) =
-        let letter = h e.end e.after (omega arith) in
-        let ends = e.ends in
-        impossible (cc)
+module _ (l : List ℕ) (r : ℕ) (e : r ≡ length (letters_first l)) where
+  counted : r ≡ prefix_len is_letter l
+  counted = e ∙ length-prefix_len is_letter l
+
+  counted_few : r ≤ length l
+  counted_few = omega (arith, counted, prefix_len-le-length is_letter l)
+
+  counted_letter : (k : ℕ) → k < r → is_ending (get_or l k 0) ≡ false
+  counted_letter k h = fails_before_first is_ending l k 0 (omega (arith, counted))
+
+  counted_ends : r < length l → is_ending (get_or l r 0) ≡ true
+  counted_ends h = ap (λ k. is_ending (get_or l k 0)) counted ∙ passes_at_first is_ending l 0 (omega (arith, counted))
+
+-- from a place on
+module _ (area : List ℕ) (at r : ℕ) (e : r ≡ length (letters_first (drop at area))) (some : HasEnd area at) where
+  end_letters : Inside area at (at + r)
+  end_letters i l h =
+      let there : at + (i - at) ≡ i = omega arith in
+      subst (λ j. is_ending (get_or area j 0) ≡ false) there
+      (sym (ap is_ending (get_or-drop at area (i - at) 0)) ∙ counted_letter (drop at area) r e (i - at) (omega arith))
+
+  end_inside : at + r < length area
+  end_inside = go (dec_lt r (length (drop at area)))
+    where
+      go : Dec (r < length (drop at area)) → at + r < length area
+      go (yes h) = omega (arith, length-drop at area)
+      go (no h) =
+          let letter = end_letters some.end some.after (omega (arith, length-drop at area, some.inside)) in
+          let ends = some.ends in
+          impossible (cc)
+
+  pub end_counted : EndFound area at (at + r)
+  end_counted = record {
+    after = omega arith;
+    inside = end_inside;
+    letters = end_letters;
+    ends = sym (ap is_ending (get_or-drop at area r 0)) ∙ counted_ends (drop at area) r e (omega (arith, end_inside, length-drop at area));
+  }
+
+-- from a place backward
+module _ (area : List ℕ) (low at r : ℕ) (e : r ≡ length (letters_first (reverse (take (at - low) (drop low area))))) (order : low ≤ at)
+    (inside : at ≤ length area) where
+  abbrev part : List ℕ
+  part = take (at - low) (drop low area)
+
+  part_length : length part ≡ at - low
+  part_length = length-take-le (at - low) (drop low area) (omega (arith, length-drop low area))
+
+  abbrev back : List ℕ
+  back = reverse part
+
+  back_length : length back ≡ at - low
+  back_length = length-reverse part ∙ part_length
+
+  back_at : (i : ℕ) → low ≤ i → i < at → get_or back (at - 1 - i) 0 ≡ get_or area i 0
+  back_at i l h =
+      let there : length part - 1 - (at - 1 - i) ≡ i - low = omega (arith, part_length) in
+      let all : low + (i - low) ≡ i = omega arith in
+      get_or-reverse part (at - 1 - i) 0 (omega (arith, part_length))
+      ∙ (ap (λ k. get_or part k 0) there
+      ∙ (get_or-take (at - low) (drop low area) (i - low) 0 (omega arith) ∙ (get_or-drop low area (i - low) 0 ∙ ap (λ k. get_or area k 0) all)))
+
+  pub start_counted : StartFound area low at (at - r)
+  start_counted = record {
+    after = omega (arith, counted_few back r e, back_length);
+    before = omega arith;
+    letters = λ i l h.
+        sym (ap is_ending (back_at i (omega (arith, counted_few back r e, back_length)) h)) ∙ counted_letter back r e (at - 1 - i) (omega arith);
+    begins = λ h.
+        let there : at - 1 - (at - r - 1) ≡ r = omega arith in
+        sym (ap is_ending (back_at (at - r - 1) (omega arith) (omega arith)))
+        ∙ (ap (λ k. is_ending (get_or back k 0)) there ∙ counted_ends back r e (omega (arith, back_length)));
+  }
 
 -- A WORD AT ITS PLACE
 

@@ -16,14 +16,11 @@ pub fn word_start(area: &[u8], low: usize, at: usize) -> usize
     requires { (low ≤ at) × (at ≤ length area.now) }
     ensures { StartFound area.now low at result }
 {
-    let mut start = at;
-    while low < start {
-        if is_ending(area[start - 1]) {
-            return start;
-        }
-        start -= 1;
-    }
-    start
+    at - area[low..at]
+        .iter()
+        .rev()
+        .take_while(|before| !is_ending(**before))
+        .count()
 }
 
 // Where the first ending byte from a place on stands.
@@ -31,9 +28,8 @@ pub fn word_end(area: &[u8], at: usize) -> usize
     requires { HasEnd area.now at }
     ensures { EndFound area.now at result }
 {
-    let mut end = at;
-    while !is_ending(area[end]) {
-        end += 1;
-    }
-    end
+    at + area[at..]
+        .iter()
+        .take_while(|byte| !is_ending(**byte))
+        .count()
 }

@@ -21,8 +21,10 @@ use Rattle.model.specs.Images.{most_length}
 use Rattle.swaps.proofs.Comparing.{lengths_differ}
 use Rattle.swaps.specs.Held.{held_at, Placed}
 use Rattle.swaps.specs.Entry.{ReplaceMeans, AppliedAs}
-use Rattle.swaps.specs.declared.entry.Applied.{Applied}
-use Rattle.swaps.specs.declared.entry.Applied.TheVariants.{Word, Breaks, Short}
+use Rattle.std.specs.Prelude.{Result, Ok, Err}
+use Rattle.engine.specs.declared.gap.Gap.{Gap}
+use Rattle.swaps.specs.declared.entry.Unfit.{Unfit}
+use Rattle.swaps.specs.declared.entry.Unfit.TheVariants.{Breaks, Short}
 
 drop_past : (u : Positive) (n : ℕ) → length u ≤ n → drop n u ≡ []
 drop_past [] zero h = refl
@@ -140,13 +142,13 @@ module _ (T : Presentation) (u : Positive) (e : Entry) where
               pub fit_makes : Fits ≡ true → applied T u e ≡ some made
               fit_makes f = applied_there ∙ ap (λ t. cond t (some made) none) f
 
-              pub fit_leads : Fits ≡ true → (after : List ℕ) → length after ≡ length bytes → (r : Applied)
+              pub fit_leads : Fits ≡ true → (after : List ℕ) → length after ≡ length bytes → (r : Result Gap Unfit)
                   → ReplaceMeans bytes e.offset (right + (1 + get_or cells to 0)) e.b (take (get_or cells back 0) (drop (back + 1) cells)) after r
                   → AppliedAs T u e after r
-              fit_leads f after n (Word g) q =
+              fit_leads f after n (Ok g) q =
                   record { placed = q.placed; leads = fit_makes f ∙ ap some (sym q.word_is) }
-              fit_leads f after n Breaks q = absurd q
-              fit_leads f after n Short q = record { longer = made; leads = fit_makes f; long = omega (arith, n, q) }
+              fit_leads f after n (Err Breaks) q = absurd q
+              fit_leads f after n (Err Short) q = record { longer = made; leads = fit_makes f; long = omega (arith, n, q) }
 
 -- a side that fits stands whole in the area
 pub fitting : (xs ys : List ℕ) → equal xs ys ≡ true → length xs ≡ length ys

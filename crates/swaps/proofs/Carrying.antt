@@ -6,14 +6,12 @@ use native.Mathlib.Omega.{arith}
 use native.Mathlib.Numerals.{add-one}
 use lib.ListN.{length, take, drop, set, get_or, length-set}
 use lib.Seq.{take-suc-set, take-set-le, drop-set-lt, drop-cons, take-suc, get_or-set_same, append_snoc}
-use Rattle.swaps.specs.Held.{held_at, Placed, Carried}
+use Rattle.swaps.specs.Held.{held_at, Carried}
 
-pub carried_start : (bytes : List ℕ) (left right : ℕ) → Placed bytes left right → Carried bytes left right left bytes right
-carried_start bytes left right p = record { same_length = refl; placed = p; word = refl }
-
-pub carried_at : {before after : List ℕ} {left right now to right' : ℕ} → now ≡ to → Carried before left right now after right'
+-- the places of the gap, told in another way
+pub carried_at : {before after : List ℕ} {left right now to from' right' : ℕ} → now ≡ to → from' ≡ right' → Carried before left right now after from'
     → Carried before left right to after right'
-carried_at e c = rw (← e) c
+carried_at e f c = rw (← e, ← f) c
 
 module _ (before : List ℕ) (left₀ right₀ : ℕ) (bytes : List ℕ) (left right : ℕ) (c : Carried before left₀ right₀ left bytes right) where
   held_left : right < length bytes → held_at (set bytes left (get_or bytes right 0)) (left + 1) (right + 1) ≡ held_at bytes left right

@@ -6,6 +6,7 @@ use Prim.Native.Nat.{ℕ, zero, suc, ◌+◌, ◌-◌, ◌≤◌, ◌<◌}
 use native.Mathlib.Omega.{arith}
 use borrow.Author.Tests.{eq-eqb, ne_eqb}
 use lib.Dec.{eqb}
+use lib.Pointwise.{pointwise}
 use lib.ListN.{length, take, drop, get_or}
 use lib.Seq.{drop-cons, take_all}
 use Rattle.model.specs.Word.{Positive, positive, byte, forward}
@@ -63,6 +64,20 @@ module _ (xs ys : List ℕ) (p q count : ℕ) where
     pub rest_fails : (get_or xs (p + i) 0 ≡ get_or ys (q + i) 0 → ⊥) → Rest i ≡ false
     rest_fails e = rest_step ∙ ap (λ t. t && Rest (i + 1)) (ne_eqb (get_or xs (p + i) 0) (get_or ys (q + i) 0) e)
 
+-- two slices compared are two words compared
+pub slices_equal : (xs ys : List ℕ) → pointwise eqb xs ys ≡ equal xs ys
+slices_equal [] [] = refl
+slices_equal [] (y ∷ ys) = refl
+slices_equal (x ∷ xs) [] = refl
+slices_equal (x ∷ xs) (y ∷ ys) = ap (λ t. eqb x y && t) (slices_equal xs ys)
+
+-- a word of the cells that was looked for, by its cell
+pub word_looked : (cells : List ℕ) (cell : ℕ) (word : List ℕ) → length word ≡ get_or cells cell 0 → word ≡ take (get_or cells cell 0) (drop (cell + 1) cells)
+    → (bytes : List ℕ) (a : ℕ) (v : Bool) → equal (take (1 + length word) bytes) (a ∷ word) ≡ v
+    → equal (take (1 + get_or cells cell 0) bytes) (a ∷ take (get_or cells cell 0) (drop (cell + 1) cells)) ≡ v
+word_looked cells cell word n e bytes a v h =
+    sym (ap (λ k. equal (take (1 + k) bytes) (a ∷ word)) n ∙ ap (λ w. equal (take (1 + get_or cells cell 0) bytes) (a ∷ w)) e) ∙ h
+
 -- a letter before a word of the cells
 module _ (bytes : List ℕ) (at a : ℕ) (word : List ℕ) (count : ℕ) where
   abbrev pub Whole : Bool
@@ -77,9 +92,6 @@ module _ (bytes : List ℕ) (at a : ℕ) (word : List ℕ) (count : ℕ) where
 
   pub whole_more : at < length bytes → get_or bytes at 0 ≡ a → Whole ≡ equal (take count (drop (at + 1) bytes)) word
   whole_more h e = whole_step h ∙ ap (λ t. t && equal (take count (drop (at + 1) bytes)) word) (eq-eqb (get_or bytes at 0) a e)
-
-  pub whole_fails : at < length bytes → (get_or bytes at 0 ≡ a → ⊥) → Whole ≡ false
-  whole_fails h e = whole_step h ∙ ap (λ t. t && equal (take count (drop (at + 1) bytes)) word) (ne_eqb (get_or bytes at 0) a e)
 
 -- the bytes of a forward program are its numbers
 pub number_at : (v : Positive) (i : ℕ) → byte (get_or (positive v) i (forward 0)) ≡ get_or v i 0

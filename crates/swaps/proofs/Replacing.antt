@@ -1,7 +1,7 @@
 -- Letters taken out of the word, and a letter with a word put in their place.
 use mathlib.Core.Path.{◌≡◌, ap, ap₂, ◌∙◌}
 use mathlib.Core.List.{List, ◌∷◌, ◌++◌}
-use Prim.Native.Nat.{ℕ, suc, ◌+◌, ◌-◌, ◌≤◌, ◌<◌}
+use Prim.Native.Nat.{ℕ, suc, ◌+◌, ◌-◌, ◌≤◌}
 use native.Mathlib.Omega.{arith}
 use lib.ListN.{length, take, drop, length-append, length-take, length-drop}
 use lib.Seq.{drop_at, take-append-le, take-take, length-take-le}
@@ -13,12 +13,6 @@ module _ (before : List ℕ) (left right taken b : ℕ) (word : List ℕ) (count
     (t : right + taken ≤ length before) where
   abbrev made : List ℕ
   made = take left before ++ ((b ∷ word) ++ drop (right + taken) before)
-
-  made_length : length made ≡ left + (1 + count) + (length before - (right + taken))
-  made_length = simp (length-append, length-take, length-drop) (omega (arith, n, p.ordered, p.inside, t))
-
-  pub too_long : right + taken < left + (1 + count) → length before < length made
-  too_long h = omega (arith, made_length, t)
 
   module _ (h : left + (1 + count) ≤ right + taken) where
     abbrev start : ℕ

@@ -1,38 +1,27 @@
-// One side of a relation in the area: a letter, then a word of the cells.
+// One side of a relation in the area: a letter, then a word.
 ghost use Rattle.std.specs.Prelude.{◌≡◌, ◌∷◌, ◌+◌, ◌≤◌, length, take, drop};
 ghost use Rattle.model.specs.Equivalence.{equal};
 ghost use Rattle.model.specs.Areas.{written};
 
-// Whether `a`, then `count` letters of the cells, stand from `at` on.
-pub fn stands_at(bytes: &[u8], at: usize, a: u8, cells: &[u8], from: usize, count: usize) -> bool
-    requires { (at ≤ length bytes.now) × (from + count ≤ length cells.now) × (count ≤ 255) }
-    ensures { result ≡ equal (take (1 + count) (drop at bytes.now)) (a ∷ take count (drop from cells.now)) }
+use areas::bytes::copy_bytes;
+
+// Whether `a`, then the word, stand from `at` on.
+pub fn stands_at(bytes: &[u8], at: usize, a: u8, word: &[u8]) -> bool
+    requires { at ≤ length bytes.now }
+    ensures { result ≡ equal (take (1 + length word.now) (drop at bytes.now)) (a ∷ word.now) }
 {
-    if bytes.len() - at < 1 + count {
+    let end = at + (1 + word.len());
+    if bytes.len() < end {
         return false;
     }
-    if bytes[at] != a {
-        return false;
-    }
-    let mut i: usize = 0;
-    while i < count {
-        if bytes[at + 1 + i] != cells[from + i] {
-            return false;
-        }
-        i += 1;
-    }
-    true
+    bytes[at] == a && bytes[at + 1..end] == word[..]
 }
 
-// Writes `b`, then `count` letters of the cells, from `at` on.
-pub fn put_side(bytes: &mut [u8], at: usize, b: u8, cells: &[u8], from: usize, count: usize)
-    requires { (at + 1 + count ≤ length bytes.old) × (from + count ≤ length cells.now) }
-    ensures { bytes.new ≡ written bytes.old at (b ∷ take count (drop from cells.now)) }
+// Writes `b`, then the word, from `at` on.
+pub fn put_side(bytes: &mut [u8], at: usize, b: u8, word: &[u8])
+    requires { at + (1 + length word.now) ≤ length bytes.old }
+    ensures { bytes.new ≡ written bytes.old at (b ∷ word.now) }
 {
-    let mut i: usize = 0;
-    while i < count {
-        bytes[at + 1 + i] = cells[from + i];
-        i += 1;
-    }
     bytes[at] = b;
+    copy_bytes(word, &mut bytes[at + 1..]);
 }

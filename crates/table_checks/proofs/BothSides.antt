@@ -1,6 +1,7 @@
 -- L at the workspace's start and R after it: what the code knows once both are worked out.
 use mathlib.Core.Path.{◌≡◌, sym, ap, subst, ◌∙◌}
 use mathlib.Core.List.{List, [], ◌∷◌, ◌++◌}
+use mathlib.Core.Bool.{false}
 use Prim.Native.Nat.{ℕ, ◌-◌, ◌≤◌}
 use native.Mathlib.Omega.{arith}
 use lib.ListN.{length, take, drop, length-take, length-drop}
@@ -13,15 +14,17 @@ use Rattle.engine.specs.Gap.{letters}
 use Rattle.cells.specs.Stands.{Serves}
 use Rattle.engine.proofs.Letters.{length_letters}
 use Rattle.engine.proofs.Lettering.{length_positive}
-use Rattle.table_checks.specs.Residuals.{Works, Stored, SideWorks}
-use Rattle.table_checks.specs.Cube.{cube_answer, Sides, RightSide}
-use Rattle.table_checks.specs.declared.residuals.Residual.{Residual as ResidualAnswer}
-use Rattle.table_checks.specs.declared.residuals.Residual.TheVariants.{Missing, Halted, Word as Found}
-use Rattle.table_checks.specs.declared.cube.CubeVerdict.TheVariants.{Fails, Halts}
+use Rattle.std.specs.Prelude.{Some, None, Ok, Err}
+use Rattle.model.specs.declared.answers.Triple.{Triple}
+use Rattle.table_checks.specs.Residuals.{ResidualAnswer, letters_of, Works, Stored, SideWorks}
+use Rattle.table_checks.specs.Cube.{CubeAnswer, cube_answer, Sides, RightSide}
 use Rattle.table_checks.proofs.Sides.{FoundWord, was_found}
 use Rattle.table_checks.proofs.Triples.{rest, right_missing, right_halts, both_words}
 
 -- the other order of a triple's first two letters
+abbrev pub other : Triple → Triple
+other p = record { a = p.b; b = p.a; c = p.c }
+
 pub turned_serves : {cells : List ℕ} {a b c : ℕ} {T : Presentation} → Serves cells (positive (a ∷ b ∷ c ∷ [])) T → Serves cells (positive (b ∷ a ∷ c ∷ [])) T
 turned_serves t = record { stands = t.stands; lettered = (t.lettered.1.0, (t.lettered.0, t.lettered.1.1)) }
 
@@ -32,10 +35,10 @@ stored_fits size n bytes s =
     omega arith
 
 -- L is a word, worked out in the workspace
-module _ (cells bytes : List ℕ) (kept a b c budget : ℕ) (l : SideWorks cells a b c budget bytes (Found kept)) (T : Presentation)
-    (t : Serves cells (positive (a ∷ b ∷ c ∷ [])) T) where
-  left_found : FoundWord T.size bytes (side T budget (length bytes) a b c) kept
-  left_found = was_found (side T budget (length bytes) a b c) kept (l T t)
+module _ (cells bytes : List ℕ) (kept : ℕ) (p : Triple) (budget : ℕ) (l : SideWorks cells p budget bytes (Ok (Some kept))) (T : Presentation)
+    (t : Serves cells (letters_of p) T) where
+  left_found : FoundWord T.size bytes (side T budget (length bytes) p.a p.b p.c) kept
+  left_found = was_found (side T budget (length bytes) p.a p.b p.c) kept (l T t)
 
   pub kept_fits : kept ≤ length bytes
   kept_fits = omega (arith, left_found.count, stored_fits T.size left_found.word bytes left_found.stored)
@@ -44,21 +47,22 @@ module _ (cells bytes : List ℕ) (kept a b c budget : ℕ) (l : SideWorks cells
     room_left : length after ≡ length bytes → length (drop kept after) ≡ length bytes - length left_found.word
     room_left k = length-drop kept after ∙ omega (arith, left_found.count)
 
-    works_after : (v : ResidualAnswer) → RightSide cells bytes kept b a c budget after v
-        → Works T.size (side T budget (length bytes - length left_found.word) b a c) (drop kept after) v
+    works_after : (v : ResidualAnswer) → RightSide cells bytes kept (other p) budget after v
+        → Works T.size (side T budget (length bytes - length left_found.word) p.b p.a p.c) (drop kept after) v
     works_after v r =
-        subst (λ i. Works T.size (side T budget i b a c) (drop kept after) v) (room_left r.same_length) (r.works T (turned_serves t))
+        subst (λ i. Works T.size (side T budget i p.b p.a p.c) (drop kept after) v) (room_left r.same_length) (r.works T (turned_serves t))
 
-    pub no_right_side : RightSide cells bytes kept b a c budget after Missing → Fails ≡ cube_answer (rest T budget (length bytes) a b c)
-    no_right_side r = right_missing T budget (length bytes) a b c left_found.word left_found.is (drop kept after) (works_after Missing r)
+    pub no_right_side : RightSide cells bytes kept (other p) budget after (Ok None) → Ok false ≡ cube_answer (rest T budget (length bytes) p.a p.b p.c)
+    no_right_side r = right_missing T budget (length bytes) p.a p.b p.c left_found.word left_found.is (drop kept after) (works_after (Ok None) r)
 
-    pub right_side_halts : (s : Stop) → RightSide cells bytes kept b a c budget after (Halted s) → Halts s ≡ cube_answer (rest T budget (length bytes) a b c)
-    right_side_halts s r = right_halts T budget (length bytes) a b c left_found.word left_found.is s (drop kept after) (works_after (Halted s) r)
+    pub right_side_halts : (s : Stop) → RightSide cells bytes kept (other p) budget after (Err s)
+        → Err s ≡ cube_answer (rest T budget (length bytes) p.a p.b p.c)
+    right_side_halts s r = right_halts T budget (length bytes) p.a p.b p.c left_found.word left_found.is s (drop kept after) (works_after (Err s) r)
 
     -- both are words
-    module _ (count : ℕ) (r : RightSide cells bytes kept b a c budget after (Found count)) where
-      right_found : FoundWord T.size (drop kept after) (side T budget (length (drop kept after)) b a c) count
-      right_found = was_found (side T budget (length (drop kept after)) b a c) count (r.works T (turned_serves t))
+    module _ (count : ℕ) (r : RightSide cells bytes kept (other p) budget after (Ok (Some count))) where
+      right_found : FoundWord T.size (drop kept after) (side T budget (length (drop kept after)) p.b p.a p.c) count
+      right_found = was_found (side T budget (length (drop kept after)) p.b p.a p.c) count (r.works T (turned_serves t))
 
       abbrev left : Positive
       left = left_found.word
@@ -82,12 +86,14 @@ module _ (cells bytes : List ℕ) (kept a b c budget : ℕ) (l : SideWorks cells
           }
 
       pub both_found : (l r : Positive) × Sides cells after kept count T l r
-          × (cube_answer (empties (reversing T budget (length after) (negative l ++ positive r))) ≡ cube_answer (rest T budget (length bytes) a b c))
+          × ((v : CubeAnswer) → v ≡ cube_answer (empties (reversing T budget (length after) (negative l ++ positive r)))
+          → v ≡ cube_answer (rest T budget (length bytes) p.a p.b p.c))
       both_found = (
         left,
         right,
         stand,
-        ap (λ i. cube_answer (empties (reversing T budget i (negative left ++ positive right)))) r.same_length
-            ∙ both_words T budget (length bytes) a b c left left_found.is right
-            (ap (λ i. side T budget i b a c) (sym (room_left r.same_length)) ∙ right_found.is),
+        λ v e. e
+            ∙ (ap (λ i. cube_answer (empties (reversing T budget i (negative left ++ positive right)))) r.same_length
+            ∙ both_words T budget (length bytes) p.a p.b p.c left left_found.is right
+            (ap (λ i. side T budget i p.b p.a p.c) (sym (room_left r.same_length)) ∙ right_found.is)),
       )

@@ -32,11 +32,11 @@ module _ {cells : List ℕ} {T : Presentation} {word : Word} (s : Serves cells w
   pub cell_inside : cell_at a b + cell_length ≤ length cells
   cell_inside = inside cells T s.stands a b ra rb
 
-module _ (cells bytes mid last : List ℕ) (a b c to_b to_c : ℕ) (eb : to_b ≡ cell_at a b) (ec : to_c ≡ cell_at a c)
+module _ {cells bytes mid last : List ℕ} (a b c : ℕ) {to_b to_c : ℕ} (eb : to_b ≡ cell_at a b) (ec : to_c ≡ cell_at a c)
     (p : Pushed (inverse (letters (take (get_or cells to_b 0) (drop (to_b + 1) cells)))) bytes (get_or cells to_b 0) (get_or cells to_b 0) mid)
     (q : Pushed (letters (take (get_or cells to_c 0) (drop (to_c + 1) cells))) mid (length bytes) (get_or cells to_c 0) last)
     (room : get_or cells to_b 0 + get_or cells to_c 0 ≤ length bytes)
-    (T : Presentation) (few : T.size ≤ most_size) (x y : Positive) (cx : WordAt cells (cell_at a b) T.size x)
+    (T : Presentation) (few : T.size ≤ most_size) {x y : Positive} (cx : WordAt cells (cell_at a b) T.size x)
     (cy : WordAt cells (cell_at a c) T.size y) where
   x_count : get_or cells to_b 0 ≡ length x
   x_count = ap (λ i. get_or cells i 0) eb ∙ cx.count

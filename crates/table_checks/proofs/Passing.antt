@@ -7,37 +7,25 @@ use lib.Dec.{eqb}
 use lib.ListN.{get_or}
 use Rattle.model.specs.Word.{positive}
 use Rattle.model.specs.Presentation.{Presentation, swapped, complete}
-use Rattle.model.specs.Reversing.{no_budget, no_room}
 use Rattle.model.specs.Enumeration.{Two, Three}
-use Rattle.model.specs.Outcome.{pair_of, Outcome, answered, refused, ◌>>=◌}
+use Rattle.model.specs.Outcome.{pair_of, Outcome, refused, ◌>>=◌}
 use Rattle.model.specs.Checks.{balanced, weight_check, CubeVerdict, holds, fails, halts, reported, cube_at, cube_check}
-use Rattle.model.specs.declared.answers.Triple.{Triple}
 use Rattle.model.proofs.Complete.{complete_turn}
 use Rattle.cells.specs.Layout.{cell_at}
 use Rattle.model.specs.Range.{InRange}
 use Rattle.cells.specs.Stands.{Serves, Of}
-use Rattle.cells.proofs.Rules.{of_range, open_cell, word_cell}
-use Rattle.table_checks.specs.Cube.{cube_answer, CubeMeans}
-use Rattle.table_checks.specs.Table.{triples_as, SideWeighs, triples_with, TripleMeans}
-use Rattle.table_checks.specs.declared.cube.CubeVerdict.{CubeVerdict as CubeAnswer}
-use Rattle.table_checks.specs.declared.cube.CubeVerdict.TheVariants.{Holds, Fails, Halts}
-use Rattle.table_checks.specs.declared.table.Triples.{Triples}
-use Rattle.table_checks.specs.declared.table.Triples.TheVariants.{Hold, Fail, Halt}
-use Rattle.table_checks.proofs.Remaining.{triple, third_counts}
+use Rattle.cells.proofs.Rules.{of_range, word_cell}
+use Rattle.table_checks.specs.Table.{SideWeighs}
 
 -- WEIGHTS
 
-module _ (cells : List ℕ) (size : ℕ) (T : Presentation) (o : Of cells size T) (a b : ℕ) (ra : InRange T.size a) (rb : InRange T.size b) where
-  -- an open pair has no sides
-  pub open_balanced : get_or cells (cell_at a b) 0 ≡ 255 → balanced T a b (complete T a b) ≡ true
-  open_balanced h = ap (balanced T a b) (open_cell cells T o.stands a b ra rb h)
-
-  module _ (d : get_or cells (cell_at a b) 0 ≡ 255 → ⊥) (r l : ℕ) (there : SideWeighs cells size a b r) (back : SideWeighs cells size b a l) where
-    -- both sides, as they were weighed
-    pub sides_weighed : eqb r l ≡ balanced T a b (complete T a b)
-    sides_weighed =
-        let w = word_cell cells T o.stands a b ra rb d in
-        ap₂ eqb (there T o w.x w.y w.rule) (back T o w.y w.x (complete_turn T a b ∙ ap swapped w.rule)) ∙ sym (ap (balanced T a b) w.rule)
+-- both sides of a pair, as they were weighed
+pub sides_weighed : (cells : List ℕ) (size : ℕ) (T : Presentation) (o : Of cells size T) (a b : ℕ) → InRange T.size a → InRange T.size b
+    → (get_or cells (cell_at a b) 0 ≡ 255 → ⊥) → (r l : ℕ) → SideWeighs cells size a b r → SideWeighs cells size b a l
+    → eqb r l ≡ balanced T a b (complete T a b)
+sides_weighed cells size T o a b ra rb d r l there back =
+    let w = word_cell cells T o.stands a b ra rb d in
+    ap₂ eqb (there T o w.x w.y w.rule) (back T o w.y w.x (complete_turn T a b ∙ ap swapped w.rule)) ∙ sym (ap (balanced T a b) w.rule)
 
 module _ (T : Presentation) (p : Two) (ps : List Two) where
   pub pair_passes : balanced T p.a p.b (complete T p.a p.b) ≡ true → weight_check T (p ∷ ps) ≡ weight_check T ps
@@ -70,29 +58,6 @@ cubes_append T budget room [] ys = refl
 cubes_append T budget room (t ∷ xs) ys =
     ap (reported t (cube_at T budget room t)) (cubes_append T budget room xs ys)
     ∙ sym (reported_then t (cube_at T budget room t) (cube_check T budget room xs) (cube_check T budget room ys))
-
--- the answer that a triple's verdict becomes
-abbrev pub told : Triple → CubeAnswer → Triples
-told t Holds = Hold
-told t Fails = Fail t
-told t (Halts s) = Halt s t
-
-told_reported : (a b c : ℕ) (v : CubeVerdict)
-    → triples_as (told (record { a = a; b = b; c = c }) (cube_answer v)) ≡ reported (triple a b c) v (answered tt)
-told_reported a b c holds = refl
-told_reported a b c fails = refl
-told_reported a b c (halts no_budget) = refl
-told_reported a b c (halts no_room) = refl
-
-module _ (cells : List ℕ) (room a b c budget : ℕ) where
-  pub no_triple : triples_with a b (c ∷ []) ≡ [] → TripleMeans cells room a b c budget Hold
-  no_triple e T t = sym (ap (cube_check T budget room) e)
-
-  pub one_triple : (c ≡ a → ⊥) → (c ≡ b → ⊥) → (v : CubeAnswer) → CubeMeans cells room a b c budget v
-      → TripleMeans cells room a b c budget (told (record { a = a; b = b; c = c }) v)
-  one_triple f g v m T t =
-      ap (λ x. triples_as (told (record { a = a; b = b; c = c }) x)) (m T t)
-      ∙ (told_reported a b c (cube_at T budget room (triple a b c)) ∙ sym (ap (cube_check T budget room) (third_counts a b c f g)))
 
 -- three letters of the table
 pub of_serves : {cells : List ℕ} {size : ℕ} {T : Presentation} → Of cells size T → (a b c : ℕ) → 1 ≤ a → a ≤ size → 1 ≤ b → b ≤ size → 1 ≤ c → c ≤ size

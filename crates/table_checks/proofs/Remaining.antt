@@ -1,10 +1,9 @@
 -- The triples that are left from a place on, in the order of specification 4.1.
-use mathlib.Core.Path.{◌≡◌, refl, ap, ap₂, ◌∙◌}
+use mathlib.Core.Path.{◌≡◌, refl, ap, ◌∙◌}
 use mathlib.Core.List.{List, [], ◌∷◌, ◌++◌, map}
 use mathlib.Core.Bool.{Bool, true, false, ◌||◌, cond}
 use Prim.Native.Nat.{ℕ, ◌+◌, ◌-◌, ◌≤◌, ◌<◌}
 use native.Mathlib.Omega.{arith}
-use borrow.Author.Tests.{eq-eqb, ne_eqb}
 use lib.Dec.{eqb}
 use Rattle.model.specs.Enumeration.{range, concat_map, Two, Three, others, triples}
 use Rattle.model.proofs.Pairs.{up_to, up_some, up_none, row_from, pairs_from, row_begins, row_some, row_none, pairs_begin, pairs_some, pairs_none}
@@ -57,17 +56,3 @@ thirds_some n a b c h = ap (triples_with a b) (up_some n c h) ∙ go (eqb c a ||
 
 pub thirds_none : (n a b c : ℕ) → n < c → thirds n a b c ≡ []
 thirds_none n a b c h = ap (triples_with a b) (up_none n c h)
-
--- one letter beside the pair
-module _ (a b c : ℕ) where
-  by_test : (t : Bool) → (eqb c a || eqb c b) ≡ t → triples_with a b (c ∷ []) ≡ map (triple a b) (cond t [] (c ∷ []))
-  by_test t e = ap (λ t. map (triple a b) (cond t [] (c ∷ []))) e
-
-  pub third_is_first : c ≡ a → triples_with a b (c ∷ []) ≡ []
-  third_is_first e = by_test true (ap (λ t. t || eqb c b) (eq-eqb c a e))
-
-  pub third_is_second : (c ≡ a → ⊥) → c ≡ b → triples_with a b (c ∷ []) ≡ []
-  third_is_second f e = by_test true (ap₂ (λ s t. s || t) (ne_eqb c a f) (eq-eqb c b e))
-
-  pub third_counts : (c ≡ a → ⊥) → (c ≡ b → ⊥) → triples_with a b (c ∷ []) ≡ triple a b c ∷ []
-  third_counts f g = by_test false (ap₂ (λ s t. s || t) (ne_eqb c a f) (ne_eqb c b g))

@@ -1,5 +1,6 @@
 -- (a\b)\(a\c) from its three reversings: each way in which it is worked out.
-use mathlib.Core.Path.{◌≡◌, refl, subst, ◌∙◌}
+use mathlib.Core.Path.{◌≡◌, refl, ap, ◌∙◌}
+use mathlib.Core.Bool.{true, false}
 use mathlib.Core.List.{List, [], ◌∷◌}
 use Prim.Native.Nat.{ℕ}
 use native.Mathlib.Omega.{arith}
@@ -15,9 +16,8 @@ use Rattle.model.proofs.Residuals.{residual_letters, under_residual}
 use Rattle.cells.specs.Layout.{cell_at}
 use Rattle.model.specs.Range.{InRange}
 use Rattle.cells.specs.Stands.{Serves}
+use Rattle.std.specs.Prelude.{Option, Some, None, is_some, Ok, Err}
 use Rattle.table_checks.specs.Residuals.{residual_answer, Stored, Works}
-use Rattle.table_checks.specs.declared.residuals.Residual.{Residual as ResidualAnswer}
-use Rattle.table_checks.specs.declared.residuals.Residual.TheVariants.{Missing, Halted, Word as Found}
 use Rattle.table_checks.proofs.CellWords.{cell_of}
 
 -- a residual that is a word of k letters at the workspace's start
@@ -29,17 +29,17 @@ pub record FoundWord (size : ℕ) (bytes : List ℕ) (m : Residual) (k : ℕ) : 
 
 -- what an answer says of the model's residual
 module _ {size : ℕ} {bytes : List ℕ} where
-  pub was_missing : (m : Residual) → Works size m bytes Missing → m ≡ missing
+  pub was_missing : (m : Residual) → Works size m bytes (Ok None) → m ≡ missing
   was_missing (residual n) w = let e = w.answer in impossible (cc)
   was_missing missing w = refl
   was_missing (halted s) w = let e = w.answer in impossible (cc)
 
-  pub was_found : (m : Residual) (k : ℕ) → Works size m bytes (Found k) → FoundWord size bytes m k
+  pub was_found : (m : Residual) (k : ℕ) → Works size m bytes (Ok (Some k)) → FoundWord size bytes m k
   was_found (residual n) k w = let e = w.answer in record { word = n; is = refl; count = cc; stored = w.stores }
   was_found missing k w = let e = w.answer in impossible (cc)
   was_found (halted s) k w = let e = w.answer in impossible (cc)
 
-  pub was_halted : (m : Residual) (s : Stop) → Works size m bytes (Halted s) → (h : ModelStop) × (m ≡ halted h) × (s ≡ stop_answer h)
+  pub was_halted : (m : Residual) (s : Stop) → Works size m bytes (Err s) → (h : ModelStop) × (m ≡ halted h) × (s ≡ stop_answer h)
   was_halted (residual n) s w = let e = w.answer in impossible (cc)
   was_halted missing s w = let e = w.answer in impossible (cc)
   was_halted (halted h) s w = let e = w.answer in (h, refl, cc)
@@ -52,23 +52,24 @@ module _ {cells : List ℕ} {a b c : ℕ} {T : Presentation} (t : Serves cells (
   pub without_second : Serves cells (positive (a ∷ c ∷ [])) T
   without_second = record { stands = t.stands; lettered = (t.lettered.0, (t.lettered.1.1.0, tt)) }
 
--- the answers of an inner residual that are a side's too
-abbrev pub NoWord : ResidualAnswer → Type 0
-NoWord (Found k) = ⊥
-NoWord Missing = Unit {0}
-NoWord (Halted s) = Unit {0}
+-- an inner residual that is no word is the side's
+ends_there : {size : ℕ} {bytes : List ℕ} (m : Residual) (f : Positive → Residual) (s : Stop) → Err s ≡ residual_answer m
+    → Works size (and_then m f) bytes (Err s)
+ends_there (residual n) f s e = impossible (cc)
+ends_there missing f s e = impossible (cc)
+ends_there (halted h) f s e = record { answer = e; stores = tt }
 
-ends_there : {size : ℕ} {bytes : List ℕ} (m : Residual) (f : Positive → Residual) (r : ResidualAnswer) → NoWord r → r ≡ residual_answer m
-    → Works size (and_then m f) bytes r
-ends_there (residual n) f r none e = absurd (subst NoWord e none)
-ends_there missing f r none e = record { answer = e; stores = tt }
-ends_there (halted s) f r none e = record { answer = e; stores = tt }
+no_word : {size : ℕ} {bytes : List ℕ} (m : Residual) (f : Positive → Residual) (v : Option ℕ) → is_some v ≡ false → Ok v ≡ residual_answer m
+    → Works size (and_then m f) bytes (Ok None)
+no_word (residual n) f v none e = let h : v ≡ Some (length n) = cc in let g : is_some v ≡ true = ap is_some h in impossible (cc)
+no_word missing f v none e = record { answer = refl; stores = tt }
+no_word (halted h) f v none e = impossible (cc)
 
 -- and the one that goes on
-pub a_word : (m : Residual) (k : ℕ) → Found k ≡ residual_answer m → (x : Positive) × (m ≡ residual x)
-a_word (residual n) k e = (n, refl)
-a_word missing k e = impossible (cc)
-a_word (halted s) k e = impossible (cc)
+pub a_word : (m : Residual) (v : Option ℕ) → is_some v ≡ true → Ok v ≡ residual_answer m → (x : Positive) × (m ≡ residual x)
+a_word (residual n) v some e = (n, refl)
+a_word missing v some e = let h : v ≡ None = cc in let g : is_some v ≡ false = ap is_some h in impossible (cc)
+a_word (halted s) v some e = impossible (cc)
 
 module _ (T : Presentation) (budget room a b c : ℕ) where
   abbrev to_b : Residual
@@ -82,12 +83,20 @@ module _ (T : Presentation) (budget room a b c : ℕ) where
   unfolding side
   side_by = refl
 
-  pub first_ends : (bytes : List ℕ) (r : ResidualAnswer) → NoWord r → r ≡ residual_answer to_b → Works T.size (side T budget room a b c) bytes r
-  first_ends bytes r none e = rw side_by (ends_there to_b (λ x. and_then to_c (λ y. under T budget room x y)) r none e)
+  pub first_halts : (bytes : List ℕ) (s : Stop) → Err s ≡ residual_answer to_b → Works T.size (side T budget room a b c) bytes (Err s)
+  first_halts bytes s e = rw side_by (ends_there to_b (λ x. and_then to_c (λ y. under T budget room x y)) s e)
+
+  pub first_missing : (bytes : List ℕ) (v : Option ℕ) → is_some v ≡ false → Ok v ≡ residual_answer to_b
+      → Works T.size (side T budget room a b c) bytes (Ok None)
+  first_missing bytes v none e = rw side_by (no_word to_b (λ x. and_then to_c (λ y. under T budget room x y)) v none e)
 
   module _ (x : Positive) (ex : to_b ≡ residual x) where
-    pub second_ends : (bytes : List ℕ) (r : ResidualAnswer) → NoWord r → r ≡ residual_answer to_c → Works T.size (side T budget room a b c) bytes r
-    second_ends bytes r none e = rw (side_by, ex) (ends_there to_c (λ y. under T budget room x y) r none e)
+    pub second_halts : (bytes : List ℕ) (s : Stop) → Err s ≡ residual_answer to_c → Works T.size (side T budget room a b c) bytes (Err s)
+    second_halts bytes s e = rw (side_by, ex) (ends_there to_c (λ y. under T budget room x y) s e)
+
+    pub second_missing : (bytes : List ℕ) (v : Option ℕ) → is_some v ≡ false → Ok v ≡ residual_answer to_c
+        → Works T.size (side T budget room a b c) bytes (Ok None)
+    second_missing bytes v none e = rw (side_by, ex) (no_word to_c (λ y. under T budget room x y) v none e)
 
     pub both_found : (y : Positive) → to_c ≡ residual y → side T budget room a b c ≡ under T budget room x y
     both_found y ey = side_by ∙ rw (ex, ey) refl

@@ -1,10 +1,10 @@
 -- The weight of a side of a relation, from the cells: that of its first letter, then of one letter of the completion after the other.
 use mathlib.Core.Path.{◌≡◌, sym, ap, subst, ◌∙◌}
 use mathlib.Core.List.{List, ◌∷◌}
-use Prim.Native.Nat.{ℕ, suc, ◌+◌, ◌≤◌, ◌<◌}
+use Prim.Native.Nat.{ℕ, suc, ◌+◌, ◌-◌, ◌≤◌, ◌<◌}
 use native.Mathlib.Omega.{arith}
-use lib.ListN.{length, take, get_or}
-use lib.Seq.{take_all}
+use lib.ListN.{length, take, drop, get_or}
+use lib.Seq.{take_all, get_or-take, get_or-drop}
 use Rattle.model.specs.Word.{Positive}
 use Rattle.model.specs.Presentation.{Presentation, complement, complete, weight_of, weigh}
 use Rattle.model.specs.Range.{InRange}
@@ -15,6 +15,10 @@ use Rattle.cells.specs.Layout.{Letters, cell_at, weight_at, cell_length}
 use Rattle.cells.specs.Stands.{HoldsWord, HoldsFirst, Of}
 use Rattle.cells.proofs.Rules.{Rule, inside, word_cell, held_weight, light_letter}
 use Rattle.table_checks.specs.Table.{Related}
+
+-- a letter of a part of the cells, as it is read from the part
+pub part_letter : (cells : List ℕ) (from n k : ℕ) → k < n → get_or (take (from + n - from) (drop from cells)) k 0 ≡ get_or cells (from + k) 0
+part_letter cells from n k h = get_or-take (from + n - from) (drop from cells) k 0 (omega arith) ∙ get_or-drop from cells k 0
 
 -- the letter of a cell's word after so many
 pub record Next (cells : List ℕ) (cell k : ℕ) : Type 0 where
@@ -47,8 +51,11 @@ module _ (cells : List ℕ) (size : ℕ) (T : Presentation) (o : Of cells size T
   letter_light {c} h = omega (arith, letter_held h, light_letter cells T o.stands c (named h))
 
   module _ (cell : ℕ) (at : cell ≡ cell_at a b) where
-    pub cell_inside : cell + cell_length ≤ length cells
+    cell_inside : cell + cell_length ≤ length cells
     cell_inside = omega (arith, at, inside cells T o.stands a b (named r.first) (named r.second))
+
+    pub word_inside : cell + 1 + get_or cells cell 0 ≤ length cells
+    word_inside = omega (arith, cell_inside, ap (λ i. get_or cells i 0) at, relation.to.count, relation.to.short)
 
     module _ (x y : Positive) (e : complete T a b ≡ complement x y) where
       completion : HoldsWord T.size cells cell x

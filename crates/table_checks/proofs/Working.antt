@@ -8,7 +8,7 @@ use lib.Seq.{take-take, take_at}
 use Rattle.model.specs.Word.{forward, back, Word, Positive, positive, negative, forwards}
 use Rattle.model.specs.Presentation.{Presentation, undefined, complement, complete}
 use Rattle.model.specs.Reversing.{Ending, finished, open_pair, stopped, no_budget, no_room, nowhere, site, reversing}
-use Rattle.model.specs.Checks.{of_ending, under}
+use Rattle.model.specs.Checks.{residual, of_ending, under}
 use Rattle.model.specs.Stated.{ending_answer}
 use Rattle.model.specs.declared.answers.Ending.{Ending as EndingAnswer}
 use Rattle.model.specs.declared.answers.Stop.TheVariants.{Budget, Room}
@@ -18,9 +18,8 @@ use Rattle.engine.specs.Gap.{letters}
 use Rattle.engine.specs.Run.{LeavesWord, LeavesLetters, Reverses}
 use Rattle.engine.proofs.Letters.{letters_take}
 use Rattle.engine.proofs.Lettering.{lettered_front, length_positive, length_negative}
-use Rattle.table_checks.specs.Residuals.{from_ending, residual_answer, Works}
-use Rattle.table_checks.specs.declared.residuals.Residual.{Residual as ResidualAnswer}
-use Rattle.table_checks.specs.declared.residuals.Residual.TheVariants.{Missing, Halted, Word as Found}
+use Rattle.std.specs.Prelude.{Some, None, Ok, Err}
+use Rattle.table_checks.specs.Residuals.{ResidualAnswer, from_ending, residual_answer, Works}
 
 -- the numerator stands at the start
 ending_works : (size : ℕ) (e : Ending) (bytes : List ℕ) → LeavesWord e bytes → LeavesLetters size e
@@ -54,7 +53,7 @@ module _ (T : Presentation) (u v : Positive) (budget : ℕ) (bytes : List ℕ) w
       (record { answer = ap from_ending p.answer ∙ q.answer; stores = q.stores })
 
   -- the two words together do not fit
-  pub under_long : length bytes < length u + length v → Works T.size (under T budget (length bytes) u v) bytes (Halted Room)
+  pub under_long : length bytes < length u + length v → Works T.size (under T budget (length bytes) u v) bytes (Err Room)
   unfolding under
   under_long h =
       let n : length (negative u ++ positive v) ≡ length u + length v =
@@ -69,17 +68,17 @@ abbrev ended_answer : Ending → ResidualAnswer
 ended_answer d = residual_answer (of_ending d)
 
 module _ (T : Presentation) (room a b : ℕ) where
-  pub letters_long : (budget : ℕ) → room < 2 → Halted Room ≡ residual_answer (under T budget room (a ∷ []) (b ∷ []))
+  pub letters_long : (budget : ℕ) → room < 2 → Err Room ≡ residual_answer (under T budget room (a ∷ []) (b ∷ []))
   unfolding under
   letters_long budget h = sym (ap ended_answer (reversing_long T budget room (back a ∷ forward b ∷ []) (omega arith)))
 
   module _ (some : 2 ≤ room) where
-    pub letters_open : (budget : ℕ) → complete T a b ≡ undefined → Missing ≡ residual_answer (under T budget room (a ∷ []) (b ∷ []))
+    pub letters_open : (budget : ℕ) → complete T a b ≡ undefined → Ok None ≡ residual_answer (under T budget room (a ∷ []) (b ∷ []))
     unfolding under
     letters_open budget e = sym (ap ended_answer (reversing_open T budget room (back a ∷ forward b ∷ []) (omega arith) refl e))
 
     module _ (x y : Positive) (e : complete T a b ≡ complement x y) where
-      pub letters_spent : (budget : ℕ) → budget ≡ 0 → Halted Budget ≡ residual_answer (under T budget room (a ∷ []) (b ∷ []))
+      pub letters_spent : (budget : ℕ) → budget ≡ 0 → Err Budget ≡ residual_answer (under T budget room (a ∷ []) (b ∷ []))
       unfolding under
       letters_spent zero z = sym (ap ended_answer (reversing_spent T room (back a ∷ forward b ∷ []) (omega arith) refl e))
       letters_spent (suc left) z = absurd (omega arith)
@@ -101,17 +100,17 @@ module _ (T : Presentation) (room a b : ℕ) where
       stepped left = ap ended_answer (reversing_step T left room (back a ∷ forward b ∷ []) (omega arith) refl e)
 
       -- it does not fit; or it does, and has no site
-      pub letters_wide : (budget : ℕ) → (budget ≡ 0 → ⊥) → room < length x + length y → Halted Room ≡ residual_answer (under T budget room (a ∷ []) (b ∷ []))
+      pub letters_wide : (budget : ℕ) → (budget ≡ 0 → ⊥) → room < length x + length y → Err Room ≡ residual_answer (under T budget room (a ∷ []) (b ∷ []))
       letters_wide zero z h = absurd (z refl)
       letters_wide (suc left) z h =
           sym (stepped left ∙ ap (λ d. ended_answer (prepended a b d)) (reversing_long T left room after (omega (arith, after_length))))
 
       pub letters_found : (budget : ℕ) → (budget ≡ 0 → ⊥) → length x + length y ≤ room
-          → Found (length x) ≡ residual_answer (under T budget room (a ∷ []) (b ∷ []))
+          → Ok (Some (length x)) ≡ residual_answer (under T budget room (a ∷ []) (b ∷ []))
       letters_found zero z h = absurd (z refl)
       letters_found (suc left) z h =
           let none : site after ≡ nowhere = ap site after_is ∙ fraction_nowhere x y in
           let numerator : forwards after ≡ x = ap forwards after_is ∙ numerator_of x y in
           sym (stepped left
           ∙ (ap (λ d. ended_answer (prepended a b d)) (reversing_none T left room after (omega (arith, after_length)) none)
-          ∙ ap (λ n. Found (length n)) numerator))
+          ∙ ap (λ n. residual_answer (residual n)) numerator))

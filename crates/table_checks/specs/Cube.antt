@@ -1,5 +1,5 @@
 -- What working out one triple of the cube check comes to.
-use Rattle.std.specs.Prelude.{List, [], ◌∷◌, ◌++◌, cond, ◌≡◌, ℕ, ◌+◌, ◌≤◌, eqb, length, take, drop}
+use Rattle.std.specs.Prelude.{List, ◌++◌, Bool, true, false, cond, ◌≡◌, ℕ, ◌+◌, ◌≤◌, eqb, length, take, drop, Result, Ok, Err}
 use Rattle.model.specs.Word.{Positive, positive, negative}
 use Rattle.model.specs.Presentation.{Presentation}
 use Rattle.model.specs.Reversing.{reversing}
@@ -10,29 +10,25 @@ use Rattle.model.specs.declared.answers.Ending.TheVariants.{Finished, Undefined,
 use Rattle.engine.specs.Gap.{letters}
 use Rattle.model.specs.Range.{Lettered}
 use Rattle.cells.specs.Stands.{Stands, Serves}
-use Rattle.table_checks.specs.Residuals.{SideWorks}
-use Rattle.table_checks.specs.declared.residuals.Residual.{Residual as ResidualAnswer}
-use Rattle.table_checks.specs.declared.residuals.Residual.TheVariants.{Word, Missing, Halted}
-use Rattle.table_checks.specs.declared.cube.CubeVerdict.{CubeVerdict as CubeAnswer}
-use Rattle.table_checks.specs.declared.cube.CubeVerdict.TheVariants.{Holds, Fails, Halts}
+use Rattle.model.specs.declared.answers.Triple.{Triple}
+use Rattle.table_checks.specs.Residuals.{ResidualAnswer, letters_of, SideWorks}
+use Rattle.model.specs.declared.answers.Stop.{Stop}
+
+-- whether the cube rule holds at a triple, or why a reversing was stopped there
+abbrev pub CubeAnswer : Type 0
+CubeAnswer = Result Bool Stop
 
 -- whether an ending is empty
 abbrev pub verdict_of : Ending → CubeAnswer
-verdict_of (Finished n d k r) = cond (eqb n 0) (cond (eqb d 0) Holds Fails) Fails
-verdict_of (Undefined p k) = Fails
-verdict_of (Stopped s) = Halts s
-
--- what R shows where L is undefined
-abbrev pub missing_side : ResidualAnswer → CubeAnswer
-missing_side (Word k) = Fails
-missing_side Missing = Holds
-missing_side (Halted s) = Halts s
+verdict_of (Finished n d k r) = cond (eqb n 0) (cond (eqb d 0) (Ok true) (Ok false)) (Ok false)
+verdict_of (Undefined p k) = Ok false
+verdict_of (Stopped s) = Err s
 
 -- the answer that each case of the model's verdict has
 abbrev pub cube_answer : CubeVerdict → CubeAnswer
-cube_answer holds = Holds
-cube_answer fails = Fails
-cube_answer (halts s) = Halts (stop_answer s)
+cube_answer holds = Ok true
+cube_answer fails = Ok false
+cube_answer (halts s) = Err (stop_answer s)
 
 -- L at the workspace's start and R after it
 pub record Sides (cells bytes : List ℕ) (left right : ℕ) (T : Presentation) (l r : Positive) : Type 0 where
@@ -54,16 +50,16 @@ AgreeMeans cells bytes left right budget v =
     → v ≡ cube_answer (empties (reversing T budget (length bytes) (negative l ++ positive r)))
 
 -- a side worked out after the first `kept` bytes
-pub record RightSide (cells before : List ℕ) (kept a b c budget : ℕ) (after : List ℕ) (r : ResidualAnswer) : Type 0 where
+pub record RightSide (cells before : List ℕ) (kept : ℕ) (t : Triple) (budget : ℕ) (after : List ℕ) (r : ResidualAnswer) : Type 0 where
   pub same_length : length after ≡ length before
   pub front : take kept after ≡ take kept before
-  pub works : SideWorks cells a b c budget (drop kept after) r
+  pub works : SideWorks cells t budget (drop kept after) r
 
 -- the verdict of L, which was worked out in so many bytes, with R
-abbrev pub AgainstMeans : List ℕ → ℕ → ℕ → ℕ → ℕ → ℕ → CubeAnswer → Type 0
-AgainstMeans cells room a b c budget v =
-    (T : Presentation) → Serves cells (positive (a ∷ b ∷ c ∷ [])) T → v ≡ cube_answer (against T budget room a b c (side T budget room a b c))
+abbrev pub AgainstMeans : List ℕ → ℕ → Triple → ℕ → CubeAnswer → Type 0
+AgainstMeans cells room t budget v =
+    (T : Presentation) → Serves cells (letters_of t) T → v ≡ cube_answer (against T budget room t.a t.b t.c (side T budget room t.a t.b t.c))
 
-abbrev pub CubeMeans : List ℕ → ℕ → ℕ → ℕ → ℕ → ℕ → CubeAnswer → Type 0
-CubeMeans cells room a b c budget v =
-    (T : Presentation) → Serves cells (positive (a ∷ b ∷ c ∷ [])) T → v ≡ cube_answer (cube_at T budget room (record { a = a; b = b; c = c }))
+abbrev pub CubeMeans : List ℕ → ℕ → Triple → ℕ → CubeAnswer → Type 0
+CubeMeans cells room t budget v =
+    (T : Presentation) → Serves cells (letters_of t) T → v ≡ cube_answer (cube_at T budget room (record { a = t.a; b = t.b; c = t.c }))

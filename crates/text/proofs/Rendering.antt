@@ -14,8 +14,6 @@ use Rattle.model.specs.Services.{sizes, Fraction, reverse}
 use Rattle.model.specs.Areas.{begins, fraction_bytes, output_after, written}
 use Rattle.model.specs.Stated.{refusal}
 use Rattle.model.specs.declared.answers.Refusal.{Refusal}
-use Rattle.cells.proofs.Rules.{of_some, of_few}
-use Rattle.loading.specs.Loading.{ProgramLoaded}
 use Rattle.images.proofs.RoundTrip.{program_in_range}
 use Rattle.text.specs.Text.{word_text, bytes_text, answer_text, outcome_text, report}
 use Rattle.text.specs.Put.{Put}
@@ -27,15 +25,6 @@ pub reported : {most : ℕ} {table program before text after : List ℕ} {r : �
     → text ≡ report table program
     → Reported table program after r
 reported p h e = record { inside = omega (arith, p.near, p.same_length); text = p.appended ∙ e }
-
--- what was loaded can be read
-pub readable : {table program cells : List ℕ} {size count weight : ℕ} → ProgramLoaded table program cells size count weight → Readable table program size count
-readable l =
-    let o = l.runs.of in
-    record {
-      table_read = record { table = l.runs.table; read = l.table_read; size_is = o.sized; some = of_some o; few = of_few o };
-      program_read = l.runs.accepted;
-    }
 
 module _ (table program : List ℕ) (size count : ℕ) (q : Readable table program size count) (room area : ℕ) (ew : room ≡ 32768)
     (ea : area ≡ 32768) where

@@ -1,10 +1,10 @@
 -- The report, by what reading and reversing come to.
 use mathlib.Core.Path.{◌≡◌, refl, sym, ap, ap₂, ◌∙◌}
 use mathlib.Core.List.{List, [], ◌∷◌, ◌++◌, map, append_assoc}
-use Prim.Native.Nat.{ℕ, ◌+◌, ◌-◌, ◌*◌, ◌≤◌}
+use Prim.Native.Nat.{ℕ, ◌+◌, ◌-◌, ◌≤◌}
 use native.Mathlib.Omega.{arith}
-use lib.ListN.{length, take, drop, length-drop}
-use lib.Seq.{take_at, drop_at, length-take-le}
+use lib.ListN.{length, take, drop}
+use lib.Seq.{take_at, drop_at}
 use Rattle.model.specs.Word.{forward, back, Word, byte}
 use Rattle.model.specs.Presentation.{Presentation}
 use Rattle.model.specs.Outcome.{Outcome, answered, ◌>>=◌, mapped}
@@ -69,15 +69,3 @@ module _ (N D area : List ℕ) where
   denominator_part n d e f =
       ap (λ l. take d (drop n l)) split
       ∙ (ap (take d) (drop_at N (D ++ drop (length (N ++ D)) area) n e) ∙ take_at D (drop (length (N ++ D)) area) d f)
-
--- the bytes that the parts of the areas take
-pub parts_room : (program fraction : List ℕ) (letters n d : ℕ) → letters ≤ length program → n + d ≤ length fraction
-    → 7 * length (take letters program) + (6 * length (take n fraction) + (6 * length (take (n + d - n) (drop n fraction)) + 64))
-    ≡ 7 * letters + (6 * n + (6 * d + 64))
-parts_room program fraction letters n d h i =
-    omega (
-      arith,
-      length-take-le letters program h,
-      length-take-le n fraction (omega arith),
-      length-take-le (n + d - n) (drop n fraction) (omega (arith, length-drop n fraction)),
-    )

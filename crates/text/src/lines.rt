@@ -1,5 +1,5 @@
 // Lines: a label, what follows it, and a newline.
-ghost use Rattle.std.specs.Prelude.{◌+◌, ◌*◌, ◌≤◌, length, take, drop};
+ghost use Rattle.std.specs.Prelude.{◌+◌, ◌*◌, ◌≤◌, length};
 ghost use Rattle.text.specs.Text.{line, spaced_number, numbers_text, bytes_text, answer_text};
 ghost use Rattle.text.specs.Put.{Put};
 
@@ -52,34 +52,5 @@ pub fn put_answer(
     let after_program = put_word_line(out, after_moves, b"program", program);
     let after_numerator = put_numbers_line(out, after_program, b"numerator", numerator);
     let after_denominator = put_numbers_line(out, after_numerator, b"denominator", denominator);
-    let after_steps = put_number_line(out, after_denominator, b"steps", steps);
-    after_steps
-}
-
-// The same of areas: the program's letters begin the first, and the numerator, then the denominator begin the second.
-pub fn put_areas(
-    out: &mut [u8],
-    size: u8,
-    program: &[u8],
-    letters: usize,
-    fraction: &[u8],
-    numerator: usize,
-    denominator: usize,
-    steps: u16,
-) -> usize
-    requires { (letters ≤ length program.now) × (numerator + denominator ≤ length fraction.now)
-        × (7 * letters + (6 * numerator + (6 * denominator + 64)) ≤ length out.old) }
-    ensures { Put (7 * letters + (6 * numerator + (6 * denominator + 64))) out.old 0
-        (answer_text size (bytes_text (take letters program.now)) (take numerator fraction.now)
-        (take denominator (drop numerator fraction.now)) steps) out.new result }
-{
-    let end = numerator + denominator;
-    put_answer(
-        out,
-        size,
-        &program[..letters],
-        &fraction[..numerator],
-        &fraction[numerator..end],
-        steps,
-    )
+    put_number_line(out, after_denominator, b"steps", steps)
 }

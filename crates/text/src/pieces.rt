@@ -1,8 +1,11 @@
 // Characters, numbers and words.
+// Kept (5): (d) a struct of `out` and `at` is no plainer: `Put` would speak of two structs, and each of its 11 functions of the same reference besides.
 ghost use Rattle.std.specs.Prelude.{[], ◌∷◌, ◌+◌, ◌*◌, ◌≤◌, ◌<◌, length};
 ghost use Rattle.model.specs.Word.{letter};
 ghost use Rattle.text.specs.Text.{digit, number, spaced_number, letter_text, numbers_text, bytes_text};
 ghost use Rattle.text.specs.Put.{Put};
+
+use areas::bytes::copy_bytes;
 
 pub fn put_byte(out: &mut [u8], at: usize, byte: u8) -> usize
     requires { at < length out.old }
@@ -16,13 +19,8 @@ pub fn put_label(out: &mut [u8], at: usize, label: &[u8]) -> usize
     requires { at + length label.now ≤ length out.old }
     ensures { Put (length label.now) out.old at label.now out.new result }
 {
-    let mut next = at;
-    let mut i: usize = 0;
-    while i < label.len() {
-        next = put_byte(out, next, label[i]);
-        i += 1;
-    }
-    next
+    copy_bytes(label, &mut out[at..]);
+    at + label.len()
 }
 
 // The digit of a power of ten, or nothing where the number is below that power.
@@ -33,7 +31,7 @@ pub fn put_digit(out: &mut [u8], at: usize, x: u16, power: u16) -> usize
     if x < power {
         return at;
     }
-    put_byte(out, at, 48 + (((x / power) % 10) as u8))
+    put_byte(out, at, b'0' + (x / power % 10) as u8)
 }
 
 // In decimal, without leading zeros.
@@ -41,11 +39,11 @@ pub fn put_number(out: &mut [u8], at: usize, x: u16) -> usize
     requires { at + 5 ≤ length out.old }
     ensures { Put 5 out.old at (number x) out.new result }
 {
-    let thousands = put_digit(out, at, x, 10000);
-    let hundreds = put_digit(out, thousands, x, 1000);
-    let tens = put_digit(out, hundreds, x, 100);
-    let ones = put_digit(out, tens, x, 10);
-    put_byte(out, ones, 48 + ((x % 10) as u8))
+    let mut next = at;
+    for power in [10000, 1000, 100, 10] {
+        next = put_digit(out, next, x, power);
+    }
+    put_byte(out, next, b'0' + (x % 10) as u8)
 }
 
 pub fn put_spaced(out: &mut [u8], at: usize, x: u16) -> usize
@@ -75,10 +73,8 @@ pub fn put_numbers(out: &mut [u8], at: usize, numbers: &[u8]) -> usize
     ensures { Put (6 * length numbers.now) out.old at (numbers_text numbers.now) out.new result }
 {
     let mut next = at;
-    let mut i: usize = 0;
-    while i < numbers.len() {
-        next = put_spaced(out, next, numbers[i] as u16);
-        i += 1;
+    for number in numbers {
+        next = put_spaced(out, next, *number as u16);
     }
     next
 }
@@ -89,10 +85,8 @@ pub fn put_word(out: &mut [u8], at: usize, word: &[u8]) -> usize
     ensures { Put (7 * length word.now) out.old at (bytes_text word.now) out.new result }
 {
     let mut next = at;
-    let mut i: usize = 0;
-    while i < word.len() {
-        next = put_letter(out, next, word[i]);
-        i += 1;
+    for byte in word {
+        next = put_letter(out, next, *byte);
     }
     next
 }

@@ -1,45 +1,39 @@
 // The report of a table image and a program image.
 ghost use Rattle.text.specs.Render.{Areas, Readable, Reported};
 
-use crate::lines::put_areas;
+use crate::lines::put_answer;
 use crate::refusals::put_refusal;
 use cells::layout::CELLS;
 use images::programs::{Signs, unpack_letters};
 use loading::loading::{TableProgram, read_table_program};
-use model::answers::Reversed;
 use reversal::reverse::reverse;
 
 // Of an accepted program: reverses it, then unpacks it into the workspace, which is free again, to write its letters.
 pub fn render_accepted(
     table: &[u8],
-    size: u8,
     program: &[u8],
-    count: u16,
+    loaded: TableProgram,
     workspace: &mut [u8],
     answer: &mut [u8],
     out: &mut [u8],
 ) -> usize
-    requires { Areas workspace.old answer.old out.old × Readable table.now program.now size count }
+    requires { Areas workspace.old answer.old out.old × Readable table.now program.now loaded.size loaded.count }
     ensures { Reported table.now program.now out.new result }
 {
-    let reversed = reverse(table, program, 65535, workspace, answer);
-    match reversed {
-        Reversed::Refused(refused) => put_refusal(out, refused),
-        Reversed::Answer {
-            numerator,
-            denominator,
-            steps,
-        } => {
-            unpack_letters(program, size, count, workspace, 0);
-            put_areas(
+    match reverse(table, program, 65535, workspace, answer) {
+        Err(refused) => put_refusal(out, refused),
+        Ok(reversed) => {
+            unpack_letters(program, loaded.size, loaded.count, workspace, 0);
+            let letters = &workspace[..loaded.count as usize];
+            let (numerator, behind) = answer.split_at(reversed.numerator);
+            let denominator = &behind[..reversed.denominator];
+            put_answer(
                 out,
-                size,
-                workspace,
-                count as usize,
-                answer,
+                loaded.size,
+                letters,
                 numerator,
                 denominator,
-                steps,
+                reversed.steps,
             )
         }
     }
@@ -56,13 +50,8 @@ pub fn render(
     ensures { Reported table.now program.now out.new result }
 {
     let mut cells = [0u8; CELLS];
-    let read = read_table_program(table, program, Signs::Any, &mut cells);
-    match read {
-        TableProgram::Refused(refused) => put_refusal(out, refused),
-        TableProgram::Loaded {
-            size,
-            count,
-            weight: _,
-        } => render_accepted(table, size, program, count, workspace, answer, out),
+    match read_table_program(table, program, Signs::Any, &mut cells) {
+        Err(refused) => put_refusal(out, refused),
+        Ok(loaded) => render_accepted(table, program, loaded, workspace, answer, out),
     }
 }

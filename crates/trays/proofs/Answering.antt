@@ -1,63 +1,26 @@
 -- The answers of logs, one behind the other in the answer area.
-use mathlib.Core.Path.{◌≡◌, refl, sym, ap, ap₂, ◌∙◌}
+use mathlib.Core.Path.{◌≡◌, refl, sym, ap, ap₂, subst, ◌∙◌}
 use mathlib.Core.List.{List, [], ◌∷◌, ◌++◌, map, append_assoc, append-nil}
 use Prim.Native.Nat.{ℕ, suc, ◌+◌, ◌-◌, ◌*◌, ◌≤◌, ◌<◌}
 use native.Mathlib.Omega.{arith}
-use lib.ListN.{length, take, drop, set, length-append, length-drop, length-set}
+use lib.ListN.{length, take, drop, length-append, length-drop}
 use lib.Seq.{length-take-le}
-use Rattle.model.specs.Outcome.{Place, unplaced, pair_of, triple_of, mirror_triple_of, the_set, Outcome, answered, refused, ◌>>=◌}
+use Rattle.model.specs.Outcome.{Outcome, answered, refused, ◌>>=◌}
 use Rattle.model.specs.Bits.{Read}
 use Rattle.model.specs.Images.{several}
 use Rattle.model.specs.Services.{Verdict, same_after, different_after}
 use Rattle.model.specs.Areas.{written}
 use Rattle.model.specs.Tray.{read_log, log_bytes, tray_bytes}
-use Rattle.numbering.specs.Refusals.{numbers_told, RefusalTold}
-use Rattle.numbering.specs.declared.refusals.RefusalNumbers.{RefusalNumbers}
-use Rattle.bits.proofs.Appending.{written_more, wrote_byte}
+use Rattle.bits.proofs.Appending.{written_more}
 use Rattle.model.proofs.Impossible.{answer_of, same_answer}
 use Rattle.trays.specs.Logs.{image_at, end_at, LogsOf}
 use Rattle.trays.specs.Tray.{Under, log_verdict}
 use Rattle.trays.proofs.Reading.{log_read, log_inside}
 
--- THREE BYTES
-
-pub three_written : (area : List ℕ) (at x y z : ℕ) → at + 3 ≤ length area → set (set (set area at x) (at + 1) y) (at + 2) z ≡ written area at (x ∷ y ∷ z ∷ [])
-three_written area at x y z h =
-    let one : set area at x ≡ written area at (x ∷ []) = wrote_byte area at x (omega arith) in
-    let two : set (set area at x) (at + 1) y ≡ written area at (x ∷ y ∷ []) =
-    wrote_byte (set area at x) (at + 1) y (omega (arith, length-set area at x))
-    ∙ ap (λ l. written l (at + 1) (y ∷ [])) one
-    ∙ written_more area at (x ∷ []) (y ∷ []) (omega arith) in
-    wrote_byte (set (set area at x) (at + 1) y) (at + 2) z (omega (arith, length-set (set area at x) (at + 1) y, length-set area at x))
-    ∙ ap (λ l. written l (at + 2) (z ∷ [])) two
-    ∙ written_more area at (x ∷ y ∷ []) (z ∷ []) (omega arith)
-
 pub log_bytes_long : (o : Outcome Verdict) → length (log_bytes o) ≡ 3
 log_bytes_long (answered (same_after k r)) = refl
 log_bytes_long (answered (different_after k)) = refl
 log_bytes_long (refused n place) = refl
-
-pub written_long : (area : List ℕ) (at : ℕ) (o : Outcome Verdict) → at + 3 ≤ length area → length (written area at (log_bytes o)) ≡ length area
-written_long area at o h =
-    length-append (take at area) (log_bytes o ++ drop (at + length (log_bytes o)) area)
-    ∙ omega (
-      arith,
-      length-append (log_bytes o) (drop (at + length (log_bytes o)) area),
-      length-drop (at + length (log_bytes o)) area,
-      length-take-le at area (omega arith),
-      log_bytes_long o,
-    )
-
--- the number that is told is the refusal's own
-number_told : (n : ℕ) (place : Place) → (numbers_told n place).number ≡ n
-number_told n unplaced = refl
-number_told n (pair_of a b) = refl
-number_told n (triple_of a b c) = refl
-number_told n (mirror_triple_of a b c) = refl
-number_told n the_set = refl
-
-pub own_number : {r : RefusalNumbers} {n : ℕ} {place : Place} → RefusalTold r n place → r.number ≡ n
-own_number {r} {n} {place} t = ap (λ r. r.number) t.told ∙ number_told n place
 
 -- THE BYTES OF SEVERAL LOGS
 
@@ -86,19 +49,6 @@ pub record Answered (cells : List ℕ) (size : ℕ) (tray : List ℕ) (pattern :
   pub bytes : Under cells size pattern (λ T v. area ≡ written before 0 (tray_bytes (map (log_verdict size T v budget room) done)))
 
 module _ (cells : List ℕ) (size : ℕ) (tray : List ℕ) (pattern : List ℕ) (budget room : ℕ) (before : List ℕ) where
-  pub none_answered : (logs : ℕ) (l : LogsOf tray logs) → 3 * logs ≤ length before → Answered cells size tray pattern budget room l.images before before 1 0
-      logs
-  none_answered logs l h = record {
-    done = [];
-    todo = l.images;
-    all = refl;
-    rest = l.filled;
-    stands = refl;
-    enough = omega (arith, h);
-    same_length = refl;
-    bytes = λ T o v e. refl;
-  }
-
   module _ (images : List (List ℕ)) (area : List ℕ) (at place left : ℕ) (p : Answered cells size tray pattern budget room images before area at place left)
     where
       module _ (some : 0 < left) where
@@ -174,3 +124,26 @@ module _ (cells : List ℕ) (size : ℕ) (tray : List ℕ) (pattern : List ℕ) 
           p.bytes T o v e
           ∙ ap (λ l. written before 0 (tray_bytes (map (log_verdict size T v budget room) l)))
           (sym (p.all ∙ ap (λ l. p.done ++ l) (sym nothing) ∙ append-nil p.done))
+
+-- by how many logs were answered
+module _ (cells : List ℕ) (size : ℕ) (tray : List ℕ) (pattern : List ℕ) (budget room : ℕ) (before : List ℕ) (logs : ℕ) (l : LogsOf tray logs) where
+  abbrev After : List ℕ → ℕ → ℕ → Type 0
+  After area at n = Answered cells size tray pattern budget room l.images before area at (3 * n) (logs - n)
+
+  module _ (area : List ℕ) (at n : ℕ) (p : After area at n) where
+    pub answered_inside : n < logs → end_at tray at ≤ length tray
+    answered_inside h = next_inside cells size tray pattern budget room before l.images area at (3 * n) (logs - n) p (omega arith)
+
+    pub answered_next : n < logs → (after : List ℕ) (end : ℕ) → end ≡ end_at tray at → length after ≡ length area
+        → Under cells size pattern (λ T v. after ≡ written area (3 * n) (log_bytes (log_verdict size T v budget room (image_at tray at))))
+        → After after end (n + 1)
+    answered_next h after end ends long put =
+        subst (λ e. After after e (n + 1)) (sym ends)
+        (subst (λ k. Answered cells size tray pattern budget room l.images before after (end_at tray at) k (logs - (n + 1)))
+        {x = 3 * n + 3} {y = 3 * (n + 1)} (omega arith)
+        (subst (λ k. Answered cells size tray pattern budget room l.images before after (end_at tray at) (3 * n + 3) k)
+        {x = logs - n - 1} {y = logs - (n + 1)} (omega arith)
+        (one_answered cells size tray pattern budget room before l.images area at (3 * n) (logs - n) p (omega arith) after long put)))
+
+    pub answered_last : logs ≤ n → Under cells size pattern (λ T v. area ≡ written before 0 (tray_bytes (map (log_verdict size T v budget room) l.images)))
+    answered_last h = all_answered cells size tray pattern budget room before l.images area at (3 * n) (logs - n) p (omega arith)

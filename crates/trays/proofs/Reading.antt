@@ -1,5 +1,5 @@
 -- The logs of a tray, read from a place on.
-use mathlib.Core.Path.{◌≡◌, refl, sym, ap, ◌∙◌}
+use mathlib.Core.Path.{◌≡◌, refl, sym, ap, subst, ◌∙◌}
 use mathlib.Core.List.{List, [], ◌∷◌, ◌++◌}
 use mathlib.Core.Bool.{Bool, true, false, cond}
 use Prim.Native.Nat.{ℕ, suc, ◌+◌, ◌-◌, ◌*◌, ◌≤◌, ◌<◌}
@@ -13,8 +13,8 @@ use Rattle.model.specs.Bits.{Read}
 use Rattle.model.specs.Images.{several}
 use Rattle.model.specs.Tray.{most_logs, read_log, tray_end, read_tray}
 use Rattle.model.proofs.Impossible.{impossible}
-use Rattle.images.proofs.Several.{after, after_none, several_step, several_refused, several_done}
-use Rattle.trays.specs.Logs.{length_at, image_at, end_at, LogsDecided, TrayOf}
+use Rattle.images.proofs.Several.{after, after_none, several_length, several_step, several_refused, several_done}
+use Rattle.trays.specs.Logs.{length_at, image_at, end_at, LogsOf, LogsDecided, TrayOf}
 
 -- ONE LOG
 
@@ -120,6 +120,19 @@ module _ (tray : List ℕ) (logs : ℕ) where
         by_end : (b : Bool) → eqb at (length tray) ≡ b → LogsDecided tray logs b
         by_end true e = fills z (eqb-true at (length tray) e)
         by_end false e = goes_past z (eqb-false at (length tray) e)
+
+-- by how many logs were passed
+module _ (tray : List ℕ) (logs : ℕ) where
+  pub passed_first : 1 ≤ length tray → Passed tray logs 1 (logs - 0)
+  passed_first h = subst (Passed tray logs 1) {x = logs} {y = logs - 0} (omega arith) (none_passed tray logs h)
+
+  pub passed_next : (at n : ℕ) → Passed tray logs at (logs - n) → n < logs → end_at tray at ≤ length tray → Passed tray logs (end_at tray at) (logs - (n + 1))
+  passed_next at n p h i =
+      subst (Passed tray logs (end_at tray at)) {x = logs - n - 1} {y = logs - (n + 1)} (omega arith) (one_passed tray logs at (logs - n) p (omega arith) i)
+
+-- as many images as logs
+pub many : (tray : List ℕ) (logs : ℕ) (l : LogsOf tray logs) → length l.images ≡ logs
+many tray logs l = several_length read_log logs (drop 1 tray) (record { value = l.images; rest = [] }) l.filled
 
 -- THE TRAY
 

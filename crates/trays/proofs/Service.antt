@@ -1,5 +1,6 @@
 -- The outcome of tray after each check, and what the bytes of a log mean.
 use mathlib.Core.Path.{◌≡◌, refl, sym, ap, subst, ◌∙◌}
+use mathlib.Core.Logic.{⊎_elim}
 use mathlib.Core.List.{List, [], ◌∷◌, ◌++◌, map, append_assoc}
 use Prim.Native.Nat.{ℕ, ◌+◌, ◌*◌, ◌/◌, ◌%◌, ◌≤◌, ◌<◌}
 use native.Mathlib.Omega.{arith}
@@ -19,8 +20,8 @@ use Rattle.model.specs.Tray.{read_tray, log_bytes, tray_bytes, tray}
 use Rattle.model.specs.Stated.{refusal, tray_compared}
 use Rattle.model.specs.declared.answers.Refusal.{Refusal}
 use Rattle.model.specs.declared.answers.Refusal.TheVariants.{AnswerShort, TooManyLogs, NotTray}
-use Rattle.model.specs.declared.answers.TrayCompared.{TrayCompared}
-use Rattle.model.specs.declared.answers.TrayCompared.TheVariants.{Answered, Refused}
+use Rattle.std.specs.Prelude.{◌⊎◌, Ok, Err}
+use Rattle.std.specs.declared.result.Result.{Result}
 use Rattle.model.proofs.Impossible.{impossible, answer_of, same_answer, not_refused}
 use Rattle.model.proofs.Outcomes.{still_refused, goes_on}
 use Rattle.theory.specs.Verdicts.{Settled, settled, by_allowance, by_memory, VerdictMeaning}
@@ -46,27 +47,20 @@ module _ (n : ℕ) (T : Presentation) (v : Positive) (images : List (List ℕ)) 
   abbrev verdicts : List (Outcome Verdict)
   verdicts = map (log_verdict n T v budget (length workspace)) images
 
-  pub no_clear : (r : Refusal) → refusal r ≡ cleared T budget (length workspace) → (after : List ℕ)
-      → after ≡ workspace_after {A = Unit {0}} (refusal r) workspace
-      → States outcome workspace after before before (Refused r)
-  no_clear r e after w =
-      subst (λ o. States o workspace after before before (Refused r)) (sym (still_refused (cleared T budget (length workspace)) r (sym e) _))
-      (record { result = refl; answer = refl; workspace = w })
-
   module _ (clear : answered tt ≡ cleared T budget (length workspace)) (after : List ℕ) (w : after ≡ replicate (length workspace) 0) where
     goes : outcome ≡ unless (ltb (length before) (3 * length images)) 13 verdicts
     goes = goes_on (cleared T budget (length workspace)) tt (sym clear) _
 
-    pub area_short : length before < 3 * length images → States outcome workspace after before before (Refused AnswerShort)
+    pub area_short : length before < 3 * length images → States outcome workspace after before before (Err AnswerShort)
     area_short h =
-        subst (λ o. States o workspace after before before (Refused AnswerShort))
+        subst (λ o. States o workspace after before before (Err AnswerShort))
         (sym (goes ∙ ap (λ t. unless t 13 verdicts) (lt-ltb (length before) (3 * length images) h)))
         (record { result = refl; answer = refl; workspace = w })
 
     pub logs_answered : 3 * length images ≤ length before → (logs : ℕ) → length images ≡ logs → (area : List ℕ) → area ≡ written before 0 (tray_bytes verdicts)
-        → States outcome workspace after before area (Answered logs)
+        → States outcome workspace after before area (Ok logs)
     logs_answered h logs many area a =
-        subst (λ o. States o workspace after before area (Answered logs))
+        subst (λ o. States o workspace after before area (Ok logs))
         (sym (goes ∙ ap (λ t. unless t 13 verdicts) (le-ltb (length before) (3 * length images) h)))
         (record {
           result = ap answered (sym (length-map images (log_verdict n T v budget (length workspace)) ∙ many));
@@ -81,7 +75,7 @@ map_same f g e [] = refl
 map_same f g e (x ∷ xs) = ap (λ y. y ∷ map f xs) (e x) ∙ ap (λ l. g x ∷ l) (map_same f g e xs)
 
 module _ (table logs pattern : List ℕ) (budget room area : ℕ) where
-  pub no_tray : (r : Refusal) → read_tray logs ≡ refusal r → tray table logs pattern budget room area ≡ refusal r
+  no_tray : (r : Refusal) → read_tray logs ≡ refusal r → tray table logs pattern budget room area ≡ refusal r
   unfolding tray
   no_tray r e = still_refused (read_tray logs) r e _
 
@@ -139,7 +133,7 @@ module _ (table logs pattern : List ℕ) (budget : ℕ) (workspace before : List
   whole = tray table logs pattern budget (length workspace) (length before)
 
   pub tray_refused : (r : Refusal) → whole ≡ refusal r → {A : Type 0} (first : Outcome A) (k : ℕ) → first ≡ refusal r → Early k first → k ≤ 8
-      → States whole workspace workspace before before (Refused r)
+      → States whole workspace workspace before before (Err r)
   tray_refused r e first k f h few =
       record {
         result = refused_stated whole r e length;
@@ -147,12 +141,22 @@ module _ (table logs pattern : List ℕ) (budget : ℕ) (workspace before : List
         workspace = refused_workspace whole r e first k f h few workspace;
       }
 
-  pub logs_too_many : whole ≡ refused 23 unplaced → States whole workspace workspace before before (Refused TooManyLogs)
-  logs_too_many e = subst (λ o. States o workspace workspace before before (Refused TooManyLogs)) (sym e)
+  logs_too_many : whole ≡ refused 23 unplaced → States whole workspace workspace before before (Err TooManyLogs)
+  logs_too_many e = subst (λ o. States o workspace workspace before before (Err TooManyLogs)) (sym e)
       (record { result = refl; answer = refl; workspace = refl })
 
-  pub tray_broken : whole ≡ refused 24 unplaced → States whole workspace workspace before before (Refused NotTray)
-  tray_broken e = subst (λ o. States o workspace workspace before before (Refused NotTray)) (sym e) (record { result = refl; answer = refl; workspace = refl })
+  tray_broken : whole ≡ refused 24 unplaced → States whole workspace workspace before before (Err NotTray)
+  tray_broken e = subst (λ o. States o workspace workspace before before (Err NotTray)) (sym e) (record { result = refl; answer = refl; workspace = refl })
+
+  -- the two ways in which a tray is none
+  pub tray_not_read : (r : Refusal) → (read_tray logs ≡ refusal r) × ((r ≡ TooManyLogs) ⊎ (r ≡ NotTray))
+      → States whole workspace workspace before before (Err r)
+  tray_not_read r (e, only) =
+      ⊎_elim (λ s. subst (λ q. States whole workspace workspace before before (Err q)) (sym s) (logs_too_many (ends TooManyLogs s)))
+      (λ s. subst (λ q. States whole workspace workspace before before (Err q)) (sym s) (tray_broken (ends NotTray s))) only
+    where
+      ends : (q : Refusal) → r ≡ q → whole ≡ refusal q
+      ends q s = no_tray table logs pattern budget (length workspace) (length before) q (e ∙ ap (λ x. refusal {A = List (List ℕ)} x) s)
 
 -- WHAT THE BYTES OF A LOG MEAN
 
@@ -278,7 +282,7 @@ tray_says table logs pattern budget room before (refused n place) e after a = tt
 tray_says table logs pattern budget room before (answered vs) e after a = log_means table logs pattern budget room before vs e after a
 
 -- what the service promises
-module _ (table logs pattern : List ℕ) (budget : ℕ) (workspace workspace_left before after : List ℕ) (r : TrayCompared) where
+module _ (table logs pattern : List ℕ) (budget : ℕ) (workspace workspace_left before after : List ℕ) (r : Result ℕ Refusal) where
   abbrev result : Outcome (List (Outcome Verdict))
   result = tray table logs pattern budget (length workspace) (length before)
 

@@ -1,10 +1,12 @@
 -- What a tray's bytes are read as.
-use Rattle.std.specs.Prelude.{List, [], Bool, true, false, ◌≡◌, ℕ, ◌+◌, ◌*◌, get_or, take, drop}
+use Rattle.std.specs.Prelude.{List, [], Bool, true, false, ◌≡◌, ◌⊎◌, ℕ, ◌+◌, ◌*◌, get_or, take, drop, Ok, Err}
+use Rattle.std.specs.declared.result.Result.{Result}
 use Rattle.model.specs.Outcome.{unplaced, answered, refused, ◌>>=◌}
 use Rattle.model.specs.Images.{several}
 use Rattle.model.specs.Tray.{read_log, tray_end, read_tray}
-use Rattle.trays.specs.declared.logs.TrayRead.{TrayRead}
-use Rattle.trays.specs.declared.logs.TrayRead.TheVariants.{Logs, TooMany, Broken}
+use Rattle.model.specs.Stated.{refusal}
+use Rattle.model.specs.declared.answers.Refusal.{Refusal}
+use Rattle.model.specs.declared.answers.Refusal.TheVariants.{TooManyLogs, NotTray}
 
 -- the length of the log at a place, its image, and where it ends
 abbrev pub length_at : List ℕ → ℕ → ℕ
@@ -30,7 +32,6 @@ pub record TrayOf (tray : List ℕ) (logs : ℕ) : Type 0 where
   pub all : LogsOf tray logs
   pub read : read_tray tray ≡ answered all.images
 
-abbrev pub TrayDone : List ℕ → TrayRead → Type 0
-TrayDone tray (Logs count) = TrayOf tray count
-TrayDone tray TooMany = read_tray tray ≡ refused 23 unplaced
-TrayDone tray Broken = read_tray tray ≡ refused 24 unplaced
+abbrev pub TrayDone : List ℕ → Result ℕ Refusal → Type 0
+TrayDone tray (Ok count) = TrayOf tray count
+TrayDone tray (Err r) = (read_tray tray ≡ refusal r) × ((r ≡ TooManyLogs) ⊎ (r ≡ NotTray))

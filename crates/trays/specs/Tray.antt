@@ -1,5 +1,6 @@
 -- What comes of the logs of a tray under a table that was loaded.
 use Rattle.std.specs.Prelude.{List, map, ◌≡◌, ℕ, ◌*◌, ltb, length}
+use Rattle.std.specs.declared.result.Result.{Result}
 use Rattle.model.specs.Word.{Positive}
 use Rattle.model.specs.Presentation.{Presentation}
 use Rattle.model.specs.Outcome.{Outcome, answered, ◌>>=◌, unless, mapped}
@@ -9,7 +10,7 @@ use Rattle.model.specs.Areas.{written, output_after, workspace_after}
 use Rattle.model.specs.Tray.{log_bytes, tray_bytes, tray}
 use Rattle.model.specs.Stated.{compared, tray_compared}
 use Rattle.model.specs.declared.answers.Compared.{Compared}
-use Rattle.model.specs.declared.answers.TrayCompared.{TrayCompared}
+use Rattle.model.specs.declared.answers.Refusal.{Refusal}
 use Rattle.cells.specs.Stands.{Of}
 use Rattle.trays.specs.Logs.{image_at, end_at, LogsOf}
 
@@ -27,7 +28,7 @@ tray_verdicts n T v images budget room area =
 abbrev pub Under : List ℕ → ℕ → List ℕ → (Presentation → Positive → Type 0) → Type 0
 Under cells size pattern P = (T : Presentation) → Of cells size T → (v : Positive) → read_forward size pattern ≡ answered v → P T v
 
-pub record LogCompared (cells : List ℕ) (size : ℕ) (log pattern : List ℕ) (budget : ℕ) (before after : List ℕ) (r : Compared) : Type 0 where
+pub record LogCompared (cells : List ℕ) (size : ℕ) (log pattern : List ℕ) (budget : ℕ) (before after : List ℕ) (r : Result Compared Refusal) : Type 0 where
   pub workspace : after ≡ before
   pub verdict : Under cells size pattern (λ T v. compared r ≡ log_verdict size T v budget (length before) log)
 
@@ -46,16 +47,16 @@ pub record LogsAnswered (cells : List ℕ) (size : ℕ) (tray : List ℕ) (logs 
       → Under cells size pattern (λ T v. after ≡ written before 0 (tray_bytes (map (log_verdict size T v budget (length workspace_before)) l.images)))
 
 -- an outcome, as it is told and as the areas are left
-pub record States (outcome : Outcome (List (Outcome Verdict))) (workspace_before workspace_left before after : List ℕ) (r : TrayCompared) : Type 0 where
+pub record States (outcome : Outcome (List (Outcome Verdict))) (workspace_before workspace_left before after : List ℕ) (r : Result ℕ Refusal) : Type 0 where
   pub result : tray_compared r ≡ mapped length outcome
   pub answer : after ≡ output_after tray_bytes outcome before
   pub workspace : workspace_left ≡ workspace_after outcome workspace_before
 
-abbrev pub TrayJudged : List ℕ → ℕ → List ℕ → ℕ → List ℕ → ℕ → List ℕ → List ℕ → List ℕ → List ℕ → TrayCompared → Type 0
+abbrev pub TrayJudged : List ℕ → ℕ → List ℕ → ℕ → List ℕ → ℕ → List ℕ → List ℕ → List ℕ → List ℕ → Result ℕ Refusal → Type 0
 TrayJudged cells size tray logs pattern budget workspace_before workspace_left before after r =
     (l : LogsOf tray logs) → Under cells size pattern
     (λ T v. States (tray_verdicts size T v l.images budget (length workspace_before) (length before)) workspace_before workspace_left before after r)
 
-abbrev pub TrayStated : List ℕ → List ℕ → List ℕ → ℕ → List ℕ → List ℕ → List ℕ → List ℕ → TrayCompared → Type 0
+abbrev pub TrayStated : List ℕ → List ℕ → List ℕ → ℕ → List ℕ → List ℕ → List ℕ → List ℕ → Result ℕ Refusal → Type 0
 TrayStated table logs pattern budget workspace_before workspace_left before after r =
     States (tray table logs pattern budget (length workspace_before) (length before)) workspace_before workspace_left before after r

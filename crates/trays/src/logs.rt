@@ -2,18 +2,13 @@
 ghost use Rattle.std.specs.Prelude.{◌≡◌, ◌+◌, ◌≤◌, length};
 ghost use Rattle.trays.specs.Logs.{length_at, LogsDecided, TrayDone};
 
+use model::answers::Refusal;
+
 // The logs that a tray may have.
 pub const MOST_LOGS: u8 = 64;
 
-// What a tray is: so many logs; too many by its first byte; or one that ends early or goes on.
-#[derive(Clone, Copy)]
-pub enum TrayRead {
-    Logs { count: u8 },
-    TooMany,
-    Broken,
-}
-
 // The length of the log that stands at a place, from its two bytes, the high one first.
+// Kept (4): (a) the edit length_of_255_a_high_byte is of this product, which `from_be_bytes` does not show.
 pub fn log_length(tray: &[u8], at: usize) -> usize
     requires { at + 2 ≤ length tray.now }
     ensures { result ≡ length_at tray.now at }
@@ -27,8 +22,7 @@ pub fn holds_logs(tray: &[u8], logs: u8) -> bool
     ensures { LogsDecided tray.now logs result }
 {
     let mut at: usize = 1;
-    let mut left = logs;
-    while left > 0 {
+    for _ in 0..logs {
         if tray.len() - at < 2 {
             return false;
         }
@@ -38,23 +32,22 @@ pub fn holds_logs(tray: &[u8], logs: u8) -> bool
             return false;
         }
         at = start + bytes;
-        left -= 1;
     }
     at == tray.len()
 }
 
-pub fn read_tray(tray: &[u8]) -> TrayRead
+// How many logs a tray has. One of too many is told by its first byte, any other that ends early or goes on is none.
+pub fn read_tray(tray: &[u8]) -> Result<u8, Refusal>
     ensures { TrayDone tray.now result }
 {
-    if tray.len() == 0 {
-        return TrayRead::Broken;
-    }
-    let logs = tray[0];
+    let [logs, ..] = *tray else {
+        return Err(Refusal::NotTray);
+    };
     if logs > MOST_LOGS {
-        return TrayRead::TooMany;
+        return Err(Refusal::TooManyLogs);
     }
     if holds_logs(tray, logs) {
-        return TrayRead::Logs { count: logs };
+        return Ok(logs);
     }
-    TrayRead::Broken
+    Err(Refusal::NotTray)
 }

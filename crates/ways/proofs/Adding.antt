@@ -9,7 +9,7 @@ use Prim.Native.Nat.{ℕ, suc, ◌+◌, ◌%◌, ◌≤◌, ◌<◌}
 use native.Mathlib.Omega.{arith}
 use lib.Dec.{eqb}
 use lib.ListN.{length, take, drop, get_or, length-append, length-drop, take-append-drop}
-use lib.Seq.{take_at, drop_at, drop-drop}
+use lib.Seq.{take_at, take_all, drop_at, drop-drop}
 use borrow.Author.Tests.{eq-eqb, ne_eqb}
 use Rattle.model.specs.Word.{Positive}
 use Rattle.model.specs.Presentation.{Presentation, weight_of, weigh}
@@ -261,8 +261,16 @@ ends_before xs cs ys m zs (ahead ws p q) h = omega (arith, ap (λ l. length (spe
 -- ADDING
 
 module _ {cells : List ℕ} {size : ℕ} (g : Work cells size) (area : List ℕ) (h : Held) (b : Busy g area h) where
-  pub busy_spells : Spells area h.used (b.earlier_words ++ (current g.word ∷ b.later_words))
-  busy_spells = b.sound.spells
+  -- the words that the bytes in use spell
+  pub busy_spells : Spells (take h.used area) (length (take h.used area)) (b.earlier_words ++ (current g.word ∷ b.later_words))
+  busy_spells =
+      let s = b.sound.spells in
+      record {
+        fits = omega arith;
+        bytes = take_all (length (take h.used area)) (take h.used area) (omega arith) ∙ s.bytes;
+        legible = s.legible;
+        ordered = s.ordered;
+      }
 
   pub busy_inside : h.word + h.letters + 1 ≤ h.used
   busy_inside =

@@ -4,15 +4,19 @@ use mathlib.Core.List.{List, [], ◌∷◌, ◌++◌}
 use mathlib.Core.Bool.{true, false}
 use Prim.Native.Nat.{ℕ, zero, suc, ◌+◌, ◌-◌, ◌≤◌, ◌<◌}
 use native.Mathlib.Omega.{arith}
-use native.Mathlib.Decide.{ℕ_discrete}
+use native.Mathlib.Decide.{ℕ_discrete, dec_lt}
 use lib.ListN.{length, take, drop, get_or, length-append, get_or-append}
 use lib.Seq.{get_or-append-add, get_or_at, get_or-take, get_or-drop}
+use Rattle.std.specs.Prelude.{min}
+use Rattle.std.specs.Ordering.{MatchOrdering}
+use Rattle.std.specs.declared.cmp.Ordering.{Ordering}
+use Rattle.std.specs.declared.cmp.Ordering.TheVariants.{Less, Equal, Greater}
 use Rattle.model.specs.Word.{Positive}
 use Rattle.model.specs.Ways.{earlier}
 use Rattle.model.proofs.Listing.{earlier_same, earlier_below}
 use Rattle.areas.proofs.Parts.{taken_length}
 use Rattle.ways.specs.declared.swap.Swap.{Swap}
-use Rattle.ways.specs.Swap.{new_length, put_letters, new_word, Readable}
+use Rattle.ways.specs.Swap.{new_length, put_letters, new_word, Readable, OrderMeans}
 
 -- past the first list
 pub get_d_past : (xs ys : List ℕ) (i : ℕ) → length xs ≤ i → get_or (xs ++ ys) i 0 ≡ get_or ys (i - length xs) 0
@@ -87,6 +91,10 @@ module _ (area cells : List ℕ) (s : Swap) (r : Readable area cells s) where
       ∙ (part_at area (s.word + (s.offset + s.taken)) s.rest (i - s.offset - 1 - length (put_letters cells s)) (omega (arith, put_length))
       ∙ ap (λ j. get_or area j 0) at))
 
+-- .. of a word that is seen to be the new one
+pub seen_length : {area cells : List ℕ} {s : Swap} {v : Positive} → Readable area cells s → new_word area cells s ≡ v → length v ≡ new_length s
+seen_length {area} {cells} {s} r e = ap length (sym e) ∙ new_length_lem area cells s r
+
 -- THE ORDER BY LETTERS
 
 -- the same letters before a place
@@ -133,6 +141,21 @@ beginning_neither (x ∷ u) (y ∷ v) h a = go (beginning_neither u v (omega ari
       ap (λ z. earlier (x ∷ u) (z ∷ v)) (sym same) ∙ (earlier_same x u v ∙ t.0),
       ap (λ z. earlier (z ∷ v) (x ∷ u)) (sym same) ∙ (earlier_same x v u ∙ t.1),
     )
+
+-- the first letter that differs, as it was found
+pub order_at : (u v : Positive) (i a b : ℕ) (r : Ordering) → i < length u → i < length v → Agree u v i → a ≡ get_or u i 0 → b ≡ get_or v i 0
+    → (a ≡ b → ⊥) → MatchOrdering r (a < b) (a ≡ b) (b < a) → OrderMeans u v r
+order_at u v i a b Less p q g d e n m = earlier_at u v i p q g (omega (arith, d, e, m))
+order_at u v i a b Equal p q g d e n m = absurd (n m)
+order_at u v i a b Greater p q g d e n m = earlier_at v u i q p (λ j h. sym (g j h)) (omega (arith, d, e, m))
+
+-- no letter differs up to where one of them ends
+pub order_same : (u v : Positive) (i : ℕ) → i ≡ min (length u) (length v) → Agree u v i → OrderMeans u v Equal
+order_same u v i e g = go (dec_lt (length v) (length u))
+  where
+    go : Dec (length v < length u) → OrderMeans u v Equal
+    go (yes p) = let t = beginning_neither v u (omega arith) (λ j h. sym (g j (omega arith))) in (t.1, t.0)
+    go (no p) = beginning_neither u v (omega arith) (λ j h. g j (omega arith))
 
 -- an area of the same length holds as much
 pub readable_kept : (area area' cells : List ℕ) (s : Swap) → length area' ≡ length area → Readable area cells s → Readable area' cells s

@@ -7,6 +7,7 @@ use Prim.Native.Nat.{ℕ, ◌+◌, ◌-◌, ◌≤◌, ◌<◌}
 use native.Mathlib.Omega.{arith}
 use lib.ListN.{length, take, drop, get_or, length-take, length-drop, take-append-drop}
 use lib.Seq.{get_or_at, take_all, take-take, ext_get_or}
+use Rattle.std.specs.Prelude.{Option as OptionAnswer, Some, None}
 use Rattle.model.specs.Word.{Positive}
 use Rattle.model.specs.Presentation.{Presentation}
 use Rattle.model.specs.Equivalence.{Entry, equal, applied}
@@ -23,8 +24,6 @@ use Rattle.swaps.proofs.Applying.{side_fits, other_fits, no_fit_breaks, fit_make
 use Rattle.areas.proofs.Parts.{taken_length}
 use Rattle.ways.specs.declared.swap.Swap.{Swap}
 use Rattle.ways.specs.declared.trying.Held.{Held}
-use Rattle.ways.specs.declared.trying.Tried.{Tried}
-use Rattle.ways.specs.declared.trying.Tried.TheVariants.{Going, Full}
 use Rattle.ways.specs.Swap.{new_word}
 use Rattle.ways.specs.State.{Work, current, Busy, list_of, held_word, entry_at, Progress, TriedMeans, Toward, Swaps}
 use Rattle.spans.proofs.Runs.{WordAt}
@@ -109,9 +108,10 @@ module _ {cells : List ℕ} {size : ℕ} (g : Work cells size) (area : List ℕ)
         }
 
     -- what the one entry makes of the word is all that there is
-    pub one_fits : (b : ℕ) (old : List Positive) (after : List ℕ) (r : Tried) → TriedMeans g old (λ d. d ≡ entry_at o (get_or area (h.word + o) 0) b) after r
+    pub one_fits : (b : ℕ) (old : List Positive) (after : List ℕ) (r : OptionAnswer Held)
+        → TriedMeans g old (λ d. d ≡ entry_at o (get_or area (h.word + o) 0) b) after r
         → TriedMeans g old (Toward o b) after r
-    one_fits b old after (Going k) m =
+    one_fits b old after (Some k) m =
         record {
           busy = m.busy;
           kept = m.kept;
@@ -119,7 +119,7 @@ module _ {cells : List ℕ} {size : ℕ} (g : Work cells size) (area : List ℕ)
               m.swaps d v
               (only_entry g.table g.word o b d v p q ∙ ap (λ a. entry_at o a b) (sym letter_there)) q;
         }
-    one_fits b old after Full m = m
+    one_fits b old after None m = m
 
     -- THE RELATION IN THE CELLS
 

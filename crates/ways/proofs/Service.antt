@@ -10,10 +10,12 @@ use native.Mathlib.Decide.{dec_lt}
 use lib.ListN.{length, take, drop, get_or, set, replicate, length-append, length-drop, length-set}
 use lib.Seq.{take_at, drop_at, set_at, drop-cons}
 use borrow.Author.Tests.{lt-ltb, le-ltb, ne_eqb, eq-eqb}
+use Rattle.std.specs.Prelude.{Result, Ok, Err, MatchResult, IsErrAnd}
+use Rattle.std.proofs.lemmas.Result.{err_from_is_err_and}
+use Rattle.model.specs.declared.answers.Pair.{Pair}
 use Rattle.model.specs.declared.answers.Refusal.{Refusal}
 use Rattle.model.specs.declared.answers.Refusal.TheVariants.{AnswerShort}
 use Rattle.model.specs.declared.answers.Ways.{Ways}
-use Rattle.model.specs.declared.answers.Ways.TheVariants.{Listed, Refused}
 use Rattle.model.specs.Word.{forward, back, Word, Positive, positive, forwards}
 use Rattle.model.specs.Presentation.{Presentation}
 use Rattle.model.specs.Equivalence.{Joined}
@@ -37,7 +39,6 @@ use Rattle.images.proofs.RoundTrip.{table_in_range, program_in_range}
 use Rattle.images.specs.Programs.{ForwardOf}
 use Rattle.loading.proofs.Early.{Early}
 use Rattle.loading.proofs.Reading.{program_still_refused, program_runs}
-use Rattle.table_checks.specs.declared.table.Weights.{Weights}
 use Rattle.table_checks.specs.Table.{weights_as, WeightsMean}
 use Rattle.cells.specs.Stands.{Of}
 use Rattle.theory.specs.Ways.{Weighed}
@@ -144,7 +145,7 @@ module _ (cells : List ℕ) (size : ℕ) (program : List ℕ) (count : ℕ) (f :
   -- THE ANSWER
 
   pub long_answers : (before area : List ℕ) → length before < length (listing_bytes (listing T u)) → length area ≡ length before
-      → Answers (fitted_listing (length before) (listing T u)) before (replicate (length area) 0) (Refused AnswerShort)
+      → Answers (fitted_listing (length before) (listing T u)) before (replicate (length area) 0) (Err AnswerShort)
   long_answers before area h e =
       let o : fitted_listing (length before) (listing T u) ≡ refusal AnswerShort =
       ap (λ t. unless t 13 (listing T u)) (lt-ltb (length before) (length (listing_bytes (listing T u))) h) in
@@ -153,9 +154,9 @@ module _ (cells : List ℕ) (size : ℕ) (program : List ℕ) (count : ℕ) (f :
         area = ap (λ k. replicate k 0) e ∙ sym (ap (λ x. ways_area x before) o);
       }
 
-  pub whole_answers : (before area : List ℕ) (n k : ℕ) → length area ≡ length before → ListedAll (task before) area n k
-      → Answers (fitted_listing (length before) (listing T u)) before area (Listed n k)
-  whole_answers before area n k e t =
+  pub whole_answers : (before area : List ℕ) (l : Ways) → length area ≡ length before → ListedAll (task before) area l.words l.bytes
+      → Answers (fitted_listing (length before) (listing T u)) before area (Ok l)
+  whole_answers before area l e t =
       let long : length area ≡ length (listing_bytes (listing T u)) + (length before - length (listing_bytes (listing T u))) =
       ap length t.area_is ∙ (length-append (listing_bytes (listing T u)) (drop (length (listing_bytes (listing T u))) before)
       ∙ ap (λ j. length (listing_bytes (listing T u)) + j) (length-drop (length (listing_bytes (listing T u))) before)) in
@@ -171,7 +172,7 @@ module _ (cells : List ℕ) (size : ℕ) (program : List ℕ) (count : ℕ) (f :
 
 -- a refusal other than 13 leaves the area as it was
 pub refused_answers : (outcome : Outcome (List Positive)) (before : List ℕ) (r : Refusal) → outcome ≡ refusal r → ((numbered r).0 ≡ 13 → ⊥)
-    → Answers outcome before before (Refused r)
+    → Answers outcome before before (Err r)
 refused_answers outcome before r e other =
     record {
       result = ap (mapped counts) (sym e);
@@ -201,8 +202,29 @@ module _ (table program : List ℕ) (area : ℕ) where
     pub ways_lists : weight_check T (pairs T.size) ≡ answered tt → ways table program area ≡ fitted_listing area (listing T u)
     ways_lists w = ways_weighs ∙ goes_on (weight_check T (pairs T.size)) tt w _
 
+-- what a result was, by what `map_err` made of it
+module _ {E D : Type 0} (wrap : E → D) (r : Result (Unit {0}) E) (s : Result (Unit {0}) D)
+    (m : MatchResult r (λ x. s ≡ Ok x) (λ e. IsErrAnd s (λ d. d ≡ wrap e))) where
+  pub mapped_ok : (x : Unit {0}) → s ≡ Ok x → r ≡ Ok x
+  mapped_ok x e = go r m
+    where
+      go : (q : Result (Unit {0}) E) → MatchResult q (λ x. s ≡ Ok x) (λ e. IsErrAnd s (λ d. d ≡ wrap e)) → q ≡ Ok x
+      go (Ok y) n = cc
+      go (Err y) n = let p = err_from_is_err_and s n in let same : Err p.0 ≡ Ok x = sym p.1 ∙ e in impossible (cc)
+
+  pub mapped_err : (d : D) → s ≡ Err d → (e : E) × (r ≡ Err e) × (d ≡ wrap e)
+  mapped_err d e = go r m
+    where
+      go : (q : Result (Unit {0}) E) → MatchResult q (λ x. s ≡ Ok x) (λ e. IsErrAnd s (λ d. d ≡ wrap e)) → (e : E) × (q ≡ Err e) × (d ≡ wrap e)
+      go (Ok y) n = let same : Ok y ≡ Err d = sym n ∙ e in impossible (cc)
+      go (Err y) n =
+          let p = err_from_is_err_and s n in
+          let same : Err d ≡ Err p.0 = sym e ∙ p.1 in
+          let last : p.0 ≡ wrap y = p.2 in
+          (y, refl, cc)
+
 -- what the weight check's answer says of the table
-pub weights_told : (cells : List ℕ) (size : ℕ) (T : Presentation) → Of cells size T → (r : Weights) → WeightsMean cells size r
+pub weights_told : (cells : List ℕ) (size : ℕ) (T : Presentation) → Of cells size T → (r : Result (Unit {0}) Pair) → WeightsMean cells size r
     → weight_check T (pairs T.size) ≡ weights_as r
 weights_told cells size T o r m = ap (λ n. weight_check T (pairs n)) o.sized ∙ sym (m T o)
 
@@ -241,7 +263,7 @@ read_letters n few bytes u h = go (read_program n bytes) refl h
     go (answered w) q e = test w (program_in_range n few bytes w q).letters (not (is_forward w)) e
     go (refused i ps) q e = impossible (cc)
 
-module _ (table program before after : List ℕ) (r : Ways) (a : Answers (ways table program (length before)) before after r) where
+module _ (table program before after : List ℕ) (r : Result Ways Refusal) (a : Answers (ways table program (length before)) before after r) where
   pub ways_say : WaysSays table program (listed_as r) after
   ways_say T e u p c told =
       let t = told_words (ways table program (length before)) c (sym a.result ∙ told) in

@@ -9,8 +9,8 @@ use Prim.Native.Nat.{ℕ, suc, ◌+◌, ◌-◌, ◌%◌, ◌≤◌, ◌<◌}
 use native.Mathlib.Omega.{arith}
 use native.Mathlib.Decide.{dec_lt}
 use lib.Dec.{eqb}
-use lib.ListN.{length, drop, get_or, set, length-append, length-set, take-append-drop, get_or-append}
-use lib.Seq.{get_or-take, get_or-append-add, take-set-lt, drop-set-lt, set_at}
+use lib.ListN.{length, take, drop, get_or, set, length-append, length-set, take-append-drop, get_or-append}
+use lib.Seq.{length-take-le, get_or-take, get_or-append-add, take-set-lt, drop-set-lt, set_at}
 use borrow.Author.Tests.{eq-eqb, ne_eqb}
 use Rattle.model.specs.Word.{Positive}
 use Rattle.model.specs.Equivalence.{Entry, applied, Joined}
@@ -21,7 +21,8 @@ use Rattle.theory.proofs.Ways.{Closed, closed_lists, listing_meaning}
 use Rattle.ways.specs.declared.trying.Held.{Held}
 use Rattle.spans.specs.Ends.{is_ending, StartFound}
 use Rattle.spans.proofs.Runs.{WordAt, start_is}
-use Rattle.ways.specs.Marks.{untried, UntriedFound}
+use Rattle.std.specs.Prelude.{Option, Some, None}
+use Rattle.ways.specs.Marks.{untried, UntriedFound, FirstUntried}
 use Rattle.ways.specs.Area.{Marked, entry_bytes, spelled, words, Legible, Spells}
 use Rattle.ways.specs.State.{tried_count, Sound, Work, current, Busy, Progress, Any}
 use Rattle.ways.specs.Listing.{Task, State, ListedAll}
@@ -323,6 +324,23 @@ module _ {cells : List ℕ} {size : ℕ} (k : Task cells size) (area : List ℕ)
       }
 
 -- THE NEXT WORD
+
+-- what is found in the bytes that are used is found in the area
+found_inside : (area : List ℕ) (used r : ℕ) → used ≤ length area → UntriedFound (take used area) used r → UntriedFound area used r
+found_inside area used r h f =
+    record {
+      within = f.within;
+      tried = λ i l e. f.tried i l (get_or-take used area i 0 (omega (arith, f.within)) ∙ e);
+      marked = λ l. sym (get_or-take used area r 0 l) ∙ f.marked l;
+    }
+
+pub first_inside : (area : List ℕ) (used : ℕ) (r : Option ℕ) → used ≤ length area → FirstUntried (take used area) (length (take used area)) r
+    → FirstUntried area used r
+first_inside area used r h f = go r (subst (λ n. FirstUntried (take used area) n r) (length-take-le used area h) f)
+  where
+    go : (r : Option ℕ) → FirstUntried (take used area) used r → FirstUntried area used r
+    go None g = found_inside area used used h g
+    go (Some end) g = (found_inside area used end h g.0, g.1)
 
 module _ {cells : List ℕ} {size : ℕ} (k : Task cells size) (area : List ℕ) (used count : ℕ) (t : State k area used count)
     (end : ℕ) (l : end < used) (f : UntriedFound area used end) where

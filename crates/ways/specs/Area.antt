@@ -1,12 +1,10 @@
 -- The words in the area, each with its mark.
 use mathlib.Core.List.{List, [], ◌∷◌, ◌++◌, map, Memᴰ}
-use Rattle.std.specs.Prelude.{true, false, ◌≡◌, ℕ, ◌≤◌, ◌<◌, length, take, get_or}
+use Rattle.std.specs.Prelude.{true, false, ◌≡◌, ℕ, ◌≤◌, ◌<◌, length, take, get_or, Option, Some, None}
 use Rattle.model.specs.Word.{Positive}
 use Rattle.model.specs.Enumeration.{concat_map}
 use Rattle.model.specs.Ways.{earlier, Ordered}
 use Rattle.spans.specs.Ends.{is_ending}
-use Rattle.ways.specs.declared.search.Place.{Place}
-use Rattle.ways.specs.declared.search.Place.TheVariants.{There, At}
 
 -- a word with the byte that ends it
 pub record Marked : Type 0 where
@@ -53,6 +51,6 @@ pub record Fits (ms : List Marked) (v : Positive) (at : ℕ) : Type 0 where
   pub earlier_all : (m : Marked) → Memᴰ m before → earlier m.word v ≡ true
   pub later_all : (m : Marked) → Memᴰ m after → earlier v m.word ≡ true
 
-abbrev pub PlaceMeans : List Marked → Positive → Place → Type 0
-PlaceMeans ms v There = Listed ms v
-PlaceMeans ms v (At at) = Fits ms v at
+abbrev pub PlaceMeans : List Marked → Positive → Option ℕ → Type 0
+PlaceMeans ms v None = Listed ms v
+PlaceMeans ms v (Some at) = Fits ms v at

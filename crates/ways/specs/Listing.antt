@@ -1,15 +1,12 @@
 -- What listing all words comes to.
-use Rattle.std.specs.Prelude.{List, ◌≡◌, ℕ, ◌+◌, ◌<◌, length}
+use Rattle.std.specs.Prelude.{List, ◌≡◌, ℕ, ◌+◌, ◌<◌, length, Option, Some, None}
+use Rattle.model.specs.declared.answers.Ways.{Ways}
 use Rattle.model.specs.Word.{Positive}
 use Rattle.model.specs.Presentation.{Presentation}
 use Rattle.model.specs.Areas.{begins}
 use Rattle.model.specs.Ways.{listing, listing_bytes}
 use Rattle.theory.specs.Ways.{Weighed}
 use Rattle.cells.specs.Stands.{Of}
-use Rattle.ways.specs.declared.listing.NextTried.{NextTried}
-use Rattle.ways.specs.declared.listing.NextTried.TheVariants.{Used, Full}
-use Rattle.ways.specs.declared.listing.Listing.{Listing}
-use Rattle.ways.specs.declared.listing.Listing.TheVariants.{Whole, Long}
 use Rattle.ways.specs.Area.{Marked}
 use Rattle.ways.specs.Marks.{UntriedFound}
 use Rattle.ways.specs.State.{Sound}
@@ -42,12 +39,12 @@ abbrev pub Longer : {cells : List ℕ} {size : ℕ} → Task cells size → Type
 Longer k = length k.before < length (listing_bytes (listing k.table k.program))
 
 -- one word more was tried
-abbrev pub NextTriedMeans : {cells : List ℕ} {size : ℕ} → Task cells size → ℕ → List ℕ → NextTried → Type 0
-NextTriedMeans k count area (Used used) = State k area used (count + 1)
-NextTriedMeans k count area Full = Longer k
+abbrev pub NextTriedMeans : {cells : List ℕ} {size : ℕ} → Task cells size → ℕ → List ℕ → Option ℕ → Type 0
+NextTriedMeans k count area (Some used) = State k area used (count + 1)
+NextTriedMeans k count area None = Longer k
 
 -- .. in every task that has come so far
-abbrev pub NextMeans : List ℕ → ℕ → List ℕ → ℕ → List ℕ → NextTried → Type 0
+abbrev pub NextMeans : List ℕ → ℕ → List ℕ → ℕ → List ℕ → Option ℕ → Type 0
 NextMeans cells size area used after r = (k : Task cells size) (count : ℕ) → State k area used count → NextTriedMeans k count after r
 
 -- the area begins with the listing, and is as it was from there on
@@ -56,9 +53,9 @@ pub record ListedAll {cells : List ℕ} {size : ℕ} (k : Task cells size) (area
   pub words_are : words ≡ length (listing k.table k.program)
   pub bytes_are : bytes ≡ length (listing_bytes (listing k.table k.program))
 
-abbrev pub ListingMeans : {cells : List ℕ} {size : ℕ} → Task cells size → List ℕ → Listing → Type 0
-ListingMeans k area (Whole words bytes) = ListedAll k area words bytes
-ListingMeans k area Long = Longer k
+abbrev pub ListingMeans : {cells : List ℕ} {size : ℕ} → Task cells size → List ℕ → Option Ways → Type 0
+ListingMeans k area (Some l) = ListedAll k area l.words l.bytes
+ListingMeans k area None = Longer k
 
-abbrev pub ListMeans : List ℕ → ℕ → List ℕ → ℕ → List ℕ → Listing → Type 0
+abbrev pub ListMeans : List ℕ → ℕ → List ℕ → ℕ → List ℕ → Option Ways → Type 0
 ListMeans cells size area used after r = (k : Task cells size) → State k area used 0 → ListingMeans k after r

@@ -1,5 +1,6 @@
 -- What the service answers, and what its answer says of the table and the program in the images.
-use Rattle.std.specs.Prelude.{List, ◌≡◌, ℕ, length, take}
+use Rattle.std.specs.Prelude.{List, ◌≡◌, ℕ, length, take, Result}
+use Rattle.model.specs.declared.answers.Refusal.{Refusal}
 use Rattle.model.specs.declared.answers.Ways.{Ways}
 use Rattle.model.specs.Word.{Positive}
 use Rattle.model.specs.Presentation.{Presentation}
@@ -16,7 +17,7 @@ use Rattle.images.specs.Programs.{ForwardOf}
 use Rattle.cells.specs.Stands.{Of}
 
 -- the result and the area are those of an outcome
-pub record Answers (outcome : Outcome (List Positive)) (before after : List ℕ) (r : Ways) : Type 0 where
+pub record Answers (outcome : Outcome (List Positive)) (before after : List ℕ) (r : Result Ways Refusal) : Type 0 where
   pub result : listed_as r ≡ mapped counts outcome
   pub area : after ≡ ways_area outcome before
 
@@ -32,7 +33,7 @@ pub record Listable (cells : List ℕ) (size : ℕ) (program : List ℕ) (count 
   pub passed : Passed cells size table
   pub forward : ForwardOf program size count
 
-abbrev pub ProgramListed : List ℕ → ℕ → List ℕ → List ℕ → List ℕ → Ways → Type 0
+abbrev pub ProgramListed : List ℕ → ℕ → List ℕ → List ℕ → List ℕ → Result Ways Refusal → Type 0
 ProgramListed cells size program before after r =
     (T : Presentation) → Passed cells size T → (u : Positive) → read_forward size program ≡ answered u
     → Answers (fitted_listing (length before) (listing T u)) before after r

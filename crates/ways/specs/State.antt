@@ -1,6 +1,7 @@
 -- What holds while the words' swaps are tried, one word after the other.
 use mathlib.Core.List.{List, [], ◌∷◌, ◌++◌, Memᴰ}
 use Rattle.std.specs.Prelude.{cond, ◌⊎◌, ◌≡◌, ℕ, suc, ◌+◌, ◌<◌, eqb, length, take, drop, get_or}
+use Rattle.std.specs.Prelude.{Option as OptionAnswer, Some, None}
 use Rattle.std.proofs.Math.Option.{Option, none, some}
 use Rattle.model.specs.Word.{Positive}
 use Rattle.model.specs.Presentation.{Presentation}
@@ -10,10 +11,6 @@ use Rattle.model.specs.Ways.{listing, listing_bytes}
 use Rattle.theory.specs.Ways.{Weighed}
 use Rattle.cells.specs.Stands.{Of}
 use Rattle.ways.specs.declared.trying.Held.{Held}
-use Rattle.ways.specs.declared.trying.Fitting.{Fitting}
-use Rattle.ways.specs.declared.trying.Fitting.TheVariants.{One, None}
-use Rattle.ways.specs.declared.trying.Tried.{Tried}
-use Rattle.ways.specs.declared.trying.Tried.TheVariants.{Going, Full}
 use Rattle.ways.specs.Marks.{untried}
 use Rattle.ways.specs.Swap.{new_word, Readable}
 use Rattle.ways.specs.Insert.{old_length}
@@ -70,9 +67,9 @@ pub record Progress {cells : List ℕ} {size : ℕ} (g : Work cells size) (old :
 abbrev pub TooLong : {cells : List ℕ} {size : ℕ} → Work cells size → Type 0
 TooLong g = length g.before < length (listing_bytes (listing g.table g.program))
 
-abbrev pub TriedMeans : {cells : List ℕ} {size : ℕ} → Work cells size → List Positive → (Entry → Type 0) → List ℕ → Tried → Type 0
-TriedMeans g old P area (Going h) = Progress g old P area h
-TriedMeans g old P area Full = TooLong g
+abbrev pub TriedMeans : {cells : List ℕ} {size : ℕ} → Work cells size → List Positive → (Entry → Type 0) → List ℕ → OptionAnswer Held → Type 0
+TriedMeans g old P area (Some h) = Progress g old P area h
+TriedMeans g old P area None = TooLong g
 
 -- the swap is one of the word under trial
 pub record Swaps (area cells : List ℕ) (h : Held) (s : Swap) : Type 0 where
@@ -85,7 +82,7 @@ abbrev pub Works : List ℕ → List ℕ → Held → Type 0
 Works cells area h = (size : ℕ) × (g : Work cells size) × Busy g area h
 
 -- where the new word is joined to the program, it is listed afterwards, or the listing is too long
-abbrev pub AddMeans : List ℕ → List ℕ → Held → Swap → List ℕ → Tried → Type 0
+abbrev pub AddMeans : List ℕ → List ℕ → Held → Swap → List ℕ → OptionAnswer Held → Type 0
 AddMeans cells area h s after r =
     (size : ℕ) (g : Work cells size) (b : Busy g area h) → (e : Entry) → applied g.table g.word e ≡ some (new_word area cells s)
     → TriedMeans g (list_of b) (λ d. d ≡ e) after r
@@ -111,17 +108,17 @@ abbrev pub entry_at : ℕ → ℕ → ℕ → Entry
 entry_at offset a b = record { offset = offset; a = a; b = b }
 
 -- the swap is one of the word under trial and makes this of it; where there is none, nothing can be made
-abbrev pub Makes : List ℕ → List ℕ → Held → Fitting → Option Positive → Type 0
-Makes cells area h (One s) v = Swaps area cells h s × (v ≡ some (new_word area cells s))
+abbrev pub Makes : List ℕ → List ℕ → Held → OptionAnswer Swap → Option Positive → Type 0
+Makes cells area h (Some s) v = Swaps area cells h s × (v ≡ some (new_word area cells s))
 Makes cells area h None v = v ≡ none
 
 -- it makes of the word what the entry at the letter, toward the other, makes of it
-abbrev pub FittingMeans : List ℕ → List ℕ → Held → ℕ → ℕ → Fitting → Type 0
+abbrev pub FittingMeans : List ℕ → List ℕ → Held → ℕ → ℕ → OptionAnswer Swap → Type 0
 FittingMeans cells area h offset b r =
     (size : ℕ) (g : Work cells size) → Busy g area h → InRange size b
     → Makes cells area h r (applied g.table g.word (entry_at offset (get_or area (h.word + offset) 0) b))
 
-abbrev pub LetterMeans : List ℕ → List ℕ → Held → ℕ → ℕ → List ℕ → Tried → Type 0
+abbrev pub LetterMeans : List ℕ → List ℕ → Held → ℕ → ℕ → List ℕ → OptionAnswer Held → Type 0
 LetterMeans cells area h offset b after r =
     (size : ℕ) (g : Work cells size) (t : Busy g area h) → InRange size b → TriedMeans g (list_of t) (Toward offset b) after r
 
@@ -137,5 +134,5 @@ abbrev pub Any : Entry → Type 0
 Any e = Unit {0}
 
 -- such entries were tried
-abbrev pub TrialMeans : List ℕ → ℕ → List ℕ → Held → (Entry → Type 0) → List ℕ → Tried → Type 0
+abbrev pub TrialMeans : List ℕ → ℕ → List ℕ → Held → (Entry → Type 0) → List ℕ → OptionAnswer Held → Type 0
 TrialMeans cells size area h P after r = (g : Work cells size) (t : Busy g area h) → TriedMeans g (list_of t) P after r

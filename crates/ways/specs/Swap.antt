@@ -1,10 +1,10 @@
 -- The word that one swap would make of a word in the area, and how it stands to another.
 use Rattle.std.specs.Prelude.{List, ◌∷◌, ◌++◌, true, false, ◌≡◌, ℕ, ◌+◌, ◌-◌, ◌≤◌, length, take, drop}
+use Rattle.std.specs.declared.cmp.Ordering.{Ordering}
+use Rattle.std.specs.declared.cmp.Ordering.TheVariants.{Less, Equal, Greater}
 use Rattle.model.specs.Word.{Positive}
 use Rattle.model.specs.Ways.{earlier}
 use Rattle.ways.specs.declared.swap.Swap.{Swap}
-use Rattle.ways.specs.declared.swap.Order.{Order}
-use Rattle.ways.specs.declared.swap.Order.TheVariants.{Earlier, Same, Later}
 
 -- the new word's length, and the new word
 abbrev pub new_length : Swap → ℕ
@@ -25,7 +25,7 @@ pub record Readable (area cells : List ℕ) (s : Swap) : Type 0 where
   pub few : s.put ≤ 255
   pub held : s.cell + s.put ≤ length cells
 
-abbrev pub OrderMeans : Positive → Positive → Order → Type 0
-OrderMeans u v Earlier = earlier u v ≡ true
-OrderMeans u v Same = (earlier u v ≡ false) × (earlier v u ≡ false)
-OrderMeans u v Later = earlier v u ≡ true
+abbrev pub OrderMeans : Positive → Positive → Ordering → Type 0
+OrderMeans u v Less = earlier u v ≡ true
+OrderMeans u v Equal = (earlier u v ≡ false) × (earlier v u ≡ false)
+OrderMeans u v Greater = earlier v u ≡ true

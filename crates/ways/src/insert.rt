@@ -5,17 +5,16 @@ ghost use Rattle.ways.specs.Swap.{Readable, new_length, new_word};
 ghost use Rattle.ways.specs.Insert.{Shifted, Put, Apart, Beside, Opened, moved_on};
 
 use crate::marks::UNTRIED;
-use crate::swap::{Swap, new_letter};
+use crate::swap::{NewWord, Swap};
 
 // Moves the bytes from a place up to `used` so many places on, the last one first.
+// Kept (3, 4): (a) the archive wants memcpy and memset alone (specification 1.2), and copy_within wants memmove.
 pub fn shift(area: &mut [u8], at: usize, used: usize, by: usize)
     requires { (at ≤ used) × (used + by ≤ length area.old) }
     ensures { Shifted area.old at used by area.new }
 {
-    let mut end = used;
-    while at < end {
-        area[end - 1 + by] = area[end - 1];
-        end -= 1;
+    for i in (at..used).rev() {
+        area[i + by] = area[i];
     }
 }
 
@@ -24,11 +23,10 @@ pub fn write_word(area: &mut [u8], cells: &[u8], swap: Swap, at: usize)
     requires { Readable area.old cells.now swap × Apart swap at × (at + new_length swap + 1 ≤ length area.old) }
     ensures { Put area.old at (new_word area.old cells.now swap ++ (untried ∷ [])) area.new }
 {
-    let letters = swap.offset + swap.put + swap.rest;
-    let mut i: usize = 0;
-    while i < letters {
-        area[at + i] = new_letter(area, cells, swap, i);
-        i += 1;
+    let letters = swap.letters();
+    for i in 0..letters {
+        let new = NewWord { area, cells, swap };
+        area[at + i] = new.letter(i);
     }
     area[at + letters] = UNTRIED;
 }
@@ -49,16 +47,11 @@ pub fn insert(area: &mut [u8], cells: &[u8], swap: Swap, at: usize, used: usize)
     requires { Readable area.old cells.now swap × Beside swap at used × (used + (new_length swap + 1) ≤ length area.old) }
     ensures { Opened area.old at used (new_word area.old cells.now swap ++ (untried ∷ [])) area.new }
 {
-    let count = swap.offset + swap.put + swap.rest + 1;
+    let count = swap.letters() + 1;
     shift(area, at, used, count);
     let moved = Swap {
         word: moved_on(swap.word, at, count),
-        offset: swap.offset,
-        taken: swap.taken,
-        rest: swap.rest,
-        first: swap.first,
-        cell: swap.cell,
-        put: swap.put,
+        ..swap
     };
     write_word(area, cells, moved, at);
 }

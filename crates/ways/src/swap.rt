@@ -1,6 +1,9 @@
 // A word that one swap would make of a word in the area, read without being written.
-ghost use Rattle.std.specs.Prelude.{◌≡◌, ◌+◌, ◌≤◌, ◌<◌, length, get_or, take, drop};
+ghost use Rattle.std.specs.Prelude.{List, ℕ, ◌≡◌, ◌^◌, ◌<◌, length, get_or};
 ghost use Rattle.ways.specs.Swap.{Readable, new_length, new_word, OrderMeans};
+
+use std::cmp::Ordering;
+use std::marker::Model;
 
 // In the word that begins at `word`, after `offset` letters, `taken` letters give way to `put` others, and `rest` letters follow: the letter
 // `first`, then those of the word in the cell at `cell`.
@@ -15,56 +18,64 @@ pub struct Swap {
     pub put: usize,
 }
 
-// How the new word stands to a listed one.
-#[derive(Clone, Copy)]
-pub enum Order {
-    Earlier,
-    Same,
-    Later,
+impl Swap {
+    // How many letters the new word has.
+    pub(crate) fn letters(self) -> usize
+        requires { new_length self < 2 ^ 64 }
+        ensures { result ≡ new_length self }
+    {
+        self.offset + self.put + self.rest
+    }
 }
 
-// A letter of the new word.
-pub fn new_letter(area: &[u8], cells: &[u8], swap: Swap, i: usize) -> u8
-    requires { Readable area.now cells.now swap × (i < new_length swap) }
-    ensures { result ≡ get_or (new_word area.now cells.now swap) i 0 }
-{
-    let offset = swap.offset;
-    if i < offset {
-        let before = swap.word + i;
-        return area[before];
-    }
-    if i == offset {
-        return swap.first;
-    }
-    let put = swap.put;
-    if i < offset + put {
-        let letter = swap.cell + (i - offset);
-        return cells[letter];
-    }
-    let after = swap.word + swap.taken + (i - put);
-    area[after]
+// The word that a swap makes of a word in the area. What stays of that word is read from the area, and the letters behind `first` from the cells.
+#[derive(Drop)]
+pub struct NewWord<'a> {
+    pub(crate) area: &'a [u8],
+    pub(crate) cells: &'a [u8],
+    pub(crate) swap: Swap,
 }
 
-// The new word against `count` letters of the area.
-pub fn compare(area: &[u8], cells: &[u8], swap: Swap, from: usize, count: usize) -> Order
-    requires { Readable area.now cells.now swap × (from + count ≤ length area.now) }
-    ensures { OrderMeans (new_word area.now cells.now swap) (take count (drop from area.now)) result }
-{
-    let letters = swap.offset + swap.put + swap.rest;
-    let mut i: usize = 0;
-    while i < letters {
-        if i == count {
-            return Order::Same;
+// A clause sees the new word.
+impl<'a> Model for NewWord<'a> {
+    ghost Value = { List ℕ };
+
+    ghost view = { λ n. new_word n.area.now n.cells.now n.swap };
+
+    ghost invariant = { λ n. Readable n.area.now n.cells.now n.swap };
+}
+
+impl NewWord<'_> {
+    // A letter of the new word.
+    pub fn letter(&self, i: usize) -> u8
+        requires { i < length self.now }
+        ensures { result ≡ get_or self.now i 0 }
+    {
+        let swap = self.swap;
+        let offset = swap.offset;
+        if i < offset {
+            return self.area[swap.word + i];
         }
-        let new = new_letter(area, cells, swap, i);
-        let listed = area[from + i];
-        if new < listed {
-            return Order::Earlier;
+        if i == offset {
+            return swap.first;
         }
-        if listed < new {
-            return Order::Later;
+        if i < offset + swap.put {
+            return self.cells[swap.cell + (i - offset)];
         }
-        i += 1;
+        self.area[swap.word + swap.taken + (i - swap.put)]
     }
-    Order::Same
+
+    // The new word against a listed one: by the first letter that differs.
+    pub fn compare(&self, listed: &[u8]) -> Ordering
+        ensures { OrderMeans self.now listed.now result }
+    {
+        for i in 0..self.swap.letters().min(listed.len()) {
+            let new = self.letter(i);
+            let old = listed[i];
+            if new != old {
+                return new.cmp(&old);
+            }
+        }
+        Ordering::Equal
+    }
 }

@@ -4,11 +4,13 @@ use mathlib.Core.List.{List, [], ◌∷◌, ◌++◌}
 use Prim.Native.Nat.{ℕ, ◌+◌, ◌-◌, ◌*◌}
 use native.Mathlib.Omega.{arith}
 use native.Mathlib.Nat.{zero-mul, suc-mul, add-mul}
-use lib.ListN.{length, length-append}
+use lib.ListN.{length, get_or, length-append}
 use Rattle.model.specs.Word.{Positive}
 use Rattle.model.specs.Presentation.{Complement, undefined, complement}
 use Rattle.model.specs.Enumeration.{concat_map}
 use Rattle.model.specs.Bits.{digits}
+use Rattle.cells.specs.Kept.{HoldsPair}
+use Rattle.cells.specs.Layout.{cell_at}
 use Rattle.bits.proofs.Digits.{AreBits, length_digits, digits_are_bits, bits_append}
 use Rattle.images.proofs.RoundTrip.{concat_bits}
 use Rattle.writers.specs.Forms.{letter_as, word_as, pair_as, weight_as, table_as}
@@ -25,7 +27,7 @@ module _ (f : Form) where
       length-append (digits f.lengths (length x)) (concat_map (letter_as f) x)
       ∙ omega (arith, length_digits f.lengths (length x), length_concat (letter_as f) f.letters (λ a. length_digits f.letters (a - (1 - f.low))) x)
 
-  pub pair_length : (x y : Positive) → f.heads + 2 * f.lengths + (length x + length y) * f.letters ≡ length (pair_as f (complement x y))
+  pair_length : (x y : Positive) → f.heads + 2 * f.lengths + (length x + length y) * f.letters ≡ length (pair_as f (complement x y))
   pair_length x y =
       omega (
         arith,
@@ -36,6 +38,18 @@ module _ (f : Form) where
         word_length y,
         add-mul (length x) (length y) f.letters,
       )
+
+  -- .. of the pair that two cells hold
+  pub open_length : (size : ℕ) (cells : List ℕ) (a b : ℕ) (pair : Complement) → HoldsPair size cells a b pair → get_or cells (cell_at a b) 0 ≡ 255
+      → f.opens ≡ length (pair_as f pair)
+  open_length size cells a b undefined h e = sym (length_digits f.opens f.mark)
+  open_length size cells a b (complement x y) h e = absurd (omega (arith, h.there.count, h.there.in_range.short))
+
+  pub words_length : (size : ℕ) (cells : List ℕ) (a b : ℕ) (pair : Complement) → HoldsPair size cells a b pair
+      → (get_or cells (cell_at a b) 0 ≡ 255 → ⊥)
+      → f.heads + 2 * f.lengths + (get_or cells (cell_at a b) 0 + get_or cells (cell_at b a) 0) * f.letters ≡ length (pair_as f pair)
+  words_length size cells a b undefined h d = absurd (d h.there)
+  words_length size cells a b (complement x y) h d = rw (h.there.count, h.back.count) (pair_length x y)
 
   pub table_length : (size : ℕ) (excess : List ℕ) (rows : List (List Complement)) → length excess ≡ size
       → f.sizes + size * f.weights + length (concat_map (concat_map (pair_as f)) rows) ≡ length (table_as f size excess rows)

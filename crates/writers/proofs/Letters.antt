@@ -9,8 +9,7 @@ use borrow.Author.Tests.{ltb-true}
 use lib.Dec.{ltb}
 use lib.ListN.{length, take, get_or, length-append, length-map}
 use lib.Seq.{length-take-le, take-suc, take_all}
-use lib.Arith.{digits_lt}
-use lib.Pow.{pow-add, shl_exact}
+use lib.Pow.{shl_exact}
 use Rattle.model.specs.Word.{forward, back, letter}
 use Rattle.model.specs.Enumeration.{concat_map}
 use Rattle.model.specs.Bits.{digits, pack, letter_width}
@@ -49,14 +48,6 @@ module _ (size width x : ℕ) (of : WidthOf size width) (byte : x < 256) (named 
   shifted : x / 128 * 2 ^ width % 4294967296 ≡ x / 128 * 2 ^ width
   shifted = shl_exact 1 width 32 (omega arith) (omega arith)
 
-  pub signed_fits : value < 2 ^ (1 + width)
-  signed_fits =
-      let n : x % 128 - 1 < 2 ^ letter_width size = letter_fits size (x % 128) of.few (named_positive size x named) (named_small size x named) in
-      let small : x % 128 - 1 < 2 ^ width = rw of.width_is n in
-      let sign : x / 128 < 2 = omega arith in
-      let all : x / 128 * 2 ^ width + (x % 128 - 1) < 2 * 2 ^ width = digits_lt sign small in
-      omega (arith, shifted, pow-add 2 1 width)
-
   pub signed_written : digits (1 + width) value ≡ signed_bits size (letter x)
   signed_written =
       let n : x % 128 - 1 < 2 ^ letter_width size = letter_fits size (x % 128) of.few (named_positive size x named) (named_small size x named) in
@@ -88,10 +79,6 @@ module _ (size width : ℕ) (width_is : width ≡ letter_width size) (plain : Li
       one_letter : (xs : List ℕ) (x : ℕ) → map letter xs ++ (letter x ∷ []) ≡ map letter (xs ++ (x ∷ []))
       one_letter [] x = refl
       one_letter (y ∷ xs) x = ap (λ l. letter y ∷ l) (one_letter xs x)
-
-  pub first_none : [] ≡ first_bits size plain 0
-  unfolding first_bits
-  first_none = refl
 
   pub first_all : (i : ℕ) → length plain ≤ i → digits count_width (length plain) ++ first_bits size plain i ≡ program_bits size plain
   unfolding first_bits program_bits

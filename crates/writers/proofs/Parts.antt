@@ -1,39 +1,44 @@
 -- Cells written out part after part, whatever a pair is written as: the words of a pair, the pairs of a row, the rows of a table.
 use mathlib.Core.Path.{◌≡◌, refl, sym, ap, subst, ◌∙◌}
 use mathlib.Core.List.{List, [], ◌∷◌, ◌++◌, append-nil}
-use Prim.Native.Nat.{ℕ, suc, ◌+◌, ◌-◌, ◌^◌, ◌≤◌, ◌<◌}
+use Prim.Native.Nat.{ℕ, ◌+◌, ◌-◌, ◌^◌, ◌≤◌, ◌<◌}
 use native.Mathlib.Omega.{arith}
 use native.Mathlib.Numerals.{add-one}
-use lib.ListN.{length, get_or, take}
-use lib.Seq.{take-suc, take_all}
+use lib.ListN.{length, get_or, take, drop, length-append, length-drop}
+use Rattle.std.proofs.lemmas.List.{ext_get_or, get_or-take, get_or-drop}
+use lib.Seq.{take-suc, take_all, length-take-le}
 use Rattle.model.specs.Word.{Positive}
 use Rattle.model.specs.Presentation.{Presentation, Complement, undefined, complement}
 use Rattle.model.specs.Outcome.{Outcome}
 use Rattle.model.specs.Images.{weight_width}
 use Rattle.model.specs.Enumeration.{concat_map}
-use Rattle.model.specs.Range.{InRange}
-use Rattle.model.proofs.Lists.{all_at, concat_append}
+use Rattle.model.proofs.Lists.{concat_append}
 use Rattle.cells.specs.Kept.{HoldsPair}
-use Rattle.cells.specs.Layout.{cell_at, weight_at}
+use Rattle.cells.specs.Layout.{Letters, cell_at, cell_length, weight_at}
 use Rattle.cells.specs.Stands.{HoldsWord, HoldsWeights}
-use Rattle.cells.proofs.Rules.{of_some, of_few}
 use Rattle.images.specs.Tables.{HoldsRow, RowsHeld, Loaded}
-use Rattle.writers.specs.Held.{HoldsSomeRow, HoldsSomeTable}
+use Rattle.writers.specs.Held.{HoldsSomePair, HoldsSomeRow, HoldsSomeTable}
 
--- WORDS, of letters that are written by f
+-- WORDS
 
-module _ (size : ℕ) (cells : List ℕ) (cell : ℕ) (x : Positive) (holds : HoldsWord size cells cell x) where
-  pub letter_in : (k : ℕ) → k < length x → InRange size (get_or cells (cell + 1 + k) 0)
-  letter_in k h = subst (InRange size) (sym (holds.letters k h)) (all_at (InRange size) x k 0 holds.in_range.letters h)
+-- one part more of a list, whatever its parts are written as
+pub parts_more : {A : Type 0} (f : A → List ℕ) (xs : List A) (i : ℕ) (d : A) → i < length xs
+    → concat_map f (take i xs) ++ f (get_or xs i d) ≡ concat_map f (take (i + 1) xs)
+parts_more f xs i d h =
+    ap (λ l. concat_map f (take i xs) ++ l) (sym (append-nil (f (get_or xs i d))))
+    ∙ (sym (concat_append f (take i xs) (get_or xs i d ∷ []))
+    ∙ ap (concat_map f) (sym (take-suc xs i d h) ∙ ap (λ k. take k xs) (sym (add-one i))))
 
-  pub letters_more : (f : ℕ → List ℕ) (k : ℕ) → k < length x → concat_map f (take k x) ++ f (get_or cells (cell + 1 + k) 0) ≡ concat_map f (take (k + 1) x)
-  letters_more f k h =
-      ap (λ a. concat_map f (take k x) ++ f a) (holds.letters k h)
-      ∙ (ap (λ l. concat_map f (take k x) ++ l) (sym (append-nil (f (get_or x k 0))))
-      ∙ (sym (concat_append f (take k x) (get_or x k 0 ∷ [])) ∙ ap (concat_map f) (sym (take-suc x k 0 h) ∙ ap (λ k. take k x) (sym (add-one k)))))
-
-  pub letters_all : (f : ℕ → List ℕ) (k : ℕ) → length x ≤ k → concat_map f (take k x) ≡ concat_map f x
-  letters_all f k h = ap (concat_map f) (take_all k x h)
+-- the bytes behind a cell's first, as many as it says, are the word that it holds
+pub letters_held : {size : ℕ} {cells : List ℕ} {cell n : ℕ} {x : Positive} → HoldsWord size cells cell x → n ≡ get_or cells cell 0
+    → cell + cell_length ≤ length cells → take n (drop (cell + 1) cells) ≡ x
+letters_held {cells} {cell} {n} {x} h e inside =
+    let l : length (take n (drop (cell + 1) cells)) ≡ length x =
+    length-take-le n (drop (cell + 1) cells) (omega (arith, h.count, h.in_range.short, length-drop (cell + 1) cells)) ∙ (e ∙ h.count) in
+    ext_get_or 0 (take n (drop (cell + 1) cells)) x l
+    (λ i g.
+    let small : i < n = omega (arith, h.count) in
+    get_or-take n (drop (cell + 1) cells) i 0 small ∙ (get_or-drop (cell + 1) cells i 0 ∙ h.letters i (omega arith)))
 
 -- PAIRS
 
@@ -42,10 +47,6 @@ module _ (size : ℕ) (cells : List ℕ) (a b : ℕ) where
       → (x : Positive) × (y : Positive) × (pair ≡ complement x y) × HoldsWord size cells (cell_at a b) x × HoldsWord size cells (cell_at b a) y
   both_words undefined h d = absurd (d h.there)
   both_words (complement x y) h d = (x, y, refl, h.there, h.back)
-
-  pub open_pair : (pair : Complement) → HoldsPair size cells a b pair → get_or cells (cell_at a b) 0 ≡ 255 → pair ≡ undefined
-  open_pair undefined h e = refl
-  open_pair (complement x y) h e = absurd (omega (arith, h.there.count, h.there.in_range.short))
 
 -- ROWS
 
@@ -60,13 +61,24 @@ module _ (f : Complement → List ℕ) (size : ℕ) (cells : List ℕ) (a : ℕ)
   pub row_more : (b : ℕ) → a < b → b ≤ size → concat_map f (take (b - a - 1) row) ++ f (get_or row (b - a - 1) undefined)
       ≡ concat_map f (take (b + 1 - a - 1) row)
   row_more b low high =
-      let e : suc (b - a - 1) ≡ b + 1 - a - 1 = omega arith in
-      ap (λ l. concat_map f (take (b - a - 1) row) ++ l) (sym (append-nil (f (get_or row (b - a - 1) undefined))))
-      ∙ (sym (concat_append f (take (b - a - 1) row) (get_or row (b - a - 1) undefined ∷ []))
-      ∙ ap (concat_map f) (sym (take-suc row (b - a - 1) undefined (omega arith)) ∙ ap (λ k. take k row) e))
+      let e : b - a - 1 + 1 ≡ b + 1 - a - 1 = omega arith in
+      parts_more f row (b - a - 1) undefined (omega arith) ∙ ap (λ k. concat_map f (take k row)) e
 
-  pub row_all : (b : ℕ) → size < b → concat_map f (take (b - a - 1) row) ≡ concat_map f row
-  row_all b h = ap (concat_map f) (take_all (b - a - 1) row (omega arith))
+  pub row_length : (b : ℕ) → a < b → b ≤ size → length (concat_map f (take (b - a - 1) row)) + length (f (get_or row (b - a - 1) undefined))
+      ≡ length (concat_map f (take (b + 1 - a - 1) row))
+  row_length b low high =
+      sym (length-append (concat_map f (take (b - a - 1) row)) (f (get_or row (b - a - 1) undefined))) ∙ ap length (row_more b low high)
+
+-- the pairs of a row that the cells hold
+pub row_pairs : {size : ℕ} {cells : List ℕ} {a : ℕ} → HoldsSomeRow size cells a → (b : ℕ) → a < b → b ≤ size
+    → HoldsSomePair size cells a b × Letters a b
+row_pairs {size} {cells} {a} w b low high = (
+  record { pair = get_or w.row (b - a - 1) undefined; holds = row_pair size cells a w.row w.holds w.row_length b low high },
+  (
+    record { low = w.positive; high = omega (arith, w.below, w.few) },
+    record { low = omega (arith, w.positive); high = omega (arith, w.few) },
+  ),
+)
 
 -- TABLES
 
@@ -79,9 +91,9 @@ module _ (size : ℕ) (cells : List ℕ) (rows : List (List Complement)) (listed
   pub table_width : (a : ℕ) → 1 ≤ a → a ≤ size → length (get_or rows (a - 1) []) + a ≡ size
   table_width a low high = omega (arith, listed.widths (a - 1) (omega (arith, listed.many)))
 
--- .. of a table that the cells hold
-pub some_row : (size : ℕ) (cells : List ℕ) → HoldsSomeTable size cells → (a : ℕ) → 1 ≤ a → a ≤ size → HoldsSomeRow size cells a
-some_row size cells t a low high =
+-- the rows of a table that the cells hold
+pub table_rows : {size : ℕ} {cells : List ℕ} → HoldsSomeTable size cells → (a : ℕ) → 1 ≤ a → a ≤ size → HoldsSomeRow size cells a
+table_rows {size} {cells} t a low high =
     record {
       positive = low;
       below = high;
@@ -95,13 +107,16 @@ module _ (f : Complement → List ℕ) (size : ℕ) (cells : List ℕ) (rows : L
   pub table_more : (a : ℕ) → 1 ≤ a → a ≤ size
       → concat_map (concat_map f) (take (a - 1) rows) ++ concat_map f (get_or rows (a - 1) []) ≡ concat_map (concat_map f) (take (a + 1 - 1) rows)
   table_more a low high =
-      let e : suc (a - 1) ≡ a + 1 - 1 = omega arith in
-      ap (λ l. concat_map (concat_map f) (take (a - 1) rows) ++ l) (sym (append-nil (concat_map f (get_or rows (a - 1) []))))
-      ∙ (sym (concat_append (concat_map f) (take (a - 1) rows) (get_or rows (a - 1) [] ∷ []))
-      ∙ ap (concat_map (concat_map f)) (sym (take-suc rows (a - 1) [] (omega (arith, listed.many))) ∙ ap (λ k. take k rows) e))
+      let e : a - 1 + 1 ≡ a + 1 - 1 = omega arith in
+      parts_more (concat_map f) rows (a - 1) [] (omega (arith, listed.many)) ∙ ap (λ k. concat_map (concat_map f) (take k rows)) e
 
   pub table_all : (a : ℕ) → size < a → concat_map (concat_map f) (take (a - 1) rows) ≡ concat_map (concat_map f) rows
   table_all a h = ap (concat_map (concat_map f)) (take_all (a - 1) rows (omega (arith, listed.many)))
+
+  pub rows_length : (a : ℕ) → 1 ≤ a → a ≤ size → length (concat_map (concat_map f) (take (a - 1) rows)) + length (concat_map f (get_or rows (a - 1) []))
+      ≡ length (concat_map (concat_map f) (take (a + 1 - 1) rows))
+  rows_length a low high =
+      sym (length-append (concat_map (concat_map f) (take (a - 1) rows)) (concat_map f (get_or rows (a - 1) []))) ∙ ap length (table_more a low high)
 
 -- WEIGHTS, of letters that are written by f
 
@@ -117,26 +132,10 @@ module _ (size : ℕ) (cells excess : List ℕ) (h : HoldsWeights size cells exc
   pub weight_more : (f : ℕ → List ℕ) (a : ℕ) → 1 ≤ a → a ≤ size → concat_map f (take (a - 1) excess) ++ f (get_or cells (weight_at a) 0) ≡ concat_map f
       (take (a + 1 - 1) excess)
   weight_more f a low high =
-      let e : suc (a - 1) ≡ a + 1 - 1 = omega arith in
+      let e : a - 1 + 1 ≡ a + 1 - 1 = omega arith in
       ap (λ v. concat_map f (take (a - 1) excess) ++ f v) (weight_there a low high)
-      ∙ (ap (λ l. concat_map f (take (a - 1) excess) ++ l) (sym (append-nil (f (get_or excess (a - 1) 0))))
-      ∙ (sym (concat_append f (take (a - 1) excess) (get_or excess (a - 1) 0 ∷ []))
-      ∙ ap (concat_map f) (sym (take-suc excess (a - 1) 0 (omega (arith, h.many))) ∙ ap (λ k. take k excess) e)))
-
-  pub weights_all : (f : ℕ → List ℕ) (a : ℕ) → size < a → concat_map f (take (a - 1) excess) ≡ concat_map f excess
-  weights_all f a g = ap (concat_map f) (take_all (a - 1) excess (omega (arith, h.many)))
+      ∙ (parts_more f excess (a - 1) 0 (omega (arith, h.many)) ∙ ap (λ k. concat_map f (take k excess)) e)
 
 -- what a loaded table holds, to be written out
 pub loaded_weights : {o : Outcome Presentation} {cells : List ℕ} {size : ℕ} (t : Loaded o cells size) → HoldsWeights size cells t.table.excess
 loaded_weights {cells} t = subst (λ n. HoldsWeights n cells t.table.excess) t.of.sized t.of.stands.weights
-
-pub loaded_table : {o : Outcome Presentation} {cells : List ℕ} {size : ℕ} → Loaded o cells size → HoldsSomeTable size cells
-loaded_table t =
-    record {
-      some = of_some t.of;
-      few = of_few t.of;
-      excess = t.table.excess;
-      weights = loaded_weights t;
-      rows = t.table.rows;
-      listed = t.listed;
-    }

@@ -13,29 +13,10 @@ use Rattle.model.specs.Plain.{plain_word, plain_pair, plain_table}
 use Rattle.model.specs.Range.{All, AreBytes, InRange, WordInRange, PairInRange, Rows, TableInRange}
 use Rattle.bits.proofs.Bytes.{bits_of_append, bits_are_bits}
 use Rattle.bits.proofs.Packing.{packed_of}
-use Rattle.bits.proofs.Width.{letter_fits, width_small}
 use Rattle.images.specs.Forms.{image_form, plain_form}
-use Rattle.writers.specs.Forms.{letter_as, pair_as, weight_as, table_as, FormFor}
+use Rattle.writers.specs.Forms.{letter_as, pair_as, weight_as, table_as}
 
 -- THE IMAGE
-
-pub image_fits : (size : ℕ) → 1 ≤ size → size ≤ most_size → FormFor size (image_form size)
-image_fits size some few =
-    record {
-      sizes_narrow = omega arith;
-      weights_narrow = omega arith;
-      opens_narrow = omega arith;
-      heads_narrow = omega arith;
-      lengths_narrow = omega arith;
-      letters_narrow = omega (arith, width_small size);
-      low_small = omega arith;
-      size_fits = omega arith;
-      weight_fits = λ e h. omega arith;
-      mark_fits = omega arith;
-      head_fits = omega arith;
-      length_fits = omega arith;
-      letter_fits = λ a r. letter_fits size a few r.low r.high;
-    }
 
 -- parts that are written alike
 concat_same : {A : Type 0} (f g : A → List ℕ) → ((x : A) → f x ≡ g x) → (xs : List A) → concat_map f xs ≡ concat_map g xs
@@ -58,24 +39,6 @@ image_bits T size e =
     ∙ ap (λ n. pack (digits size_width (n - 1) ++ (concat_map (digits weight_width) T.excess ++ concat_map (concat_map (pair_bits n)) T.rows))) (sym e)
 
 -- THE PLAIN FORM
-
-pub plain_fits : (size : ℕ) → size ≤ most_size → FormFor size plain_form
-plain_fits size few =
-    record {
-      sizes_narrow = omega arith;
-      weights_narrow = omega arith;
-      opens_narrow = omega arith;
-      heads_narrow = omega arith;
-      lengths_narrow = omega arith;
-      letters_narrow = omega arith;
-      low_small = omega arith;
-      size_fits = omega arith;
-      weight_fits = λ e h. omega arith;
-      mark_fits = omega arith;
-      head_fits = omega arith;
-      length_fits = omega arith;
-      letter_fits = λ a r. omega (arith, r.high);
-    }
 
 -- the bits of bytes that are written part after part
 bits_of_concat : {A : Type 0} (f : A → List ℕ) (g : A → List ℕ) → ((x : A) → f x ≡ bits_of (g x)) → (xs : List A) → concat_map f xs ≡ bits_of (concat_map g xs)

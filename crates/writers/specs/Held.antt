@@ -1,4 +1,4 @@
--- What cells hold when they are written out, bit by bit or byte by byte: something, under a table of so many letters.
+-- What cells hold when they are written out: something, under a table of so many letters.
 use Rattle.std.specs.Prelude.{List, ◌≡◌, ℕ, ◌+◌, ◌≤◌, length}
 use Rattle.model.specs.Word.{Positive}
 use Rattle.model.specs.Presentation.{Complement}

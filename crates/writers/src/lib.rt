@@ -4,4 +4,5 @@
 pub mod bit_writer;
 pub mod measuring;
 pub mod programs;
+pub mod source;
 pub mod tables;

@@ -12,4 +12,4 @@ returns c =
     then (c.put_word_line-after_program.ensures
     then (c.put_numbers_line-after_numerator.ensures
     then (c.put_numbers_line-after_denominator.ensures
-    then c.put_number_line-after_steps.ensures))))
+    then c.put_number_line.ensures))))

@@ -270,6 +270,10 @@ fn sets(book: &mut Book) {
         book.add("6.18", &format!("{moves} commuting moves"), signed(&commuting(moves)), 3_000, 0);
         book.add("6.18", &format!("1 2 = 2 3 = .. = {moves} 1"), signed(&cyclic(moves)), 3_000, 0);
     }
+    // 1 2 1 1 2 1 1 2 = 2 1 1 1 2 1 2 1.
+    let long = Table::light(2, vec![Some((vec![2, 1, 1, 2, 1, 1, 2], vec![1, 1, 1, 2, 1, 2, 1]))]);
+    let inputs = Inputs { allowance: 16_000, ..Inputs::new(&long, &[], &[], &[]) };
+    book.add("6.18", "a set with words of more than 128 moves, some as long as one another", inputs.call("compare_signed"), 4_000, 0);
 }
 
 /// Tables with a mirror and without one, drawn.
