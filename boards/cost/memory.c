@@ -41,9 +41,13 @@ void *memcpy(void *place, const void *source, size_t count)
 /* The names and the order of parameters that Arm's interface for bare processors has. */
 void __aeabi_memset(void *place, size_t count, int byte);
 void __aeabi_memset4(void *place, size_t count, int byte);
+void __aeabi_memset8(void *place, size_t count, int byte);
 void __aeabi_memclr(void *place, size_t count);
 void __aeabi_memclr4(void *place, size_t count);
+void __aeabi_memclr8(void *place, size_t count);
 void __aeabi_memcpy(void *place, const void *source, size_t count);
+void __aeabi_memcpy4(void *place, const void *source, size_t count);
+void __aeabi_memcpy8(void *place, const void *source, size_t count);
 
 void __aeabi_memset(void *place, size_t count, int byte)
 {
@@ -51,6 +55,11 @@ void __aeabi_memset(void *place, size_t count, int byte)
 }
 
 void __aeabi_memset4(void *place, size_t count, int byte)
+{
+    memset(place, byte, count);
+}
+
+void __aeabi_memset8(void *place, size_t count, int byte)
 {
     memset(place, byte, count);
 }
@@ -65,7 +74,22 @@ void __aeabi_memclr4(void *place, size_t count)
     memset(place, 0, count);
 }
 
+void __aeabi_memclr8(void *place, size_t count)
+{
+    memset(place, 0, count);
+}
+
 void __aeabi_memcpy(void *place, const void *source, size_t count)
+{
+    memcpy(place, source, count);
+}
+
+void __aeabi_memcpy4(void *place, const void *source, size_t count)
+{
+    memcpy(place, source, count);
+}
+
+void __aeabi_memcpy8(void *place, const void *source, size_t count)
 {
     memcpy(place, source, count);
 }
