@@ -17,7 +17,7 @@
     for (i = 1; i <= count; i++) if (part[i] ~ /^(i1|i8|i16|i32) / && part[i] !~ /^i[0-9]+ zeroext /) print name ": parameter " i " has no zeroext"
 }
 / call .*@braid_[a-z_]*\(/ { print "line " FNR ": a call from within the module" }
-!same && (/ (alloca|load|store|getelementptr( inbounds| nuw| nusw)*) ([{[][^]%}]*)?ptr[ ,\]}]/ && !/ (load|store) ptr[ ,]/) {
+!same && / (alloca|load|store|getelementptr( inbounds| nuw| nusw)*) ([{[][^]%}]*)?ptr([] ,}]|$)/ && !/ (load|store) ptr[ ,]/ {
     print "line " FNR ": a pointer in memory that is laid out by the target"
 }
 END { print calls + 0 }
