@@ -38,28 +38,18 @@ void *memcpy(void *place, const void *source, size_t count)
 
 #if defined(__arm__)
 
-/* The names and the order of parameters that Arm's interface for bare processors has. */
+/* The names and the order of parameters that Arm's interface for bare processors has. A name with 4 or 8 is of a place that is aligned so. */
 void __aeabi_memset(void *place, size_t count, int byte);
-void __aeabi_memset4(void *place, size_t count, int byte);
-void __aeabi_memset8(void *place, size_t count, int byte);
+void __aeabi_memset4(void *place, size_t count, int byte) __attribute__((alias("__aeabi_memset")));
+void __aeabi_memset8(void *place, size_t count, int byte) __attribute__((alias("__aeabi_memset")));
 void __aeabi_memclr(void *place, size_t count);
-void __aeabi_memclr4(void *place, size_t count);
-void __aeabi_memclr8(void *place, size_t count);
+void __aeabi_memclr4(void *place, size_t count) __attribute__((alias("__aeabi_memclr")));
+void __aeabi_memclr8(void *place, size_t count) __attribute__((alias("__aeabi_memclr")));
 void __aeabi_memcpy(void *place, const void *source, size_t count);
-void __aeabi_memcpy4(void *place, const void *source, size_t count);
-void __aeabi_memcpy8(void *place, const void *source, size_t count);
+void __aeabi_memcpy4(void *place, const void *source, size_t count) __attribute__((alias("__aeabi_memcpy")));
+void __aeabi_memcpy8(void *place, const void *source, size_t count) __attribute__((alias("__aeabi_memcpy")));
 
 void __aeabi_memset(void *place, size_t count, int byte)
-{
-    memset(place, byte, count);
-}
-
-void __aeabi_memset4(void *place, size_t count, int byte)
-{
-    memset(place, byte, count);
-}
-
-void __aeabi_memset8(void *place, size_t count, int byte)
 {
     memset(place, byte, count);
 }
@@ -69,27 +59,7 @@ void __aeabi_memclr(void *place, size_t count)
     memset(place, 0, count);
 }
 
-void __aeabi_memclr4(void *place, size_t count)
-{
-    memset(place, 0, count);
-}
-
-void __aeabi_memclr8(void *place, size_t count)
-{
-    memset(place, 0, count);
-}
-
 void __aeabi_memcpy(void *place, const void *source, size_t count)
-{
-    memcpy(place, source, count);
-}
-
-void __aeabi_memcpy4(void *place, const void *source, size_t count)
-{
-    memcpy(place, source, count);
-}
-
-void __aeabi_memcpy8(void *place, const void *source, size_t count)
 {
     memcpy(place, source, count);
 }
